@@ -111,6 +111,54 @@ stop_status (stop.Fault server.Read) = 3
 stop_status (stop.Fault server.Write) = 3
 stop_status (stop.Fault server.OutOfMemory) = 1
 
+-- what the line begins with
+abbrev pub area_of : CommandFault → List ℕ
+area_of NoSuchCommand = codes "usage: "
+area_of (BadNumber word) = codes "usage: bad number "
+area_of (Geometry fault) = codes "refused geometry "
+area_of Capacity = codes "refused geometry "
+area_of WrongLength = codes "refused image "
+area_of RowRange = codes "refused image "
+area_of OutOfMemory = codes "refused image "
+area_of (Sector fault) = codes "refused sector "
+area_of (Die fault) = codes "refused die "
+area_of (Format fault) = codes "refused format "
+area_of (Certificate fault) = codes "refused certificate "
+area_of (Check refused) = codes "refused check "
+area_of (Mount refused) = codes "refused mount "
+area_of Start = codes "refused start "
+area_of (Serve stopped) = stop_words stopped
+area_of (ServeUnstored stopped path) = stop_words stopped
+area_of SpareSize = codes "refused migrate "
+area_of (Migrate refused) = codes "refused migrate "
+area_of (MigrateUnstored refused path) = codes "refused migrate "
+area_of (Read path) = codes "fault read "
+area_of (Write path) = codes "fault write "
+
+-- what is said behind that
+abbrev pub rest_of : CommandFault → List ℕ
+rest_of NoSuchCommand = codes "no such command"
+rest_of (BadNumber word) = word.now
+rest_of (Geometry fault) = geometry_words fault
+rest_of Capacity = codes "6 Capacity"
+rest_of WrongLength = codes "1 WrongLength"
+rest_of RowRange = codes "2 RowRange"
+rest_of OutOfMemory = codes "3 OutOfMemory"
+rest_of (Sector fault) = sector_words fault
+rest_of (Die fault) = die_words fault
+rest_of (Format fault) = format_words fault
+rest_of (Certificate fault) = certificate_words fault
+rest_of (Check refused) = refusal_words refused
+rest_of (Mount refused) = refusal_words refused
+rest_of Start = codes "1 OutOfMemory"
+rest_of (Serve stopped) = []
+rest_of (ServeUnstored stopped path) = 10 ∷ (codes "fault write " ++ path.now)
+rest_of SpareSize = codes "8 SpareSize"
+rest_of (Migrate refused) = device_words refused
+rest_of (MigrateUnstored refused path) = device_words refused ++ (10 ∷ (codes "fault write " ++ path.now))
+rest_of (Read path) = path.now
+rest_of (Write path) = path.now
+
 -- the line, without its line feed; of two things that failed two lines
 abbrev pub line_of : CommandFault → List ℕ
 line_of NoSuchCommand = codes "usage: no such command"

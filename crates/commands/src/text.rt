@@ -1,7 +1,7 @@
 //! What the program says when a command ends before it is done: one line, or two where two things failed, and the exit status.
 ghost use Rattle.std.specs.Prelude.{◌≡◌, ◌++◌};
 ghost use Rattle.commands.specs.Said.{said_bytes};
-ghost use Rattle.commands.specs.Text.{IsCommandFaultTold, line_of, stop_words};
+ghost use Rattle.commands.specs.Text.{IsCommandFaultTold, area_of, line_of, rest_of, stop_words};
 
 use crate::said::{self, Said, send_said};
 use certificate::CertFault;
@@ -128,37 +128,66 @@ fn stop_text<'a>(stop: ServeStop) -> &'a str
     }
 }
 
+// What the line of a fault begins with.
+fn area<'a>(fault: &CommandFault<'a>) -> &'a str
+    ensures { result.now ≡ area_of fault.now }
+{
+    match *fault {
+        CommandFault::NoSuchCommand => "usage: ",
+        CommandFault::BadNumber(_) => "usage: bad number ",
+        CommandFault::Geometry(_) | CommandFault::Capacity => "refused geometry ",
+        CommandFault::WrongLength | CommandFault::RowRange | CommandFault::OutOfMemory => {
+            "refused image "
+        }
+        CommandFault::Sector(_) => "refused sector ",
+        CommandFault::Die(_) => "refused die ",
+        CommandFault::Format(_) => "refused format ",
+        CommandFault::Certificate(_) => "refused certificate ",
+        CommandFault::Check(_) => "refused check ",
+        CommandFault::Mount(_) => "refused mount ",
+        CommandFault::Start => "refused start ",
+        CommandFault::Serve(stop) | CommandFault::ServeUnstored(stop, _) => stop_text(stop),
+        CommandFault::SpareSize | CommandFault::Migrate(_) | CommandFault::MigrateUnstored(..) => {
+            "refused migrate "
+        }
+        CommandFault::Read(_) => "fault read ",
+        CommandFault::Write(_) => "fault write ",
+    }
+}
+
+// What is said behind that.
+fn said_of<'a>(fault: &CommandFault<'a>) -> Said<'a>
+    ensures { said_bytes result ≡ rest_of fault.now }
+{
+    match *fault {
+        CommandFault::NoSuchCommand => Said::Text("no such command"),
+        CommandFault::Geometry(broken) => said::of_geometry(broken),
+        CommandFault::Capacity => Said::Text("6 Capacity"),
+        CommandFault::WrongLength => Said::Text("1 WrongLength"),
+        CommandFault::RowRange => Said::Text("2 RowRange"),
+        CommandFault::OutOfMemory => Said::Text("3 OutOfMemory"),
+        CommandFault::Sector(refused) => said::of_sector(refused),
+        CommandFault::Die(refused) => said::of_die(refused),
+        CommandFault::Format(refused) => said::of_format(refused),
+        CommandFault::Certificate(broken) => said::of_certificate(broken),
+        CommandFault::Check(refusal) | CommandFault::Mount(refusal) => said::of_refusal(refusal),
+        CommandFault::Start => Said::Text("1 OutOfMemory"),
+        CommandFault::Serve(_) => Said::Text(""),
+        CommandFault::ServeUnstored(_, path) => Said::Texts("\nfault write ", path),
+        CommandFault::SpareSize => Said::Text("8 SpareSize"),
+        CommandFault::Migrate(refused) => Said::Device(refused),
+        CommandFault::MigrateUnstored(refused, path) => Said::DeviceUnstored(refused, path),
+        CommandFault::BadNumber(text) | CommandFault::Read(text) | CommandFault::Write(text) => {
+            Said::Text(text)
+        }
+    }
+}
+
 // The line of a fault: its area, and what is said behind it.
 fn line<'a>(fault: &CommandFault<'a>) -> (&'a str, Said<'a>)
     ensures { result.0.now ++ said_bytes result.1 ≡ line_of fault.now }
 {
-    match *fault {
-        CommandFault::NoSuchCommand => ("usage: ", Said::Text("no such command")),
-        CommandFault::BadNumber(word) => ("usage: bad number ", Said::Text(word)),
-        CommandFault::Geometry(broken) => ("refused geometry ", said::of_geometry(broken)),
-        CommandFault::Capacity => ("refused geometry ", Said::Text("6 Capacity")),
-        CommandFault::WrongLength => ("refused image ", Said::Text("1 WrongLength")),
-        CommandFault::RowRange => ("refused image ", Said::Text("2 RowRange")),
-        CommandFault::OutOfMemory => ("refused image ", Said::Text("3 OutOfMemory")),
-        CommandFault::Sector(refused) => ("refused sector ", said::of_sector(refused)),
-        CommandFault::Die(refused) => ("refused die ", said::of_die(refused)),
-        CommandFault::Format(refused) => ("refused format ", said::of_format(refused)),
-        CommandFault::Certificate(broken) => ("refused certificate ", said::of_certificate(broken)),
-        CommandFault::Check(refusal) => ("refused check ", said::of_refusal(refusal)),
-        CommandFault::Mount(refusal) => ("refused mount ", said::of_refusal(refusal)),
-        CommandFault::Start => ("refused start ", Said::Text("1 OutOfMemory")),
-        CommandFault::Serve(stop) => ("", Said::Text(stop_text(stop))),
-        CommandFault::ServeUnstored(stop, path) => {
-            (stop_text(stop), Said::Texts("\nfault write ", path))
-        }
-        CommandFault::SpareSize => ("refused migrate ", Said::Text("8 SpareSize")),
-        CommandFault::Migrate(refused) => ("refused migrate ", Said::Device(refused)),
-        CommandFault::MigrateUnstored(refused, path) => {
-            ("refused migrate ", Said::DeviceUnstored(refused, path))
-        }
-        CommandFault::Read(path) => ("fault read ", Said::Text(path)),
-        CommandFault::Write(path) => ("fault write ", Said::Text(path)),
-    }
+    (area(fault), said_of(fault))
 }
 
 /// Writes the fault's line to `err`, with a line feed, and answers its exit status; of a store that failed after another refusal two

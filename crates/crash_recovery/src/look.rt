@@ -173,6 +173,32 @@ fn none_is_marked<S: Store>(
     Ok(true)
 }
 
+// The page from which a torn block is to be cut, or as many pages as a block has where it isn't.
+fn cut_of_torn<S: Store>(
+    store: &mut S,
+    geometry: &Geometry,
+    mark: u64,
+    block: u32,
+    page: &mut [u8],
+) -> Result<u32, StoreFault>
+    requires geometry { (S.held store.old).geometry ≡ geometry.now }
+    requires images { S.honest store.old ≡ true → length (S.held store.old).pages ≡ row_count geometry.now }
+    requires in_range { block < geometry.now.blocks }
+    requires room { length page.old ≡ page_bytes geometry.now }
+    ensures most { IfOk result (λ from. from ≤ geometry.now.pages) }
+    ensures finds { IfOk result (λ from. S.honest store.old ≡ true → IsTorn geometry.now (S.held store.old).pages block →
+        FindsCut geometry.now (S.held store.old).pages mark block from) }
+    ensures looks { OnlyLooks S.held S.honest store.old store.new }
+    ensures settled { OnOk result (S.failed store.new ≡ S.failed store.old) }
+    ensures rose { OnErr result (HasRisen (S.failed store.old) (S.failed store.new)) }
+{
+    let from = sound_run(store, geometry, block, page)?;
+    if !none_is_marked(store, geometry, mark, block, from, page)? {
+        return Ok(geometry.pages());
+    }
+    Ok(from)
+}
+
 // The page from which a block is to be cut, or as many pages as a block has where it isn't.
 fn cut_of<S: Store>(
     store: &mut S,
@@ -198,11 +224,7 @@ fn cut_of<S: Store>(
     if !is_torn(store, geometry, certificate, block, page)? {
         return Ok(geometry.pages());
     }
-    let from = sound_run(store, geometry, block, page)?;
-    if !none_is_marked(store, geometry, mark, block, from, page)? {
-        return Ok(geometry.pages());
-    }
-    Ok(from)
+    cut_of_torn(store, geometry, mark, block, page)
 }
 
 /// Finds for each block the page from which it is to be cut; as many pages as a block has where it isn't. The store is looked at alone.

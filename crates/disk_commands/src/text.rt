@@ -22,7 +22,7 @@ const USAGE: u8 = 2;
 const IO: u8 = 3;
 
 /// Why a command was not done. Each is one line; of the paths those that were given. (This project's.)
-#[derive(Clone, Copy, Debug)]
+#[derive(Clone, Copy)]
 pub enum DiskCommandFault<'a> {
     /// The words are no command that the program has.
     NoSuchCommand,
@@ -70,6 +70,13 @@ pub enum DiskCommandFault<'a> {
     Stream,
     /// The die failed while it was served: what was answered without an error stands.
     Device(&'a str),
+}
+
+/// The same line.
+impl fmt::Debug for DiskCommandFault<'_> {
+    fn fmt<W: fmt::Write>(&self, f: &mut fmt::Formatter<W>) -> fmt::Result {
+        fmt::Display::fmt(self, f)
+    }
 }
 
 impl Error for DiskCommandFault<'_> {}

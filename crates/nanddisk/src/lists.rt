@@ -1,22 +1,21 @@
 //! The list of a disk's lost sectors, in a file beside the disk.
 ghost use Rattle.std.specs.Prelude.{◌≡◌, []};
 
+use crate::names::FileNames;
+use crate::part::put_all;
 use disk_damage::write_list;
 use disk_server::KeepsLost;
 use nbd_stream::DiskFault;
 use part_files::{System, discard, new_part, publish_over};
 use std::alloc::Global;
 use std::fs::File;
-use std::io::Write;
 use std::rt::Files;
 
-/// The names of the file of a list and of the one that tells the disk's shape, and those of their parts.
+/// The names of the file of a list and of the one that tells the disk's shape.
 #[derive(Drop)]
 pub struct ListNames {
-    pub list: String,
-    pub list_part: String,
-    pub beside: String,
-    pub beside_part: String,
+    pub list: FileNames,
+    pub beside: FileNames,
 }
 
 /// The place of a list: a handle of the die, whose file is synced before the list is kept, and what the file beside the disk is to say from the first list on.
@@ -60,24 +59,14 @@ impl<'a, R: Files<File = File>> FileLists<'a, R> {
         ensures failed { self.new.failed ≡ self.old.failed }
     {
         if self.system.first.noting(self.die.sync_data()).is_err()
-            || !replaced(
-                &self.system,
-                self.names.list_part.as_str(),
-                self.names.list.as_str(),
-                text,
-            )
+            || !replaced(&self.system, &self.names.list, text)
         {
             return false;
         }
         if self.beside.is_empty() {
             return true;
         }
-        let told = replaced(
-            &self.system,
-            self.names.beside_part.as_str(),
-            self.names.beside.as_str(),
-            &self.beside,
-        );
+        let told = replaced(&self.system, &self.names.beside, &self.beside);
         if told {
             self.beside = Vec::new(self.alloc);
         }
@@ -88,20 +77,19 @@ impl<'a, R: Files<File = File>> FileLists<'a, R> {
 // Writes bytes to a part, has them stored, and puts the part in the place of a file. Answers whether that was done: else the file is as it was.
 fn replaced<R: Files<File = File>>(
     system: &System<'_, R>,
-    part: &str,
-    path: &str,
+    names: &FileNames,
     bytes: &[u8],
 ) -> bool {
-    let mut names = system.names();
-    let Ok(mut file) = new_part(&mut names, part) else {
+    let part = names.part.as_str();
+    let mut folder = system.names();
+    let Ok(mut file) = new_part(&mut folder, part) else {
         return false;
     };
-    let stored = system.first.noting(file.write_all(bytes)).is_ok()
-        && system.first.noting(file.sync_all()).is_ok();
-    if stored && publish_over(&mut names, part, path).is_ok() {
+    let stored = system.first.noting(put_all(&mut file, bytes)).is_ok();
+    if stored && publish_over(&mut folder, part, names.file.as_str()).is_ok() {
         return true;
     }
-    discard(&mut names, part);
+    discard(&mut folder, part);
     false
 }
 

@@ -7,6 +7,7 @@ mod die;
 mod fault;
 mod lists;
 mod lock;
+mod names;
 mod noted_file;
 mod part;
 mod system;

@@ -75,8 +75,8 @@ pub fn put_dump<'a, R: Files<File = File>>(
     }
 }
 
-// Writes bytes, and has them stored.
-fn put_all(file: &mut File, bytes: &[u8]) -> io::Result<()> {
+/// Writes bytes, and has them stored.
+pub fn put_all(file: &mut File, bytes: &[u8]) -> io::Result<()> {
     file.write_all(bytes)?;
     file.sync_all()
 }

@@ -6,6 +6,7 @@ use crate::die::{DieStore, as_long, second_handle, store_in, store_over};
 use crate::fault::{unmade, unread, unseen, unwritten};
 use crate::lists::{FileLists, ListNames};
 use crate::lock::{LockedFile, lock_die};
+use crate::names::{DieNames, FileNames, LIST, MARK, SHAPE, die_names, name_beside, names_beside};
 use crate::noted_file::NotedFile;
 use crate::part::{copy_file, is_taken, new_die, open_dump, publish, put_dump};
 use disk_commands::{
@@ -13,14 +14,11 @@ use disk_commands::{
     dump_bytes, put_blank,
 };
 use file_die::erase_all;
-use part_files::{FirstError, Names, Pair, System, discard, new_part, part_name, publish_new};
-use std::alloc::{AllocError, Global};
+use part_files::{FirstError, Names, System, discard, new_part, publish_new};
+use std::alloc::Global;
 use std::fs::{self, File, OpenOptions};
 use std::io::{self, ErrorKind, Read};
 use std::rt::{Clock, Files};
-
-// The word of this program in the names of its parts.
-const PROGRAM: &str = "nanddisk";
 
 // The most bytes of the file that tells a shape.
 const MOST_BYTES: u64 = 65_536;
@@ -31,49 +29,6 @@ pub struct SystemFiles<'a, R> {
     system: System<'a, R>,
     // the part that is being made, which is locked as long as it is here
     part: Option<File>,
-}
-
-// The names that go with a path.
-#[derive(Drop)]
-struct PathNames {
-    part: String,
-    beside: String,
-    beside_part: String,
-    mark: String,
-    mark_part: String,
-}
-
-// The same, together with the path.
-fn pair_of<'a>(path: &'a str, names: &'a PathNames) -> Pair<'a> {
-    Pair {
-        part: names.part.as_str(),
-        path,
-        beside_part: names.beside_part.as_str(),
-        beside: names.beside.as_str(),
-    }
-}
-
-// The names that go with a path.
-fn path_names(alloc: Global, path: &str) -> Result<PathNames, DiskFileFault> {
-    match try_path_names(alloc, path) {
-        Ok(names) => Ok(names),
-        Err(_) => Err(DiskFileFault::OutOfMemory),
-    }
-}
-
-fn try_path_names(alloc: Global, path: &str) -> Result<PathNames, AllocError> {
-    let part = part_name(alloc, path, PROGRAM)?;
-    let beside = format!(in alloc; "{path}.json")?;
-    let beside_part = part_name(alloc, beside.as_str(), PROGRAM)?;
-    let mark = format!(in alloc; "{path}.mark")?;
-    let mark_part = part_name(alloc, mark.as_str(), PROGRAM)?;
-    Ok(PathNames {
-        part,
-        beside,
-        beside_part,
-        mark,
-        mark_part,
-    })
 }
 
 impl<'a, R: Files<File = File> + AllocGlobal> SystemFiles<'a, R> {
@@ -88,7 +43,7 @@ impl<'a, R: Files<File = File> + AllocGlobal> SystemFiles<'a, R> {
     // Keeps the lock of a part, where a die was made in it, and removes the part where none was.
     fn keep_part(
         &mut self,
-        names: &PathNames,
+        part: &str,
         own: Result<File, DiskFileFault>,
         made: Result<DieStore<'a>, DiskFileFault>,
     ) -> Result<DieStore<'a>, DiskFileFault>
@@ -100,20 +55,11 @@ impl<'a, R: Files<File = File> + AllocGlobal> SystemFiles<'a, R> {
                 Ok(store)
             }
             (Err(fault), _) | (_, Err(fault)) => {
-                discard(&mut self.system.names(), names.part.as_str());
+                discard(&mut self.system.names(), part);
                 Err(fault)
             }
         }
     }
-}
-
-// The bytes of a small file.
-fn read_small<R: Files>(rt: &R, alloc: Global, name: &str) -> io::Result<Vec<u8>> {
-    let mut bytes = Vec::new(alloc);
-    fs::open(rt, name)?
-        .take(MOST_BYTES)
-        .read_to_end(&mut bytes)?;
-    Ok(bytes)
 }
 
 // The first bytes of a file.
@@ -123,18 +69,19 @@ fn read_front<R: Files>(rt: &R, alloc: Global, name: &str, most: u64) -> io::Res
     Ok(bytes)
 }
 
-// The names that go with the list of lost sectors of a disk.
-fn list_names(alloc: Global, path: &str) -> Result<ListNames, AllocError> {
-    let list = format!(in alloc; "{path}.lost")?;
-    let list_part = part_name(alloc, list.as_str(), PROGRAM)?;
-    let beside = format!(in alloc; "{path}.json")?;
-    let beside_part = part_name(alloc, beside.as_str(), PROGRAM)?;
-    Ok(ListNames {
-        list,
-        list_part,
-        beside,
-        beside_part,
-    })
+// The first bytes of the file beside a path with this behind it.
+fn read_beside<R: Files<File = File>>(
+    system: &System<'_, R>,
+    alloc: Global,
+    path: &str,
+    behind: &str,
+    most: u64,
+) -> Result<Vec<u8>, DiskFileFault> {
+    let name = name_beside(alloc, path, behind)?;
+    match read_front(system.rt, alloc, name.as_str(), most) {
+        Ok(bytes) => Ok(bytes),
+        Err(error) => Err(unread(system, error)),
+    }
 }
 
 // The bytes of a small file, or none where there is no such file.
@@ -143,59 +90,120 @@ fn read_if_there<R: Files<File = File>>(
     alloc: Global,
     name: &str,
 ) -> Result<Option<Vec<u8>>, DiskFileFault> {
-    match read_small(system.rt, alloc, name) {
+    match read_front(system.rt, alloc, name, MOST_BYTES) {
         Ok(bytes) => Ok(Some(bytes)),
         Err(error) if error.kind() == ErrorKind::NotFound => Ok(None),
         Err(error) => Err(unread(system, error)),
     }
 }
 
+// The names that go with the list of lost sectors of a disk.
+fn list_names(alloc: Global, path: &str) -> Result<ListNames, DiskFileFault> {
+    let list = names_beside(alloc, path, LIST)?;
+    let beside = names_beside(alloc, path, SHAPE)?;
+    Ok(ListNames { list, beside })
+}
+
+// Whether a file stands there.
+fn is_there<R: Files<File = File>>(
+    system: &System<'_, R>,
+    name: &str,
+) -> Result<bool, DiskFileFault> {
+    match system.names().is_there(name) {
+        Ok(there) => Ok(there),
+        Err(fault) => Err(unseen(fault)),
+    }
+}
+
+// Gives the part of a mark its name, once it holds none.
+fn fill_mark<R: Files<File = File> + AllocGlobal>(
+    system: &System<'_, R>,
+    names: &FileNames,
+    file: File,
+) -> Result<(), DiskFileFault> {
+    let mut file = NotedFile::new(file, system.first);
+    put_blank(system.rt.alloc(), &mut file)?;
+    match publish_new(
+        &mut system.names(),
+        names.part.as_str(),
+        names.file.as_str(),
+    ) {
+        Ok(()) => Ok(()),
+        Err(fault) => Err(unmade(fault)),
+    }
+}
+
 // Makes the file of a mark, which holds none yet, beside its place, and gives it its name.
 fn make_mark<R: Files<File = File> + AllocGlobal>(
     system: &System<'_, R>,
-    names: &PathNames,
+    names: &FileNames,
 ) -> Result<(), DiskFileFault> {
-    let part = names.mark_part.as_str();
-    let mut file = match new_part(&mut system.names(), part) {
-        Ok(file) => NotedFile::new(file, system.first),
+    let part = names.part.as_str();
+    let file = match new_part(&mut system.names(), part) {
+        Ok(file) => file,
         Err(fault) => return Err(unmade(fault)),
     };
-    let done = match put_blank(system.rt.alloc(), &mut file) {
-        Ok(()) => match publish_new(&mut system.names(), part, names.mark.as_str()) {
-            Ok(()) => Ok(()),
-            Err(fault) => Err(unmade(fault)),
-        },
-        Err(fault) => Err(fault),
-    };
+    let done = fill_mark(system, names, file);
     if done.is_err() {
         discard(&mut system.names(), part);
     }
     done
 }
 
-// The file of a mark, to be written; none where it has another length than such a file.
-fn open_mark<R: Files<File = File> + AllocGlobal>(
+// A file, to be written.
+fn open_to_write<R: Files<File = File>>(
     system: &System<'_, R>,
-    names: &PathNames,
-) -> Result<Option<File>, DiskFileFault> {
-    match system.names().is_there(names.mark.as_str()) {
-        Ok(true) => {}
-        Ok(false) => make_mark(system, names)?,
-        Err(fault) => return Err(unseen(fault)),
-    }
-    let file = match OpenOptions::new()
+    name: &str,
+) -> Result<File, DiskFileFault> {
+    match OpenOptions::new()
         .read(true)
         .write(true)
-        .open(system.rt, names.mark.as_str())
+        .open(system.rt, name)
     {
-        Ok(file) => file,
-        Err(error) => return Err(unwritten(system, error)),
-    };
+        Ok(file) => Ok(file),
+        Err(error) => Err(unwritten(system, error)),
+    }
+}
+
+// The file of a mark, to be written; none where it has another length than such a file. It is made where there is none.
+fn open_mark<R: Files<File = File> + AllocGlobal>(
+    system: &System<'_, R>,
+    names: &FileNames,
+) -> Result<Option<File>, DiskFileFault> {
+    if !is_there(system, names.file.as_str())? {
+        make_mark(system, names)?;
+    }
+    let file = open_to_write(system, names.file.as_str())?;
     match file.metadata() {
         Ok(metadata) if metadata.len() == MARK_BYTES as u64 => Ok(Some(file)),
         Ok(_) => Ok(None),
         Err(error) => Err(unread(system, error)),
     }
+}
+
+// The same as it is kept, where its mark was found in the second slot, or in the first.
+fn mark_file<'a, R: Files<File = File> + AllocGlobal>(
+    system: &System<'a, R>,
+    alloc: Global,
+    path: &str,
+    in_second: bool,
+) -> Result<Option<MarkFile<NotedFile<'a>>>, DiskFileFault> {
+    let names = names_beside(alloc, path, MARK)?;
+    match open_mark(system, &names)? {
+        Some(file) => Ok(Some(MarkFile::new(NotedFile::new(file, system.first), in_second))),
+        None => Ok(None),
+    }
+}
+
+// The names of a die, and its part, empty, open and locked.
+fn begun_die<R: Files<File = File>>(
+    system: &System<'_, R>,
+    alloc: Global,
+    path: &str,
+) -> Result<(DieNames, File), DiskFileFault> {
+    let names = die_names(alloc, path)?;
+    let file = new_die(system, &names.pair(path))?;
+    Ok((names, file))
 }
 
 // A store of erased pages over an empty file.
@@ -255,14 +263,13 @@ impl<'a, R: Files<File = File> + AllocGlobal + Clock> DiskFiles for SystemFiles<
     ghost opened = { λ _. None };
 
     fn has(&mut self, path: &str) -> Result<bool, DiskFileFault> {
-        let names = path_names(self.system.rt.alloc(), path)?;
-        match is_taken(&self.system, &pair_of(path, &names)) {
-            Ok(false) => match self.system.names().is_there(names.mark.as_str()) {
-                Ok(there) => Ok(there),
-                Err(fault) => Err(unseen(fault)),
-            },
-            taken => taken,
+        let alloc = self.system.rt.alloc();
+        let names = die_names(alloc, path)?;
+        if is_taken(&self.system, &names.pair(path))? {
+            return Ok(true);
         }
+        let mark = name_beside(alloc, path, MARK)?;
+        is_there(&self.system, mark.as_str())
     }
 
     fn lock(&mut self, path: &str, access: Access) -> Result<LockedFile, DiskFileFault> {
@@ -275,18 +282,12 @@ impl<'a, R: Files<File = File> + AllocGlobal + Clock> DiskFiles for SystemFiles<
         path: &str,
         _locked: &LockedFile,
     ) -> Result<Vec<u8>, DiskFileFault> {
-        let names = path_names(alloc, path)?;
-        match read_small(self.system.rt, alloc, names.beside.as_str()) {
-            Ok(bytes) => Ok(bytes),
-            Err(error) => Err(unread(&self.system, error)),
-        }
+        read_beside(&self.system, alloc, path, SHAPE, MOST_BYTES)
     }
 
     fn mark_text(&mut self, alloc: Global, path: &str) -> Result<Option<Vec<u8>>, DiskFileFault> {
-        match path_names(alloc, path) {
-            Ok(names) => read_if_there(&self.system, alloc, names.mark.as_str()),
-            Err(fault) => Err(fault),
-        }
+        let name = name_beside(alloc, path, MARK)?;
+        read_if_there(&self.system, alloc, name.as_str())
     }
 
     #[tactic(auto, unfolding(file_die::specs::Rows::is_kept))]
@@ -315,15 +316,10 @@ impl<'a, R: Files<File = File> + AllocGlobal + Clock> DiskFiles for SystemFiles<
         syncs: FileSyncs<NotedFile<'a>>,
         found: FoundMark,
     ) -> Result<FileSyncs<NotedFile<'a>>, DiskFileFault> {
-        let names = path_names(alloc, path)?;
-        let kept = match open_mark(&self.system, &names)? {
-            Some(file) => Some(MarkFile::new(
-                NotedFile::new(file, self.system.first),
-                found.in_second,
-            )),
-            None => None,
-        };
-        Ok(syncs.with_mark(kept, found.mark))
+        match mark_file(&self.system, alloc, path, found.in_second) {
+            Ok(kept) => Ok(syncs.with_mark(kept, found.mark)),
+            Err(fault) => Err(fault),
+        }
     }
 
     #[tactic(auto, unfolding(file_die::specs::Rows::is_kept))]
@@ -333,11 +329,10 @@ impl<'a, R: Files<File = File> + AllocGlobal + Clock> DiskFiles for SystemFiles<
         path: &str,
         shape: &DiskShape,
     ) -> Result<DieStore<'a>, DiskFileFault> {
-        let names = path_names(alloc, path)?;
-        let file = new_die(&self.system, &pair_of(path, &names))?;
+        let (names, file) = begun_die(&self.system, alloc, path)?;
         let own = second_handle(&self.system, &file);
         let made = new_store(&self.system, alloc, shape, file);
-        self.keep_part(&names, own, made)
+        self.keep_part(names.part.as_str(), own, made)
     }
 
     #[tactic(auto, unfolding(file_die::specs::Rows::is_kept))]
@@ -348,17 +343,16 @@ impl<'a, R: Files<File = File> + AllocGlobal + Clock> DiskFiles for SystemFiles<
         shape: &DiskShape,
         dump: &str,
     ) -> Result<DieStore<'a>, DiskFileFault> {
-        let names = path_names(alloc, path)?;
         let from = open_dump(&self.system, dump, dump_bytes(&shape.geometry))?;
-        let file = new_die(&self.system, &pair_of(path, &names))?;
+        let (names, file) = begun_die(&self.system, alloc, path)?;
         let own = second_handle(&self.system, &file);
         let made = copied(&self.system, alloc, shape, from, file);
-        self.keep_part(&names, own, made)
+        self.keep_part(names.part.as_str(), own, made)
     }
 
     fn keep(&mut self, path: &str, _store: DieStore<'a>, text: &[u8]) -> Result<(), DiskFileFault> {
-        let names = path_names(self.system.rt.alloc(), path)?;
-        let done = publish(&self.system, &pair_of(path, &names), text);
+        let names = die_names(self.system.rt.alloc(), path)?;
+        let done = publish(&self.system, &names.pair(path), text);
         if done.is_ok() {
             self.part = None;
         }
@@ -367,7 +361,7 @@ impl<'a, R: Files<File = File> + AllocGlobal + Clock> DiskFiles for SystemFiles<
 
     fn discard(&mut self, path: &str) {
         if self.part.is_some() {
-            if let Ok(names) = path_names(self.system.rt.alloc(), path) {
+            if let Ok(names) = die_names(self.system.rt.alloc(), path) {
                 discard(&mut self.system.names(), names.part.as_str());
             }
         }
@@ -380,14 +374,7 @@ impl<'a, R: Files<File = File> + AllocGlobal + Clock> DiskFiles for SystemFiles<
         path: &str,
         most: u64,
     ) -> Result<Vec<u8>, DiskFileFault> {
-        let names = match list_names(alloc, path) {
-            Ok(names) => names,
-            Err(_) => return Err(DiskFileFault::OutOfMemory),
-        };
-        match read_front(self.system.rt, alloc, names.list.as_str(), most) {
-            Ok(bytes) => Ok(bytes),
-            Err(error) => Err(unread(&self.system, error)),
-        }
+        read_beside(&self.system, alloc, path, LIST, most)
     }
 
     fn lists(
@@ -397,10 +384,11 @@ impl<'a, R: Files<File = File> + AllocGlobal + Clock> DiskFiles for SystemFiles<
         syncs: &FileSyncs<NotedFile<'a>>,
         beside: &[u8],
     ) -> Result<FileLists<'a, R>, DiskFileFault> {
-        let (Ok(names), Ok(text)) = (list_names(alloc, path), beside.to_vec(alloc)) else {
+        let die = second_handle(&self.system, syncs.die().file())?;
+        let names = list_names(alloc, path)?;
+        let Ok(text) = beside.to_vec(alloc) else {
             return Err(DiskFileFault::OutOfMemory);
         };
-        let die = second_handle(&self.system, syncs.die().file())?;
         Ok(FileLists::new(self.system.again(), alloc, die, names, text))
     }
 }

@@ -1,4 +1,5 @@
-use Rattle.std.proofs.Common.{true, ◌≡◌, Err, List, Ok, Result, Some, ℕ, inl, inr, refl, rules, subst, sym}
+use Rattle.std.proofs.Common.{true, ◌≡◌, Err, List, Ok, Result, Some, ℕ, inl, inr, refl, subst, sym, ap, ◌∙◌}
+use Rattle.std.proofs.lemmas.Result.{err_from_is_err_and}
 use Rattle.std.specs.Prelude.{IfErr}
 use Rattle.command_words.specs.declared.words.ServeWords.{ServeWords}
 use Rattle.commands.specs.declared.claimed.Claimed.{Claimed}
@@ -15,14 +16,16 @@ ends gives words result stop is why = subst (λ r. IfErr r (IsUnclaimed gives wo
 
 pub returns-in_err-bytes-clause-fault : goal.returns-in_err-bytes-clause-fault
 returns-in_err-bytes-clause-fault g c =
+    let p = err_from_is_err_and c.from_residual-in_err-bytes.result c.from_residual-in_err-bytes.ensures.1 in
     let asked = c.in_ok-asked.asked in
-    ends (g.F.FileStore.gives c.args.files.now) c.args.words.now c.from_residual-in_err-bytes.result c.in_err-bytes.field-0.0 (search rules)
+    ends (g.F.FileStore.gives c.args.files.now) c.args.words.now c.from_residual-in_err-bytes.result c.in_err-bytes.field-0.0 (p.1 ∙ ap Err p.2)
     (inr (inl (record { geometry = asked.geometry; capacity = asked.capacity; asked = c.in_ok-asked.ensures.ok; unread = c.in_err-bytes.ensures.fault })))
 
 pub returns-in_err-written-clause-fault : goal.returns-in_err-written-clause-fault
 returns-in_err-written-clause-fault g c =
+    let p = err_from_is_err_and c.from_residual-in_err-written.result c.from_residual-in_err-written.ensures.1 in
     let asked = c.in_ok-asked.asked in
-    ends (g.F.FileStore.gives c.args.files.now) c.args.words.now c.from_residual-in_err-written.result c.in_err-written.field-0.0 (search rules)
+    ends (g.F.FileStore.gives c.args.files.now) c.args.words.now c.from_residual-in_err-written.result c.in_err-written.field-0.0 (p.1 ∙ ap Err p.2)
     (inr (inr (inl (record {
       geometry = asked.geometry;
       capacity = asked.capacity;
@@ -34,13 +37,14 @@ returns-in_err-written-clause-fault g c =
 
 pub returns-in_err-certificate-clause-fault : goal.returns-in_err-certificate-clause-fault
 returns-in_err-certificate-clause-fault g c =
+    let p = err_from_is_err_and c.from_residual-in_err-certificate.result c.from_residual-in_err-certificate.ensures.1 in
     let asked = c.in_ok-asked.asked in
     let gives = g.F.FileStore.gives c.args.files.now in
     let written = c.in_ok-written.written.items in
     let stop = c.in_err-certificate.field-0.0 in
     let files : HasFiles gives true (checked_words c.args.words.now) asked.geometry asked.capacity (Some c.in_ok-bytes.bytes.items) written =
     record { asked = c.in_ok-asked.ensures.ok; image = record { bytes = c.in_ok-bytes.ensures.ok; told = λ _. refl }; certificate = c.in_ok-bytes.ensures.same c.args.words.now.certificate.now (Ok written) c.in_ok-written.ensures.ok } in
-    ends gives c.args.words.now c.from_residual-in_err-certificate.result stop (search rules)
+    ends gives c.args.words.now c.from_residual-in_err-certificate.result stop (p.1 ∙ ap Err p.2)
     (inr (inr (inr (record {
       geometry = asked.geometry;
       capacity = asked.capacity;

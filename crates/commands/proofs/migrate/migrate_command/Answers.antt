@@ -1,4 +1,4 @@
-use Rattle.std.proofs.Common.{◌≡◌, ◌∙◌, Err, List, Option, ap, inl, inr, rules, subst}
+use Rattle.std.proofs.Common.{◌≡◌, ◌∙◌, Err, List, Option, ap, inl, inr, subst}
 use Rattle.std.proofs.KnownBytes.{Keeps-refl}
 use Rattle.std.proofs.lemmas.Result.{err_from_is_err_and}
 use Rattle.page_layout.specs.Flash.{Flash}
@@ -10,12 +10,14 @@ use Rattle.commands.proofs.migrate.migrate_command.Goals as goal
 
 pub returns-in_err-claimed : goal.returns-in_err-claimed
 returns-in_err-claimed g c =
-    stops (g.F.FileStore.gives c.args.files.now) c.args.words _ _ c.from_residual.result c.in_err-claimed.field-0.0 (search rules) (c.in_err-claimed.ensures.stores, search rules)
+    let p = err_from_is_err_and c.from_residual.result c.from_residual.ensures.1 in
+    stops (g.F.FileStore.gives c.args.files.now) c.args.words _ _ c.from_residual.result c.in_err-claimed.field-0.0 (p.1 ∙ ap Err p.2) (c.in_err-claimed.ensures.stores, Keeps-refl _)
     (inl c.in_err-claimed.ensures.fault)
 
 pub returns-in_err-driver : goal.returns-in_err-driver
 returns-in_err-driver g c =
-    stops (g.F.FileStore.gives c.args.files.now) c.args.words _ _ c.from_residual-in_err-driver.result c.in_err-driver.field-0.0 (search rules) (c.in_ok-claimed.ensures.stores, search rules)
+    let p = err_from_is_err_and c.from_residual-in_err-driver.result c.from_residual-in_err-driver.ensures.1 in
+    stops (g.F.FileStore.gives c.args.files.now) c.args.words _ _ c.from_residual-in_err-driver.result c.in_err-driver.field-0.0 (p.1 ∙ ap Err p.2) (c.in_ok-claimed.ensures.stores, Keeps-refl _)
     (no_device c.in_err-driver.field-0.0 c.in_ok-claimed.ensures.ok (inl c.in_err-driver.ensures.fault))
 
 pub returns-in_err-came : goal.returns-in_err-came

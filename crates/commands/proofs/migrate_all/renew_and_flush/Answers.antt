@@ -1,4 +1,4 @@
-use Rattle.std.proofs.Common.{rules, ◌≡◌, Err, ℕ, Result, ap, subst, sym, ◌∙◌}
+use Rattle.std.proofs.Common.{◌≡◌, Err, ℕ, Result, ap, subst, sym, ◌∙◌}
 use Rattle.std.proofs.lemmas.Result.{err_from_is_err_and}
 use Rattle.ftl_device.specs.declared.fault.DeviceFault.{DeviceFault}
 use Rattle.commands.specs.Migrate.{IsRenewedThenFlushed}
@@ -8,7 +8,8 @@ use Rattle.commands.proofs.migrate_all.renew_and_flush.Goals as goal
 pub returns-in_err-count : goal.returns-in_err-count
 returns-in_err-count g c =
     let fault = c.in_err-count.field-0.0 in
-    let is : c.from_residual.result ≡ Err fault = search rules in
+    let p = err_from_is_err_and c.from_residual.result c.from_residual.ensures.1 in
+    let is : c.from_residual.result ≡ Err fault = p.1 ∙ ap Err p.2 in
     let P : Result ℕ DeviceFault → Type 0 = λ r. IsRenewedThenFlushed g.N.PageSource.view c.args.geometry.now c.args.device.now r c.renew_all.new.device in
     subst P (sym is) (none_flushed g.N.PageSource.view _ _ _ fault c.in_err-count.ensures)
 

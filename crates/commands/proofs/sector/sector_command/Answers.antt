@@ -1,4 +1,6 @@
-use Rattle.std.proofs.Common.{true, false, ◌≡◌, Err, Result, refl, rules, subst, sym, ap, ◌∙◌, length}
+use Rattle.std.proofs.Common.{true, false, ◌≡◌, Err, Result, refl, subst, sym, ap, ◌∙◌, length}
+use Rattle.std.proofs.KnownBytes.{Keeps-refl}
+use Rattle.std.proofs.lemmas.Result.{err_from_is_err_and}
 use Rattle.commands.specs.declared.text.CommandFault.{CommandFault}
 use Rattle.commands.specs.Sector.{DoesSector, AsksForNumber}
 use Rattle.commands.proofs.CommandLemmas.{has_image, unprinted_does, unread_does}
@@ -7,17 +9,18 @@ use Rattle.commands.proofs.sector.sector_command.Goals as goal
 
 pub returns-in_err-bytes-clause-does : goal.returns-in_err-bytes-clause-does
 returns-in_err-bytes-clause-does g c =
+    let p = err_from_is_err_and c.from_residual-in_err-bytes.result c.from_residual-in_err-bytes.ensures.1 in
     let asked : AsksForNumber c.args.words c.in_ok-geometry.geometry c.in_ok-sector.sector =
     record { numbers = c.in_ok-numbers.numbers; geometry = c.in_ok-numbers.ensures.ok; sector = c.in_ok-sector.ensures.ok; valid = c.in_ok-geometry.ensures.ok } in
-    let is : c.from_residual-in_err-bytes.result ≡ Err c.in_err-bytes.field-0.0 = search rules in
+    let is : c.from_residual-in_err-bytes.result ≡ Err c.in_err-bytes.field-0.0 = p.1 ∙ ap Err p.2 in
     let P : Result (Unit {0}) CommandFault → Type 0 = λ r. DoesSector (g.F.FileStore.gives c.args.files.now) c.args.words (g.W.Write.contents c.args.out.now) (g.W.Write.contents c.args.out.now) r in
-    subst P (sym is) (unread_does (g.F.FileStore.gives c.args.files.now) c.args.words c.in_ok-geometry.geometry c.in_ok-sector.sector _ _ c.in_err-bytes.field-0.0 asked (search rules) c.in_err-bytes.ensures.fault)
+    subst P (sym is) (unread_does (g.F.FileStore.gives c.args.files.now) c.args.words c.in_ok-geometry.geometry c.in_ok-sector.sector _ _ c.in_err-bytes.field-0.0 asked (Keeps-refl _) c.in_err-bytes.ensures.fault)
 
 pub returns-in-Err-clause-does : goal.returns-in-Err-clause-does
 returns-in-Err-clause-does g c =
     let asked : AsksForNumber c.args.words c.in_ok-geometry.geometry c.in_ok-sector.sector =
     record { numbers = c.in_ok-numbers.numbers; geometry = c.in_ok-numbers.ensures.ok; sector = c.in_ok-sector.ensures.ok; valid = c.in_ok-geometry.ensures.ok } in
-    (search rules, (c.in_ok-geometry.geometry, c.in_ok-sector.sector, c.in_ok-bytes.bytes.items, asked, c.in_ok-bytes.ensures.ok, λ whole. let taken : false ≡ true = c.in-Err.ensures.accepted.1 (ap length c.deref.ensures.value ∙ whole) in cc))
+    (Keeps-refl _, (c.in_ok-geometry.geometry, c.in_ok-sector.sector, c.in_ok-bytes.bytes.items, asked, c.in_ok-bytes.ensures.ok, λ whole. let taken : false ≡ true = c.in-Err.ensures.accepted.1 (ap length c.deref.ensures.value ∙ whole) in cc))
 
 pub returns-in-Ok-print_sector-clause-does : goal.returns-in-Ok-print_sector-clause-does
 returns-in-Ok-print_sector-clause-does g c =

@@ -1,4 +1,6 @@
-use Rattle.std.proofs.Common.{◌≡◌, ◌∙◌, List, Option, ℕ, inl, rules, subst, sym}
+use Rattle.std.proofs.Common.{◌≡◌, ◌∙◌, List, Option, ℕ, inl, subst, sym, Err, ap}
+use Rattle.std.proofs.KnownBytes.{Keeps-refl}
+use Rattle.std.proofs.lemmas.Result.{err_from_is_err_and}
 use Rattle.onfi_cycles.specs.Driver.{flash_by}
 use Rattle.commands.specs.declared.steady.SteadyDie.{SteadyDie}
 use Rattle.commands.specs.Files.{Stored, left_behind}
@@ -9,22 +11,25 @@ use Rattle.commands.proofs.serve.serve_command.Goals as goal
 
 pub returns-in_err-claimed : goal.returns-in_err-claimed
 returns-in_err-claimed g c =
-    stops (g.F.FileStore.gives c.args.files.now) c.args.words _ _ _ _ c.from_residual.result c.in_err-claimed.field-0.0 (search rules) (c.in_err-claimed.ensures.stores, search rules) (search rules)
+    let p = err_from_is_err_and c.from_residual.result c.from_residual.ensures.1 in
+    stops (g.F.FileStore.gives c.args.files.now) c.args.words _ _ _ _ c.from_residual.result c.in_err-claimed.field-0.0 (p.1 ∙ ap Err p.2) (c.in_err-claimed.ensures.stores, Keeps-refl _) (Keeps-refl _)
     (inl c.in_err-claimed.ensures.fault)
 
 pub returns-in_err-driver : goal.returns-in_err-driver
 returns-in_err-driver g c =
+    let p = err_from_is_err_and c.from_residual-in_err-driver.result c.from_residual-in_err-driver.ensures.1 in
     let claimed = c.in_ok-claimed.claimed in
     let stop = c.in_err-driver.field-0.0 in
-    stops (g.F.FileStore.gives c.args.files.now) c.args.words _ _ _ _ c.from_residual-in_err-driver.result stop (search rules) (c.in_ok-claimed.ensures.stores, search rules) (search rules)
+    stops (g.F.FileStore.gives c.args.files.now) c.args.words _ _ _ _ c.from_residual-in_err-driver.result stop (p.1 ∙ ap Err p.2) (c.in_ok-claimed.ensures.stores, Keeps-refl _) (Keeps-refl _)
     (not_served stop c.in_ok-claimed.ensures.ok (undied claimed.asked.geometry claimed.asked.capacity claimed.bytes.items claimed.certificate stop c.in_err-driver.ensures.fault))
 
 pub returns-in_err-stop : goal.returns-in_err-stop
 returns-in_err-stop g c =
+    let p = err_from_is_err_and c.from_residual-in_err-stop.result c.from_residual-in_err-stop.ensures.1 in
     let claimed = c.in_ok-claimed.claimed in
     let stop = c.in_err-stop.field-0.0 in
     let loaded = c.in_ok-driver.ensures.held in
-    stops (g.F.FileStore.gives c.args.files.now) c.args.words _ _ _ _ c.from_residual-in_err-stop.result stop (search rules) (c.in_ok-claimed.ensures.stores, c.in_err-stop.ensures.unwritten) c.in_err-stop.ensures.unread
+    stops (g.F.FileStore.gives c.args.files.now) c.args.words _ _ _ _ c.from_residual-in_err-stop.result stop (p.1 ∙ ap Err p.2) (c.in_ok-claimed.ensures.stores, c.in_err-stop.ensures.unwritten) c.in_err-stop.ensures.unread
     (not_served stop c.in_ok-claimed.ensures.ok (unserved claimed.asked.geometry claimed.asked.capacity claimed.bytes.items claimed.certificate _ stop c.in_ok-driver.ensures.whole loaded c.in_err-stop.ensures.fault))
 
 pub returns : goal.returns
