@@ -39,3 +39,4 @@ pub mod Stops
 pub mod HalfPuts
 pub mod PageReads
 pub mod Cuts
+pub mod Standing

@@ -1,5 +1,5 @@
 -- What making room says holds of nothing done, of the last look at the free blocks, and of a fault that is noted.
-use Rattle.std.proofs.Common.{◌≡◌, ℕ, ◌<◌, ◌≤◌, Bool, [], Result, Ok, Err, Some, refl, ap, sym, inl, subst, arith}
+use Rattle.std.proofs.Common.{◌≡◌, ◌<◌, ◌≤◌, Bool, [], Result, Ok, Err, Some, refl, ap, sym, inl, subst, arith}
 use Rattle.std.specs.Prelude.{IfErr}
 use Rattle.page_layout.specs.View.{View}
 use Rattle.allocation.specs.State.{free_count}

@@ -226,6 +226,13 @@ fn put_one<W: Output>(out: &mut W, words: &str, number: u64) -> Result<(), Outpu
     put_pieces(out, &[Words(words), Number(number)])
 }
 
+// The same of a count that is below 2^32.
+fn put_count<W: Output>(out: &mut W, words: &str, count: u32) -> Result<(), OutputFault>
+    ensures { Prints (W.failed out.new) (W.contents out.old) (W.contents out.new) (words.now ++ decimal count) result }
+{
+    put_one(out, words, u64::from(count))
+}
+
 // One of words and a number, twice.
 fn put_two<'x, W: Output>(
     out: &mut W,
@@ -649,27 +656,27 @@ pub(crate) fn put_words<W: Output>(out: &mut W, line: Line) -> Result<(), Output
 {
     match line {
         Line::Pages(sort, count) => put_named(out, "pages ", sort.text(), count),
-        Line::NumberRange(pages) => put_one(out, "reason NumberRange pages ", u64::from(pages)),
+        Line::NumberRange(pages) => put_count(out, "reason NumberRange pages ", pages),
         Line::Repeated(first, second) => {
             put_two(out, "reason SequenceRepeated row ", first, " row ", second)
         }
-        Line::NotFormatted(page) => put_one(out, "reason NotFormatted table ", u64::from(page)),
-        Line::TableDamaged(page) => put_one(out, "reason TableDamaged table ", u64::from(page)),
-        Line::LastSequence(pages) => put_one(out, "reason NextSequence pages ", u64::from(pages)),
+        Line::NotFormatted(page) => put_count(out, "reason NotFormatted table ", page),
+        Line::TableDamaged(page) => put_count(out, "reason TableDamaged table ", page),
+        Line::LastSequence(pages) => put_count(out, "reason NextSequence pages ", pages),
         Line::Tied(of, number) => put_named(out, "tied ", of.text(), number),
         Line::Missing(of, number) => put_named(out, "missing ", of.text(), number),
         Line::Block(block, state, unsound) => put_block(out, block, state, unsound),
         Line::PlainBlock(block, unsound) => put_two(out, "block ", block, " unsound ", unsound),
-        Line::Lost(sector) => put_one(out, "lost sector ", u64::from(sector)),
+        Line::Lost(sector) => put_count(out, "lost sector ", sector),
         Line::Fit(found) => put_found(out, found),
         Line::ArrangedFit(found) => put_arranged_fit(out, &found),
         Line::Mended(row, turn) => put_turn(out, row, turn),
         Line::MendedCount(count) => put_one(out, "mended ", count),
         Line::LostRow(row, chunks) => put_two(out, "lost row ", row, " chunks ", chunks),
         Line::Corrected(bits, rows, lost) => put_corrected(out, bits, rows, lost),
-        Line::Arranged(rows) => put_one(out, "arranged ", u64::from(rows)),
-        Line::Differ(row) => put_one(out, "differ row ", u64::from(row)),
-        Line::Unsound(row) => put_one(out, "unsound row ", u64::from(row)),
+        Line::Arranged(rows) => put_count(out, "arranged ", rows),
+        Line::Differ(row) => put_count(out, "differ row ", row),
+        Line::Unsound(row) => put_count(out, "unsound row ", row),
         Line::Tried(row, trial) => put_tried(out, row, trial),
         Line::Merged(differ, tally) => put_tally(out, differ, tally),
         Line::Tries(tries) => put_tries(out, tries),
@@ -679,10 +686,10 @@ pub(crate) fn put_words<W: Output>(out: &mut W, line: Line) -> Result<(), Output
         Line::History(pages, unsound) => put_history(out, pages, unsound),
         Line::AgeOfRows(unsound) => put_age_of_rows(out, unsound),
         Line::OfRows(rows) => put_two(out, "rows ", rows.first, "..", rows.end),
-        Line::Factory(pages) => put_one(out, "factory ", u64::from(pages)),
-        Line::Rewritten(pages) => put_one(out, "rewritten ", u64::from(pages)),
-        Line::Holes(pages) => put_one(out, "holes ", u64::from(pages)),
-        Line::Outside(pages) => put_one(out, "outside ", u64::from(pages)),
+        Line::Factory(pages) => put_count(out, "factory ", pages),
+        Line::Rewritten(pages) => put_count(out, "rewritten ", pages),
+        Line::Holes(pages) => put_count(out, "holes ", pages),
+        Line::Outside(pages) => put_count(out, "outside ", pages),
         Line::Says(page) => put_says(out, page),
         Line::Legible(legible, others) => put_legible(out, legible, others),
         Line::Damaged(sectors) => put_damaged(out, sectors),

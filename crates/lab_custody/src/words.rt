@@ -60,6 +60,27 @@ fn add_all<'a>(words: &mut Vec<&'a str>, more: Option<&[&'a str]>) -> Result<(),
     Ok(())
 }
 
+// The files that a command reads.
+fn files_read<'a>(alloc: Global, found: &CommandWords<'a>) -> Result<Vec<&'a str>, AllocError>
+    ensures { IfOk result (λ words. texts words.items ≡ read_of (entries_of found.now)) }
+{
+    let mut read = Vec::new(alloc);
+    add(&mut read, found.word("CERT"))?;
+    add_all(&mut read, found.words("DUMP"))?;
+    add_all(&mut read, found.words("READING"))?;
+    Ok(read)
+}
+
+// The files that it writes.
+fn files_wrote<'a>(alloc: Global, found: &CommandWords<'a>) -> Result<Vec<&'a str>, AllocError>
+    ensures { IfOk result (λ words. texts words.items ≡ wrote_of (entries_of found.now)) }
+{
+    let mut wrote = Vec::new(alloc);
+    add(&mut wrote, found.word("OUT"))?;
+    add(&mut wrote, found.word("map"))?;
+    Ok(wrote)
+}
+
 // The files that a command reads and writes.
 fn reported<'a>(
     alloc: Global,
@@ -70,13 +91,8 @@ fn reported<'a>(
     ensures read { IfOk result (λ words. texts words.read.items ≡ read_of (entries_of found.now)) }
     ensures wrote { IfOk result (λ words. texts words.wrote.items ≡ wrote_of (entries_of found.now)) }
 {
-    let mut read = Vec::new(alloc);
-    add(&mut read, found.word("CERT"))?;
-    add_all(&mut read, found.words("DUMP"))?;
-    add_all(&mut read, found.words("READING"))?;
-    let mut wrote = Vec::new(alloc);
-    add(&mut wrote, found.word("OUT"))?;
-    add(&mut wrote, found.word("map"))?;
+    let read = files_read(alloc, found)?;
+    let wrote = files_wrote(alloc, found)?;
     Ok(ReportedWords { file, read, wrote })
 }
 

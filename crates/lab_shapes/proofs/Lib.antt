@@ -7,3 +7,4 @@ pub mod ShapeLemmas
 pub mod FindLemmas
 pub mod WordLemmas
 pub mod PlaneLemmas
+pub mod ExitLemmas

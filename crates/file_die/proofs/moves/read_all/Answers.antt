@@ -1,3 +1,4 @@
+use Rattle.std.proofs.lemmas.Grind.{common_steps}
 use Rattle.std.proofs.Common.{arith, refl}
 use Rattle.file_die.specs.Bytes.{NoRead}
 use Rattle.file_die.proofs.moves.read_all.Goals as goal
@@ -12,3 +13,6 @@ loop-done-init g c = record {
   same = λ h. refl;
   reads = λ h i lt. absurd (omega (arith, lt));
 }
+
+pub returns-clause-gave : goal.returns-clause-gave
+returns-clause-gave g c = grind (arith, common_steps)

@@ -1,8 +1,18 @@
-use Rattle.std.proofs.Common.{◌+◌, ◌∙◌, ap, get_or, arith}
+use Rattle.std.proofs.Common.{◌+◌, ◌∙◌, ℕ, All, List, ap, get_or, arith, subst, sym}
+use Rattle.std.proofs.lemmas.List.Elements.{All-get_or}
+use Rattle.page_layout.specs.Limits.{IsPageCount}
 use Rattle.lab_dump.proofs.FitLemmas.{adds_then, more_at}
 use Rattle.lab_dump.specs.Shape.{page_counts}
 use Rattle.lab_dump.specs.Fits.{shape_fits}
 use Rattle.lab_dump.proofs.find.add_shapes.Goals as goal
+
+pub add_shape-requires-clause-page_count : goal.add_shape-requires-clause-page_count
+unfolding page_counts
+add_shape-requires-clause-page_count c =
+    let inv = c.loop-pages.invariant in
+    let i = c.loop-pages.pages-index in
+    subst (λ (l : List ℕ). IsPageCount (get_or l i 0)) (sym inv.items)
+    (All-get_or IsPageCount page_counts i 0 c.loop-pages-test.true (subst (λ (l : List ℕ). All IsPageCount l) inv.items inv.counts))
 
 pub loop-pages-preserved : goal.loop-pages-preserved
 unfolding page_counts

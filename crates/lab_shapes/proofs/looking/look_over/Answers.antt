@@ -1,9 +1,9 @@
-use Rattle.std.proofs.Common.{◌≡◌, ◌+◌, ap, ◌∙◌, arith, rules}
+use Rattle.std.proofs.Common.{◌≡◌, ◌+◌, ap, ◌∙◌, arith, rules, ◌<◌}
 use Rattle.page_layout.specs.Geometry.{row_count}
-use Rattle.lab_dump.specs.Sample.{looked_row}
+use Rattle.lab_dump.specs.Sample.{looked_count, looked_row}
 use Rattle.lab_dump.proofs.SampleLemmas.{one, sample_more, sample_none, noted_few, noted_looked}
 use Rattle.lab_shapes.specs.Ordered.{follows, is_in_turn, look_before, look_in, ordered, sample_first}
-use Rattle.lab_shapes.proofs.LookLemmas.{one_byte, one_few, turns_all, turns_more}
+use Rattle.lab_shapes.proofs.LookLemmas.{looked_within, one_byte, one_few, turns_all, turns_more}
 use Rattle.lab_shapes.proofs.looking.look_over.Goals as goal
 
 pub loop-place-init : goal.loop-place-init
@@ -58,3 +58,19 @@ returns-clause-turns g c = λ all told size.
     let geo = c.args.geometry.now in
     turns_all geo (ordered geo c.args.arrangement.now all) c.loop-place.place c.loop-place.in_turn
     (omega (arith, c.loop-place-test.false, c.loop-place.auto.place-end) ∙ c.none-sample.ensures.looked) (c.loop-place.invariant.turns all told size)
+
+pub look_before-requires-clause-row : goal.look_before-requires-clause-row
+look_before-requires-clause-row g c =
+    let geo = c.args.geometry.now in
+    let row : c.looked_row-row.result ≡ looked_row (row_count geo) c.loop-place.place = c.looked_row-row.ensures ∙ ap (λ k. looked_row k c.loop-place.place) c.rows.ensures in
+    let few : c.loop-place.place < looked_count (row_count geo) = omega (arith, c.loop-place-test.true, c.none-sample.ensures.looked) in
+    let within = looked_within (row_count geo) c.loop-place.place few in
+    omega (arith, row, within)
+
+pub look_in_order-requires-clause-row : goal.look_in_order-requires-clause-row
+look_in_order-requires-clause-row g c =
+    let geo = c.args.geometry.now in
+    let row : c.looked_row-row.result ≡ looked_row (row_count geo) c.loop-place.place = c.looked_row-row.ensures ∙ ap (λ k. looked_row k c.loop-place.place) c.rows.ensures in
+    let few : c.loop-place.place < looked_count (row_count geo) = omega (arith, c.loop-place-test.true, c.none-sample.ensures.looked) in
+    let within = looked_within (row_count geo) c.loop-place.place few in
+    omega (arith, row, within)

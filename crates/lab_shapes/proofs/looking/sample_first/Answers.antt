@@ -1,8 +1,9 @@
-use Rattle.std.proofs.Common.{ap, ◌∙◌, arith, rules}
+use Rattle.std.proofs.Common.{ap, ◌∙◌, arith, rules, ◌≡◌, ◌<◌}
 use Rattle.page_layout.specs.Geometry.{row_count}
-use Rattle.lab_dump.specs.Sample.{looked_row}
+use Rattle.lab_dump.specs.Sample.{looked_count, looked_row}
 use Rattle.lab_dump.proofs.SampleLemmas.{sample_more, sample_none, noted_few, noted_looked}
 use Rattle.lab_shapes.specs.Ordered.{look_in, ordered}
+use Rattle.lab_shapes.proofs.LookLemmas.{looked_within}
 use Rattle.lab_shapes.proofs.looking.sample_first.Goals as goal
 
 pub loop-place-init : goal.loop-place-init
@@ -33,3 +34,11 @@ loop-place-preserved g c =
           sample_more geo.data_bytes geo.spare_bytes (row_count geo) (ordered geo a all) place c.loop-place.sample _ c.in_ok-look.look (inv.sample all told size)
           (c.in_ok-look.ensures.look all (inv.same ∙ told) size ∙ ap (look_in geo (ordered geo a all)) row) c.noted-sample.ensures;
     }
+
+pub look_in_order-requires-clause-row : goal.look_in_order-requires-clause-row
+look_in_order-requires-clause-row g c =
+    let geo = c.args.geometry.now in
+    let row : c.looked_row-row.result ≡ looked_row (row_count geo) c.loop-place.place = c.looked_row-row.ensures ∙ ap (λ k. looked_row k c.loop-place.place) c.rows.ensures in
+    let few : c.loop-place.place < looked_count (row_count geo) = omega (arith, c.loop-place-test.true, c.requires.places) in
+    let within = looked_within (row_count geo) c.loop-place.place few in
+    omega (arith, row, within)

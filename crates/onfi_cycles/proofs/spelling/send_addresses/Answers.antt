@@ -1,3 +1,4 @@
+use Rattle.std.proofs.lemmas.Grind.{common_steps}
 use Rattle.std.proofs.Common.{◌∙◌, get_or, arith, refl, [], inl, Err}
 use Rattle.std.proofs.lemmas.Result.{err_from_is_err_and}
 use Rattle.onfi_cycles.specs.Cycles.{Address}
@@ -32,3 +33,12 @@ returns-in_err-address-clause-sends g c =
     let fault = c.in_err-address.field-0.0 in
     rw (e.1, e.2) (c.loop-byte.invariant.sends_on (Err fault) c.address.new.self
     (rw (left_from c.args.bytes.now c.loop-byte.byte-index byte c.loop-byte-test.true refl) (inl ([], (let e' = c.in_err-address.ensures in record { said = e'.called; as_honest = e'.honest; step = e'.cycle; noted = e'.recorded })))))
+
+pub returns-in_err-address-clause-spells : goal.returns-in_err-address-clause-spells
+returns-in_err-address-clause-spells g c = grind (arith, common_steps)
+
+pub returns-clause-sends : goal.returns-clause-sends
+returns-clause-sends g c = grind (arith, common_steps)
+
+pub returns-clause-spells : goal.returns-clause-spells
+returns-clause-spells g c = grind (arith, common_steps)

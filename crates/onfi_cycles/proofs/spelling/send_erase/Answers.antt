@@ -1,4 +1,5 @@
-use Rattle.std.proofs.Common.{◌∙◌, ◌∷◌, [], ◌*◌, add-zero, ap, subst}
+use Rattle.std.proofs.lemmas.Grind.{common_steps}
+use Rattle.std.proofs.Common.{arith, ◌∙◌, ◌∷◌, [], ◌*◌, add-zero, ap, subst}
 use Rattle.std.proofs.lemmas.Result.{err_from_is_err_and}
 use Rattle.onfi_cycles.specs.Cycles.{Command}
 use Rattle.onfi_cycles.specs.Spelling.{erase_cycles, row_address, confirm_cycles, Taken, FailsIn}
@@ -47,3 +48,6 @@ returns-clause-sends g c =
     let spelled = c.row_bytes.ensures ∙ ap row_address (c.row.ensures.is ∙ add-zero (c.args.block * c.args.geometry.now.pages)) in
     sends_then (Calls g.B.Bus.die g.B.Bus.honest g.B.Bus.recorded g.B.Bus.called) a b c.confirm.new.bus (Command 0x60 ∷ row_address (c.args.block * c.args.geometry.now.pages)) (confirm_cycles 0xD0) (λ byte. byte ∷ []) c.confirm.result
     (subst (λ xs. Sent (Calls g.B.Bus.die g.B.Bus.honest g.B.Bus.recorded g.B.Bus.called) a (Command 0x60 ∷ xs) [] b) spelled c.in_ok-start.ensures.sends) c.confirm.ensures.sends
+
+pub row_bytes-requires : goal.row_bytes-requires
+row_bytes-requires g c = grind (arith, common_steps)

@@ -1,3 +1,4 @@
+use Rattle.std.proofs.lemmas.Grind.{common_steps}
 use Rattle.std.proofs.Common.{◌≡◌, ◌∙◌, ◌*◌, ◌+◌, ◌<◌, ap, sym, subst, arith, ℕ, List, Bool, ◌≤◌, length}
 use Rattle.std.specs.Prelude.{slice_index}
 use Rattle.std.specs.Result.{is_ok}
@@ -52,3 +53,9 @@ returns-clause-kept g c reads =
 pub returns-clause-full : goal.returns-clause-full
 returns-clause-full g c =
     rw (← c.self.view_is) (full_told g.F.ByteFile.wrote _ c.settle.new.self c.write_all-answer.new.file c.write_all-answer.result c.settle.result c.write_all-answer.ensures.fails c.settle.ensures.full c.settle.ensures.told c.settle.ensures.answer c.settle.ensures.file)
+
+pub write_all-answer-requires : goal.write_all-answer-requires
+write_all-answer-requires g c = grind (arith, common_steps)
+
+pub returns-clause-counts : goal.returns-clause-counts
+returns-clause-counts g c = grind (arith, common_steps)

@@ -1,4 +1,5 @@
-use Rattle.std.proofs.Common.{◌≡◌, ◌∙◌, ◌+◌, ◌<◌, ap, sym, subst, ℕ, List, Bool, true, length}
+use Rattle.std.proofs.lemmas.Grind.{common_steps}
+use Rattle.std.proofs.Common.{arith, ◌≡◌, ◌∙◌, ◌+◌, ◌<◌, ap, sym, subst, ℕ, List, Bool, true, length}
 use Rattle.std.specs.Prelude.{slice_get}
 use Rattle.std.specs.Result.{is_ok}
 use Rattle.file_die.specs.Bytes.{Bytes}
@@ -54,3 +55,6 @@ pub returns-clause-ended : goal.returns-clause-ended
 returns-clause-ended g c =
     rw (← c.self.view_is) (end_told g.F.ByteFile.gave c.args.row c.self.inside.size c.offset-start.result _ _ c.settle.new.self c.read_all-answer.new.file c.read_all-answer.result c.settle.result
     (rw (← c.self.view_is) at c.offset-start.ensures) (rw (← c.self.view_is) at c.requires.room) c.read_all-answer.ensures.ended c.settle.ensures.told c.settle.ensures.answer c.settle.ensures.file)
+
+pub returns-clause-counts : goal.returns-clause-counts
+returns-clause-counts g c = grind (arith, common_steps)

@@ -1,4 +1,5 @@
-use Rattle.std.proofs.Common.{◌≡◌, ◌∙◌, ap, refl, sym, subst, Bool}
+use Rattle.std.proofs.lemmas.Grind.{common_steps}
+use Rattle.std.proofs.Common.{arith, ◌≡◌, ◌∙◌, ap, refl, sym, subst, Bool}
 use Rattle.std.specs.Result.{is_ok}
 use Rattle.file_die.specs.Store.{Held, Syncs}
 use Rattle.file_die.specs.Rows.{held_in, syncs_lost}
@@ -43,3 +44,6 @@ returns-clause-kept g c reads =
     ∙ (ap (λ b. (held c.sync-answer.new.self).failed_syncs == syncs_lost b) c.settle-2.ensures.sync_failed
     ∙ (counts_lost (held i.file).failed_syncs (held c.sync-answer.new.self).failed_syncs (is_ok c.sync-answer.result) lost (c.sync-answer.ensures.settles h).syncs by.0 by.1
     ∙ ap (λ b. (held i.file).failed_syncs == syncs_lost b) (sym c.if-self.false)))))
+
+pub returns-then-self-clause-syncs : goal.returns-then-self-clause-syncs
+returns-then-self-clause-syncs g c = grind (arith, common_steps)

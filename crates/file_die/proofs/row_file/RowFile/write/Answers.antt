@@ -1,3 +1,4 @@
+use Rattle.std.proofs.lemmas.Grind.{common_steps}
 use Rattle.std.proofs.Common.{◌∙◌, ap, sym, subst, arith, ℕ, List, Bool, ◌≤◌, length}
 use Rattle.std.specs.Result.{is_ok}
 use Rattle.std.proofs.Math.Facts.{Fits-lt-pow}
@@ -63,3 +64,6 @@ returns-clause-written g c d h reads =
 pub returns-clause-full : goal.returns-clause-full
 returns-clause-full g c =
     rw (← c.self.view_is) (full_told g.F.ByteFile.wrote _ c.settle.new.self c.write_all-answer.new.file c.write_all-answer.result c.settle.result c.write_all-answer.ensures.fails c.settle.ensures.full c.settle.ensures.told c.settle.ensures.answer c.settle.ensures.file)
+
+pub returns-clause-counts : goal.returns-clause-counts
+returns-clause-counts g c = grind (arith, common_steps)

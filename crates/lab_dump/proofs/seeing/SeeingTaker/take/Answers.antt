@@ -1,11 +1,48 @@
-use Rattle.std.proofs.Common.{◌≡◌, ◌+◌, sym, ◌∙◌, ap, refl, subst}
+use Rattle.std.proofs.Common.{◌≡◌, ◌+◌, ◌-◌, ◌*◌, ◌^◌, ◌<◌, ◌≤◌, ℕ, Bool, List, length, sym, ◌∙◌, ap, arith, refl, subst}
 use Rattle.std.specs.Vec.{with_items}
 use Rattle.std.proofs.lemmas.List.{with_items_is}
+use Rattle.std.proofs.Math.Nat.{mul-le-mul}
+use Rattle.page_layout.specs.declared.geometry.Geometry.{Geometry}
+use Rattle.page_layout.specs.Geometry.{row_count}
 use Rattle.page_layout.specs.Page.{page}
-use Rattle.image_check.specs.Surveyed.{IsSurvey}
+use Rattle.image_check.specs.Surveyed.{IsSized, IsSurvey}
 use Rattle.lab_dump.specs.Count.{with_page_counted}
-use Rattle.lab_dump.proofs.CountLemmas.{counts_more}
+use Rattle.lab_dump.proofs.CountLemmas.{counts_more, few_more, few_weaker}
 use Rattle.lab_dump.proofs.seeing.SeeingTaker.take.Goals as goal
+
+-- so many pages are counted without a sum that wraps
+few_rows : (g : Geometry) (row : ℕ) → row < row_count g → row ≤ 2 ^ 32 - 2
+few_rows g row within =
+    let most : g.blocks * g.pages ≤ 4096 * 256 = mul-le-mul g.limits.block_count.most g.limits.page_count.most in
+    omega (arith, most, within)
+
+pub see-found-requires-clause-sized : goal.see-found-requires-clause-sized
+see-found-requires-clause-sized c = subst (λ k. IsSized k c.args.row c.args.self.now.survey) (sym c.requires.stands.geometry_is) c.requires.stands.sized
+
+pub step-self-requires : goal.step-self-requires
+step-self-requires c = few_weaker c.args.row (2 ^ 32 - 2) c.args.self.now.counts (few_rows c.args.geometry.now c.args.row c.requires.row_in) c.requires.stands.counts
+
+pub step-requires-clause-stands : goal.step-requires-clause-stands
+step-requires-clause-stands c = c.requires.stands.doubting
+
+pub returns-clause-stands : goal.returns-clause-stands
+returns-clause-stands c =
+    let g = c.args.geometry.now in
+    let row = c.args.row in
+    let stands = c.requires.stands in
+    let self = c.args.self.now in
+    let sized : IsSized g (row + 1) c.see-found.new.self = subst (λ k. IsSized k (row + 1) c.see-found.new.self) stands.geometry_is c.see-found.ensures.sized in
+    let formed_is : (with_items self.formed c.note_formed.new.formed).items ≡ c.note_formed.new.formed = with_items_is self.formed c.note_formed.new.formed (c.note_formed.auto.formed ∙ c.deref_mut.ensures.len) in
+    record {
+      geometry_is = sized.geometry_is;
+      sized = sized;
+      counts = few_more g row self.counts c.step-self.result c.see-found.result c.is_erased-erased.result stands.counts c.step-self.ensures;
+      formed = ap (λ (xs : List Bool). length xs) formed_is ∙ omega (arith, c.note_formed.auto.formed, c.deref_mut.ensures.len, stands.formed);
+      doubting = c.step.ensures.stands;
+      keys = stands.keys;
+      scratch = stands.scratch;
+      table = c.note_formed.ensures.table;
+    }
 
 pub returns-clause-shows : goal.returns-clause-shows
 returns-clause-shows c = λ image h at.
