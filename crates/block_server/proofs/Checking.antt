@@ -61,18 +61,18 @@ pub refusal_is : (e : Refusal) → e ≡ Source → refused_as e ≡ refused_as 
 refusal_is e is = ap refused_as is
 
 -- the run of the headline, its log, and the calls that are its events
-record RunsLegally {N : Type 0} (view : View N) (d e : Device N) (g : Geometry) (c : Claim) (s t : Flash) (ro pinned : Bool) (xs : List Exchange) : Type 0 where
-  pub run : HasRun (accepted_first g c) (accepted_device s c) (record { flash = t; ro = ro; pinned = pinned }) xs
+record RunsLegally {N : Type 0} (view : View N) (share : ℕ) (d e : Device N) (g : Geometry) (c : Claim) (s t : Flash) (ro pinned : Bool) (xs : List Exchange) : Type 0 where
+  pub run : HasRun (accepted_first g share c) (accepted_device s c) (record { flash = t; ro = ro; pinned = pinned }) xs
   pub legal : IsLegal g s.image (is_bad_in c) (log_of run.events)
   pub each : HappensEach view d run.events xs e
 
 -- Of a die as it was handed in, as the checker left it, and as the device gives it back.
-module _ {N : Type 0} (view : View N) (nand checked given : N) (g : Geometry) (capacity : ℕ) (c : Claim) (a : Acceptance) (d : Device N)
+module _ {N : Type 0} (view : View N) (nand checked given : N) (g : Geometry) (share capacity : ℕ) (c : Claim) (a : Acceptance) (d : Device N)
     (sized : (view.flash nand).geometry ≡ g) (sized' : (view.flash checked).geometry ≡ (view.flash nand).geometry)
     (honest_is : view.honest checked ≡ view.honest nand) (calm_is : view.calm checked ≡ view.calm nand) (failed_is : view.failed nand ≤ view.failed checked)
     (same : view.honest nand ≡ true → view.flash checked ≡ view.flash nand) (told : view.honest nand ≡ true → view.recorded checked ≡ view.recorded nand) (whole : view.honest nand ≡ true → IsImage g (view.flash nand).image)
     (claim_is : a.claim ≡ c) (acceptance : view.honest nand ≡ true → IsAcceptance g capacity (view.flash nand).image c a)
-    (device : IsDevice view.flash d) (nand_is : d.engine.nand ≡ checked) (begun : ram d.engine ≡ begun_ram (view.flash checked).geometry a.claim a.stale)
+    (device : IsDevice view.flash d) (nand_is : d.engine.nand ≡ checked) (begun : ram d.engine ≡ begun_ram (view.flash checked).geometry share a.claim a.stale)
     (truth : view.honest checked ≡ true → IsAcceptedFor (view.flash checked) a → IsTrue None (ram d.engine) (image_in view.flash d.engine))
     (free : view.honest checked ≡ true → IsAcceptedFor (view.flash checked) a → d.read_only ≡ is_scarce (free_in (view.flash checked).geometry a.claim (view.flash checked).image))
     (accounts : view.honest checked ≡ true → IsAcceptedFor (view.flash checked) a → IsAccounted (accounts_of (view.flash checked).geometry (view.flash checked).image (is_bad_in a.claim)) (state d.engine.blocks)) where
@@ -86,7 +86,7 @@ module _ {N : Type 0} (view : View N) (nand checked given : N) (g : Geometry) (c
   known_truth h = truth (honest_is ∙ h) (accepted h)
 
   pub well : view.honest nand ≡ true → IsWell view.flash d
-  well h = started_well view.flash d (view.flash checked).geometry a.claim a.stale begun (known_truth h)
+  well h = started_well view.flash d (view.flash checked).geometry share a.claim a.stale begun (known_truth h)
 
   -- it is read-only just where fewer than five blocks are free in the image
   pub closed_as : view.honest nand ≡ true → d.read_only ≡ is_scarce (free_in g c (view.flash nand).image)
@@ -101,21 +101,21 @@ module _ {N : Type 0} (view : View N) (nand checked given : N) (g : Geometry) (c
 
   -- the exchanges that lead to this device
   module _ (xs : List Exchange) (e : Device N) (runs_to : RunsTo view d xs e) where
-    runs : view.honest nand ≡ true → RunsLegally view d e g c (view.flash nand) (view.flash e.engine.nand) e.read_only (is_some e.engine.pinned) xs
+    runs : view.honest nand ≡ true → RunsLegally view share d e g c (view.flash nand) (view.flash e.engine.nand) e.read_only (is_some e.engine.pinned) xs
     runs h =
         let ran : Ran view d xs e = (runs_to.1 (ap view.honest nand_is ∙ (honest_is ∙ h)) (well h)).1 in
-        let from : RanFrom view (view.flash checked) a.claim xs e = ran_accepted view
-        (view.flash checked) a d e xs (ap view.flash nand_is) begun (accepted h) (free (honest_is ∙ h) (accepted h)) (accounts (honest_is ∙ h) (accepted h))
+        let from : RanFrom view (view.flash checked) share a.claim xs e = ran_accepted view
+        (view.flash checked) share a d e xs (ap view.flash nand_is) begun (accepted h) (free (honest_is ∙ h) (accepted h)) (accounts (honest_is ∙ h) (accepted h))
         ran in
-        let each = ran_each view (view.flash checked) a d e xs (ap view.flash nand_is) begun (accepted h) (free (honest_is ∙ h) (accepted h)) (accounts (honest_is ∙ h) (accepted h)) ran in
-        let first : RunsLegally view d e (view.flash checked).geometry a.claim (view.flash checked) (view.flash e.engine.nand) e.read_only (is_some e.engine.pinned) xs = record { run = from.run; legal = from.legal; each = each } in
-        let then : RunsLegally view d e (view.flash nand).geometry a.claim (view.flash nand) (view.flash e.engine.nand) e.read_only (is_some e.engine.pinned) xs =
-        subst (λ (f : Flash). RunsLegally view d e f.geometry a.claim f (view.flash e.engine.nand) e.read_only (is_some e.engine.pinned) xs) (same h) first in
-        let there : RunsLegally view d e g a.claim (view.flash nand) (view.flash e.engine.nand) e.read_only (is_some e.engine.pinned) xs =
-        subst (λ k. RunsLegally view d e k a.claim (view.flash nand) (view.flash e.engine.nand) e.read_only (is_some e.engine.pinned) xs) sized then in
-        subst (λ k. RunsLegally view d e g k (view.flash nand) (view.flash e.engine.nand) e.read_only (is_some e.engine.pinned) xs) claim_is there
+        let each = ran_each view (view.flash checked) share a d e xs (ap view.flash nand_is) begun (accepted h) (free (honest_is ∙ h) (accepted h)) (accounts (honest_is ∙ h) (accepted h)) ran in
+        let first : RunsLegally view share d e (view.flash checked).geometry a.claim (view.flash checked) (view.flash e.engine.nand) e.read_only (is_some e.engine.pinned) xs = record { run = from.run; legal = from.legal; each = each } in
+        let then : RunsLegally view share d e (view.flash nand).geometry a.claim (view.flash nand) (view.flash e.engine.nand) e.read_only (is_some e.engine.pinned) xs =
+        subst (λ (f : Flash). RunsLegally view share d e f.geometry a.claim f (view.flash e.engine.nand) e.read_only (is_some e.engine.pinned) xs) (same h) first in
+        let there : RunsLegally view share d e g a.claim (view.flash nand) (view.flash e.engine.nand) e.read_only (is_some e.engine.pinned) xs =
+        subst (λ k. RunsLegally view share d e k a.claim (view.flash nand) (view.flash e.engine.nand) e.read_only (is_some e.engine.pinned) xs) sized then in
+        subst (λ k. RunsLegally view share d e g k (view.flash nand) (view.flash e.engine.nand) e.read_only (is_some e.engine.pinned) xs) claim_is there
 
-    holds_to : HoldsTo view nand g capacity c d xs e
+    holds_to : HoldsTo view nand g share capacity c d xs e
     holds_to h =
         let its = runs h in
         record {
@@ -130,11 +130,11 @@ module _ {N : Type 0} (view : View N) (nand checked given : N) (g : Geometry) (c
     has_failed x f known bus tells = record { tells = tells; rose = fault_rose view e f x tells (runs_to.0.going (ap (λ (r : Ram). stop_of r.fault) begun) known) bus }
 
   -- the device as it was started
-  pub is_begun : IsBegun view nand g c d
+  pub is_begun : IsBegun view nand g share c d
   is_begun = record {
     device = device;
     stale = a.stale;
-    begun = begun ∙ (ap (λ k. begun_ram k a.claim a.stale) (sized' ∙ sized) ∙ ap (λ k. begun_ram g k a.stale) claim_is);
+    begun = begun ∙ (ap (λ k. begun_ram k share a.claim a.stale) (sized' ∙ sized) ∙ ap (λ k. begun_ram g share k a.stale) claim_is);
     stale_is = λ h. (acceptance h).stale_is;
     same = λ h. ap view.flash nand_is ∙ same h;
     told = λ h. ap view.recorded nand_is ∙ told h;
@@ -152,15 +152,15 @@ module _ {N : Type 0} (view : View N) (nand checked given : N) (g : Geometry) (c
         let from : HasRisen (view.failed checked) (view.failed e.engine.nand) = subst (λ n. HasRisen (view.failed n) (view.failed e.engine.nand)) nand_is risen in
         inr (subst (λ n. HasRisen (view.failed nand) (view.failed n)) (sym given_is) (risen_over (view.failed nand) (view.failed checked) (view.failed e.engine.nand) failed_is from))
 
-    holds_until : (xs : List Exchange) → Until (RunsTo view d) (Tells view) xs e → Until (HoldsTo view nand g capacity c d) (HasBusFailed view) xs e
+    holds_until : (xs : List Exchange) → Until (RunsTo view d) (Tells view) xs e → Until (HoldsTo view nand g share capacity c d) (HasBusFailed view) xs e
     holds_until xs until =
-        until_so (λ f. f) (RunsTo view d) (HoldsTo view nand g capacity c d)
+        until_so (λ f. f) (RunsTo view d) (HoldsTo view nand g share capacity c d)
         (Tells view) (HasBusFailed view) xs e holds_to
         (λ before mid x known runs_to bus tells. has_failed before mid runs_to x e known bus tells) until
 
     pub is_served : (u v b w : Option (List ℕ)) (result : Result Served ServeFault) → view.calm e.engine.nand ≡ view.calm d.engine.nand
         → Session view d e u v b w result
-        → IsServed view nand g capacity c u v b w result given
+        → IsServed view nand g share capacity c u v b w result given
     is_served u v b w result still session =
         let calls = session.told.calls in
         record {

@@ -20,10 +20,10 @@ use Rattle.block_server.specs.Checked.{Headline, HeadlineHolds, HoldsTo, HasBusF
 use Rattle.block_server.specs.Laws.{OneArrayLaw, HeadlineAnswersLaw, HeadlineLeadsLaw, HeadlineBadLaw, HeadlineOnceLaw, BegunImageLaw, BegunRecordLaw, ServedRecordLaw, FailedCallLaw, BegunCountsLaw, ServedLaw, BackLaw, UnservedLaw}
 
 pub one_array : OneArrayLaw
-one_array g capacity c s t xs h = (h.agrees, h.one)
+one_array g share capacity c s t xs h = (h.agrees, h.one)
 
 pub headline_answers : HeadlineAnswersLaw
-headline_answers g capacity c s t xs h =
+headline_answers g share capacity c s t xs h =
     let old : runs.DeviceView = accepted_device s c in
     let new : runs.DeviceView = record { flash = t; ro = h.ro; pinned = h.pinned } in
     let here : ArrayRun s.geometry (state_of old) (commands_of h.run.events) (replies_of h.run.events) (state_of new) = answers old new h.run.events h.run.run in
@@ -31,29 +31,29 @@ headline_answers g capacity c s t xs h =
     (subst (λ (cs : List step.Command). ArrayRun s.geometry (state_of old) cs (replies_of h.run.events) (state_of new)) h.run.commands here)
 
 pub headline_leads : HeadlineLeadsLaw
-headline_leads g capacity c s t xs h = one_log (accepted_device s c) (record { flash = t; ro = h.ro; pinned = h.pinned }) h.run.events h.run.run
+headline_leads g share capacity c s t xs h = one_log (accepted_device s c) (record { flash = t; ro = h.ro; pinned = h.pinned }) h.run.events h.run.run
 
 pub headline_bad : HeadlineBadLaw
-headline_bad g capacity c s t xs before after op h cut =
+headline_bad g share capacity c s t xs before after op h cut =
     no_bad_block g s.image (is_bad_in c) before after op (subst (λ (l : List Operation). IsLegal g s.image (is_bad_in c) l) cut h.legal)
 
 pub headline_once : HeadlineOnceLaw
-headline_once g capacity c s t xs before between after row p q left left' passed passed' h cut =
+headline_once g share capacity c s t xs before between after row p q left left' passed passed' h cut =
     not_twice g s.image (is_bad_in c) before between after row p q left left' passed passed' (subst (λ (l : List Operation). IsLegal g s.image (is_bad_in c) l) cut h.legal)
 
 module _ {N : Type 0} (view : View N) where
   pub begun_image : BegunImageLaw view
-  begun_image nand g c first is h = (is.same h, is.begun ∙ ap (begun_ram g c) (is.stale_is h))
+  begun_image nand g share c first is h = (is.same h, is.begun ∙ ap (begun_ram g share c) (is.stale_is h))
 
   pub begun_record : BegunRecordLaw view
-  begun_record nand g c first is h = is.told h
+  begun_record nand g share c first is h = is.told h
 
   pub begun_counts : BegunCountsLaw view
-  begun_counts nand g c first is = (is.honest_is, is.failed_is)
+  begun_counts nand g share c first is = (is.honest_is, is.failed_is)
 
   pub served_record : ServedRecordLaw view
-  served_record nand g capacity c first new xs is h holds =
-      subst (λ (r : Option Recording). Records r (log_of holds.headline.run.events) (view.recorded new.engine.nand)) (begun_record nand g c first is h)
+  served_record nand g share capacity c first new xs is h holds =
+      subst (λ (r : Option Recording). Records r (log_of holds.headline.run.events) (view.recorded new.engine.nand)) (begun_record nand g share c first is h)
       (run_records view first new holds.headline.run.events xs holds.each)
 
   pub failed_call : FailedCallLaw view
@@ -61,12 +61,12 @@ module _ {N : Type 0} (view : View N) where
 
 module _ {N : Type 0} (view : View N) where
   pub served_law : ServedLaw view
-  served_law nand g capacity c unread left before after result given s = (
+  served_law nand g share capacity c unread left before after result given s = (
     s.commands,
     s.each,
     λ h known.
-        let all = until_known (HoldsTo view nand g capacity c s.first) (HasBusFailed view) s.exchanges s.last s.headline known h in
-        subst (λ (f : Flash). Headline g capacity c (view.flash nand) f s.exchanges) (ap view.flash (sym s.given_is)) all.headline,
+        let all = until_known (HoldsTo view nand g share capacity c s.first) (HasBusFailed view) s.exchanges s.last s.headline known h in
+        subst (λ (f : Flash). Headline g share capacity c (view.flash nand) f s.exchanges) (ap view.flash (sym s.given_is)) all.headline,
   )
 
   pub back_law : BackLaw view

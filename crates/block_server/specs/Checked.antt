@@ -36,36 +36,36 @@ use Rattle.block_server.specs.Session.{ServesRequests}
 -- blocks: pages are programmed in their order, once between erases, and no block is programmed or erased that is bad or has failed. And
 -- each refusal shows what it says by the image and the log (`fair` in the run): `ReadOnly` comes only in a shortage. Where the die tells a
 -- record, what was answered stays, wherever the power goes in a call (`stopped` of each event there).
-pub record Headline (g : Geometry) (capacity : ℕ) (c : Claim) (s t : Flash) (xs : List Exchange) : Type 0 where
+pub record Headline (g : Geometry) (share capacity : ℕ) (c : Claim) (s t : Flash) (xs : List Exchange) : Type 0 where
   pub agrees : Agrees g capacity s.image c
   pub one : HasOneArray g s.image
   pub ro : Bool
   pub pinned : Bool
-  pub run : HasRun (accepted_first g c) (accepted_device s c) (record { flash = t; ro = ro; pinned = pinned }) xs
+  pub run : HasRun (accepted_first g share c) (accepted_device s c) (record { flash = t; ro = ro; pinned = pinned }) xs
   pub legal : IsLegal g s.image (is_bad_in c) (log_of run.events)
 
 -- the headline holds of these exchanges, and its events are the calls that lead from the one device to the other
 pub record HeadlineHolds {N : Type 0} (view : View N) (g : Geometry)
-    (capacity : ℕ) (c : Claim) (s : Flash) (old : Device N) (xs : List Exchange) (new : Device N) : Type 0 where
-  pub headline : Headline g capacity c s (view.flash new.engine.nand) xs
+    (share capacity : ℕ) (c : Claim) (s : Flash) (old : Device N) (xs : List Exchange) (new : Device N) : Type 0 where
+  pub headline : Headline g share capacity c s (view.flash new.engine.nand) xs
   pub each : HappensEach view old headline.run.events xs new
   pub ro_is : headline.ro ≡ new.read_only
   pub pinned_is : headline.pinned ≡ is_some new.engine.pinned
 
-abbrev pub HoldsTo : {N : Type 0} → (view : View N) → N → Geometry → ℕ → Claim → Device N → List Exchange → Device N → Type 0
-HoldsTo view nand g capacity c old xs new = view.honest nand ≡ true → HeadlineHolds view g capacity c (view.flash nand) old xs new
+abbrev pub HoldsTo : {N : Type 0} → (view : View N) → N → Geometry → (share capacity : ℕ) → Claim → Device N → List Exchange → Device N → Type 0
+HoldsTo view nand g share capacity c old xs new = view.honest nand ≡ true → HeadlineHolds view g share capacity c (view.flash nand) old xs new
 
 -- the bus failed in this call: the die's count of failures rose in it, or stands at its top
 pub record HasBusFailed {N : Type 0} (view : View N) (old : Device N) (x : Exchange) (new : Device N) : Type 0 where
   pub tells : Tells view old x new
   pub rose : HasRisen (view.failed old.engine.nand) (view.failed new.engine.nand)
 
--- a device that `start` begins from the certificate that was accepted, over a die that is as honest as it was and tells the same record: nothing is
+-- a device that `start_at` begins at this share from the certificate that was accepted, over a die that is as honest as it was and tells the same record: nothing is
 -- pinned, and no fault stands
-pub record IsBegun {N : Type 0} (view : View N) (nand : N) (g : Geometry) (c : Claim) (first : Device N) : Type 0 where
+pub record IsBegun {N : Type 0} (view : View N) (nand : N) (g : Geometry) (share : ℕ) (c : Claim) (first : Device N) : Type 0 where
   pub device : IsDevice view.flash first
   pub stale : List ℕ
-  pub begun : ram first.engine ≡ begun_ram g c stale
+  pub begun : ram first.engine ≡ begun_ram g share c stale
   pub stale_is : view.honest nand ≡ true → stale ≡ stale_sectors g (view.flash nand).image
   pub same : view.honest nand ≡ true → view.flash first.engine.nand ≡ view.flash nand
   pub told : view.honest nand ≡ true → view.recorded first.engine.nand ≡ view.recorded nand
@@ -79,11 +79,11 @@ pub record IsHandedBack {N : Type 0} (view : View N) (nand : N) (g : Geometry) (
   pub sized : (view.flash given).geometry ≡ g
   pub failed_is : view.failed nand ≤ view.failed given
 
--- Requests were served: what was read and written, and what the device answered, that `start` began over the die. It was told one after another, and
+-- Requests were served: what was read and written, and what the device answered, that `start_at` began over the die. It was told one after another, and
 -- each call did what it promises. Where the die is honest, the headline holds of the exchanges before the first fault of the bus: of all of them where there
 -- is none. From it on each is answered that fault.
 pub record IsServed {N : Type 0} (view : View N) (nand : N)
-    (g : Geometry) (capacity : ℕ) (c : Claim) (unread left before after : Option (List ℕ)) (result : Result Served ServeFault)
+    (g : Geometry) (share capacity : ℕ) (c : Claim) (unread left before after : Option (List ℕ)) (result : Result Served ServeFault)
     (given : N) : Type 0 where
   pub requests : List Request
   pub exchanges : List Exchange
@@ -94,10 +94,10 @@ pub record IsServed {N : Type 0} (view : View N) (nand : N)
   pub rose : AreKnown exchanges ⊎ HasRisen (view.failed nand) (view.failed given)
   pub first : Device N
   pub last : Device N
-  pub begun : IsBegun view nand g c first
+  pub begun : IsBegun view nand g share c first
   pub each : ToldEach view first exchanges last
   pub given_is : given ≡ last.engine.nand
-  pub headline : Until (HoldsTo view nand g capacity c first) (HasBusFailed view) exchanges last
+  pub headline : Until (HoldsTo view nand g share capacity c first) (HasBusFailed view) exchanges last
 
 -- nothing was read or written
 pub record IsUntouched (unread left before after : Option (List ℕ)) : Type 0 where
@@ -118,8 +118,8 @@ pub record IsUnstarted {N : Type 0} (view : View N) (nand : N) (g : Geometry) (c
   pub back : IsHandedBack view nand g given
 
 -- why requests were not served to their end
-abbrev pub FailsToServe : {N : Type 0} → (view : View N) → N → Geometry → ℕ
+abbrev pub FailsToServe : {N : Type 0} → (view : View N) → N → Geometry → (share capacity : ℕ)
     → Claim → (unread left before after : Option (List ℕ)) → RunFault N → Type 0
-FailsToServe view nand g capacity c unread left before after (Refused why given) = IsUntouched unread left before after × IsUnaccepted view nand g capacity c why given
-FailsToServe view nand g capacity c unread left before after (Start given) = IsUntouched unread left before after × IsUnstarted view nand g capacity c given
-FailsToServe view nand g capacity c unread left before after (Serve stop given) = IsServed view nand g capacity c unread left before after (Err stop) given
+FailsToServe view nand g share capacity c unread left before after (Refused why given) = IsUntouched unread left before after × IsUnaccepted view nand g capacity c why given
+FailsToServe view nand g share capacity c unread left before after (Start given) = IsUntouched unread left before after × IsUnstarted view nand g capacity c given
+FailsToServe view nand g share capacity c unread left before after (Serve stop given) = IsServed view nand g share capacity c unread left before after (Err stop) given

@@ -31,48 +31,48 @@ use Rattle.block_server.specs.Checked.{Headline, HeadlineHolds, HasBusFailed, Is
 
 -- the certificate agrees with the image, which holds one array without doubt
 abbrev pub OneArrayLaw : Type 0
-OneArrayLaw = (g : Geometry) (capacity : ℕ) (c : Claim) (s t : Flash) (xs : List Exchange) → Headline g capacity c s t xs → Agrees g capacity s.image c × HasOneArray g s.image
+OneArrayLaw = (g : Geometry) (share capacity : ℕ) (c : Claim) (s t : Flash) (xs : List Exchange) → Headline g share capacity c s t xs → Agrees g capacity s.image c × HasOneArray g s.image
 
 -- EACH ANSWER IS THE ARRAY'S: the replies answer the commands, from the array that the die held to the one that it holds
 abbrev pub HeadlineAnswersLaw : Type 0
-HeadlineAnswersLaw = (g : Geometry) (capacity : ℕ) (c : Claim) (s t : Flash) (xs : List Exchange) → (h : Headline g capacity c s t xs)
+HeadlineAnswersLaw = (g : Geometry) (share capacity : ℕ) (c : Claim) (s t : Flash) (xs : List Exchange) → (h : Headline g share capacity c s t xs)
     → ArrayRun s.geometry (state_of (accepted_device s c)) (commands_in xs) (replies_in xs) (state_of (record { flash = t; ro = h.ro; pinned = h.pinned }))
 
 -- one log leads the die from the one image to the other
 abbrev pub HeadlineLeadsLaw : Type 0
-HeadlineLeadsLaw = (g : Geometry) (capacity : ℕ) (c : Claim) (s t : Flash) (xs : List Exchange) → (h : Headline g capacity c s t xs) → Leads s (log_of h.run.events) t
+HeadlineLeadsLaw = (g : Geometry) (share capacity : ℕ) (c : Claim) (s t : Flash) (xs : List Exchange) → (h : Headline g share capacity c s t xs) → Leads s (log_of h.run.events) t
 
 -- NO BAD BLOCK is programmed or erased: none that the certificate gives as bad, and none that has failed
 abbrev pub HeadlineBadLaw : Type 0
-HeadlineBadLaw = (g : Geometry) (capacity : ℕ) (c : Claim) (s t : Flash) (xs : List Exchange) (before after : List Operation) (op : Operation) → (h : Headline g capacity c s t xs)
+HeadlineBadLaw = (g : Geometry) (share capacity : ℕ) (c : Claim) (s t : Flash) (xs : List Exchange) (before after : List Operation) (op : Operation) → (h : Headline g share capacity c s t xs)
     → log_of h.run.events ≡ before ++ op ∷ after → bad_of g.pages (is_bad_in c) before (block_of g.pages op) ≡ false
 
 -- NO PAGE IS PROGRAMMED TWICE but for an erase of its block between
 abbrev pub HeadlineOnceLaw : Type 0
-HeadlineOnceLaw = (g : Geometry) (capacity : ℕ) (c : Claim) (s t : Flash) (xs : List Exchange) (before between after : List Operation) (row : ℕ) (p q left left' : Page) (passed passed' : Bool)
-    → (h : Headline g capacity c s t xs) → log_of h.run.events ≡ before ++ Program row p passed left ∷ (between ++ Program row q passed' left' ∷ after)
+HeadlineOnceLaw = (g : Geometry) (share capacity : ℕ) (c : Claim) (s t : Flash) (xs : List Exchange) (before between after : List Operation) (row : ℕ) (p q left left' : Page) (passed passed' : Bool)
+    → (h : Headline g share capacity c s t xs) → log_of h.run.events ≡ before ++ Program row p passed left ∷ (between ++ Program row q passed' left' ∷ after)
     → 0 < erases_of between (row / g.pages)
 
 -- ---- of the device that it begins with
 
 -- over an honest die the device begins with the pages that were handed in, knows just the stale sectors of that image, and tells the same record
 abbrev pub BegunImageLaw : {N : Type 0} → View N → Type 0
-BegunImageLaw {N} view = (nand : N) (g : Geometry) (c : Claim) (first : Device N) → IsBegun view nand g c first
-    → view.honest nand ≡ true → (view.flash first.engine.nand ≡ view.flash nand) × (ram first.engine ≡ begun_ram g c (stale_sectors g (view.flash nand).image))
+BegunImageLaw {N} view = (nand : N) (g : Geometry) (share : ℕ) (c : Claim) (first : Device N) → IsBegun view nand g share c first
+    → view.honest nand ≡ true → (view.flash first.engine.nand ≡ view.flash nand) × (ram first.engine ≡ begun_ram g share c (stale_sectors g (view.flash nand).image))
 
 abbrev pub BegunRecordLaw : {N : Type 0} → View N → Type 0
-BegunRecordLaw {N} view = (nand : N) (g : Geometry) (c : Claim) (first : Device N) → IsBegun view nand g c first
+BegunRecordLaw {N} view = (nand : N) (g : Geometry) (share : ℕ) (c : Claim) (first : Device N) → IsBegun view nand g share c first
     → view.honest nand ≡ true → view.recorded first.engine.nand ≡ view.recorded nand
 
 -- whatever the die is, it is as honest as it was handed in, and its count of failures is no lower
 abbrev pub BegunCountsLaw : {N : Type 0} → View N → Type 0
-BegunCountsLaw {N} view = (nand : N) (g : Geometry) (c : Claim) (first : Device N) → IsBegun view nand g c first
+BegunCountsLaw {N} view = (nand : N) (g : Geometry) (share : ℕ) (c : Claim) (first : Device N) → IsBegun view nand g share c first
     → (view.honest first.engine.nand ≡ view.honest nand) × (view.failed nand ≤ view.failed first.engine.nand)
 
 -- THE RECORD OF WHAT WAS SERVED: what an honest die tells afterwards is what it told as it was handed in, with the log of the run, unless the record has ended
 abbrev pub ServedRecordLaw : {N : Type 0} → (view : View N) → Type 0
-ServedRecordLaw {N} view = (nand : N) (g : Geometry) (capacity : ℕ) (c : Claim) (first new : Device N) (xs : List Exchange)
-    → IsBegun view nand g c first → view.honest nand ≡ true → (h : HeadlineHolds view g capacity c (view.flash nand) first xs new)
+ServedRecordLaw {N} view = (nand : N) (g : Geometry) (share capacity : ℕ) (c : Claim) (first new : Device N) (xs : List Exchange)
+    → IsBegun view nand g share c first → view.honest nand ≡ true → (h : HeadlineHolds view g share capacity c (view.flash nand) first xs new)
     → Records (view.recorded nand) (log_of h.headline.run.events) (view.recorded new.engine.nand)
 
 -- ---- of the call that the bus failed in
@@ -87,10 +87,10 @@ FailedCallLaw {N} view = (old new : Device N) (x : Exchange) → HasBusFailed vi
 -- WHERE NO REPLY IS `BusFault`, the headline holds of all exchanges, up to the die that comes back. Whatever the replies, the device was told just the
 -- requests that were read, one call each from the device that it began with to the last one
 abbrev pub ServedLaw : {N : Type 0} → (view : View N) → Type 0
-ServedLaw {N} view = (nand : N) (g : Geometry) (capacity : ℕ) (c : Claim) (unread left before after : Option (List ℕ)) (result : Result Served ServeFault) (given : N)
-    → (s : IsServed view nand g capacity c unread left before after result given)
+ServedLaw {N} view = (nand : N) (g : Geometry) (share capacity : ℕ) (c : Claim) (unread left before after : Option (List ℕ)) (result : Result Served ServeFault) (given : N)
+    → (s : IsServed view nand g share capacity c unread left before after result given)
     → (commands_in s.exchanges ≡ map command_of s.requests) × ToldEach view s.first s.exchanges s.last
-    × (view.honest nand ≡ true → AreKnown s.exchanges → Headline g capacity c (view.flash nand) (view.flash given) s.exchanges)
+    × (view.honest nand ≡ true → AreKnown s.exchanges → Headline g share capacity c (view.flash nand) (view.flash given) s.exchanges)
 
 -- THE DIE THAT COMES BACK is as honest and as calm as it was handed in, of its geometry, and its count of failures is no lower
 abbrev pub BackLaw : {N : Type 0} → (view : View N) → Type 0

@@ -1,5 +1,6 @@
 //! A die is checked, a device is started over it, and requests are served.
 ghost use Rattle.std.specs.Prelude.{◌≡◌, Ok, IfOk, IfErr};
+ghost use Rattle.page_layout.specs.Geometry.{IsShare};
 ghost use Rattle.block_server.specs.Checked.{IsServed, FailsToServe};
 
 use crate::server::{Served, serve};
@@ -61,7 +62,7 @@ pub enum RunFault<N> {
 /// (This project's.)
 pub fn serve_checked<N: Nand, R: Read, W: Write>(
     alloc: Global,
-    mut nand: N,
+    nand: N,
     geometry: &Geometry,
     capacity: u32,
     certificate: &Certificate,
@@ -69,16 +70,52 @@ pub fn serve_checked<N: Nand, R: Read, W: Write>(
     writer: &mut W,
 ) -> Result<(Served, N), RunFault<N>>
     requires same_geometry { (N.view.flash nand).geometry ≡ geometry.now }
-    ensures served { IfOk result (λ done. IsServed N.view nand geometry.now capacity certificate.now
+    ensures served { IfOk result (λ done. IsServed N.view nand geometry.now 0 capacity certificate.now
         (R.remaining reader.old) (R.remaining reader.new) (W.contents writer.old) (W.contents writer.new) (Ok done.0) done.1) }
-    ensures fault { IfErr result (FailsToServe N.view nand geometry.now capacity certificate.now
+    ensures fault { IfErr result (FailsToServe N.view nand geometry.now 0 capacity certificate.now
+        (R.remaining reader.old) (R.remaining reader.new) (W.contents writer.old) (W.contents writer.new)) }
+{
+    serve_checked_at(
+        alloc,
+        nand,
+        geometry,
+        0,
+        capacity,
+        certificate,
+        reader,
+        writer,
+    )
+}
+
+/// As `serve_checked`, with a device as `Device::start_at` begins it: up to `share` moved sectors, in the mean,
+/// wait for each translation page, and the shortage asks for `Geometry::need_at` good blocks. `share` is one of
+/// the geometry: `Geometry::is_share`. The bold words hold at every share.
+///
+/// # Errors
+///
+/// As there. (This project's.)
+pub fn serve_checked_at<N: Nand, R: Read, W: Write>(
+    alloc: Global,
+    mut nand: N,
+    geometry: &Geometry,
+    share: u32,
+    capacity: u32,
+    certificate: &Certificate,
+    reader: &mut R,
+    writer: &mut W,
+) -> Result<(Served, N), RunFault<N>>
+    requires share { IsShare geometry.now share }
+    requires same_geometry { (N.view.flash nand).geometry ≡ geometry.now }
+    ensures served { IfOk result (λ done. IsServed N.view nand geometry.now share capacity certificate.now
+        (R.remaining reader.old) (R.remaining reader.new) (W.contents writer.old) (W.contents writer.new) (Ok done.0) done.1) }
+    ensures fault { IfErr result (FailsToServe N.view nand geometry.now share capacity certificate.now
         (R.remaining reader.old) (R.remaining reader.new) (W.contents writer.old) (W.contents writer.new)) }
 {
     let accepted = match check(alloc, &mut nand, geometry, capacity, certificate) {
         Ok(accepted) => accepted,
         Err(refusal) => return Err(RunFault::Refused { refusal, nand }),
     };
-    let mut device = match Device::start(alloc, nand, accepted) {
+    let mut device = match Device::start_at(alloc, nand, share, accepted) {
         Ok(device) => device,
         Err(StartFault::OutOfMemory { nand, .. }) => return Err(RunFault::Start { nand }),
     };

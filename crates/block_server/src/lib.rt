@@ -7,6 +7,6 @@ mod checked;
 mod laws;
 mod server;
 
-pub use checked::{RunFault, serve_checked};
+pub use checked::{RunFault, serve_checked, serve_checked_at};
 pub use laws::{headline_laws, served_laws};
 pub use server::{Served, serve};

@@ -1,12 +1,12 @@
 -- Collections until nine blocks are free.
-use Rattle.std.proofs.Common.{◌≡◌, ℕ, ◌+◌, ◌*◌, ◌≤◌, arith}
+use Rattle.std.proofs.Common.{◌≡◌, ℕ, ◌+◌, ◌*◌, ◌<◌, ◌≤◌, arith}
 use Rattle.std.specs.Int.{div_ceil}
 use Rattle.std.proofs.Math.Nat.{add-mul}
 use Rattle.std.proofs.lemmas.Grind.{div_ceil_times}
 use Rattle.page_layout.specs.Geometry.{translation_pages, vmax_at, flush_blocks_at}
 use Rattle.page_layout.proofs.GeometryLemmas.{no_share, flush_blocks_is}
 use Rattle.page_layout.proofs.LiveLemmas.{some_block_within}
-use Rattle.budget.specs.Laws.{FundedLaw, PutFundedLaw, CollectedFundedLaw, FreeLeftLaw, NeverStuckLaw, NineAtLaw, NineLaw, FlushLeavesLaw, FallsLaw}
+use Rattle.budget.specs.Laws.{FundedLaw, PutFundedLaw, CollectedFundedLaw, FreeLeftLaw, NeverStuckLaw, FreeAtLaw, NineLaw, FlushLeavesLaw, FallsLaw}
 use Rattle.budget.proofs.PutLemmas.{left_fits, pool_put}
 use Rattle.budget.proofs.AccountLemmas.{times_le, few_meta_openings}
 
@@ -39,9 +39,9 @@ free_left pages f s fits funded = free_at_least pages s.free s.data_left s.meta_
 pub never_stuck : NeverStuckLaw
 never_stuck pages f old new fits funded stuck = omega (arith, free_left pages f old fits funded, stuck.few)
 
-pub nine_at : NineAtLaw
-nine_at g share marks closed more free open_blocks enough two large =
-    let few : free ≤ 8 + flush_blocks_at g share + more → ⊥ = λ (f : free ≤ 8 + flush_blocks_at g share + more).
+pub free_at : FreeAtLaw
+free_at g share marks closed many free open_blocks enough two large =
+    let few : free < many → ⊥ = λ (f : free < many).
     (let found = some_block_within g marks closed (vmax_at g share) (omega (arith, enough, two, f)) in
     let over = large found.place (omega (arith, found.below)) found.is_closed in
     omega (arith, found.is_small, over)) in
@@ -50,7 +50,7 @@ nine_at g share marks closed more free open_blocks enough two large =
 pub nine : NineLaw
 nine g marks closed more free open_blocks enough two large =
     let zero = no_share g in
-    nine_at g 0 marks closed more free open_blocks (omega (arith, zero.need, enough)) two (λ b below is. omega (arith, zero.vmax, large b below is))
+    free_at g 0 marks closed (9 + more) free open_blocks (omega (arith, zero.need, enough)) two (λ b below is. omega (arith, zero.vmax, large b below is))
 
 pub flush_leaves : FlushLeavesLaw
 flush_leaves g share written first now some room few spent failed =

@@ -81,12 +81,12 @@ FreeLeftLaw = (pages failures : ℕ) (s : Counts) → Fits pages s → IsFunded 
 abbrev pub NeverStuckLaw : Type 0
 NeverStuckLaw = (pages failures : ℕ) (old new : Counts) → Fits pages old → IsFunded pages failures old → Stuck old new → 3 + new.good ≤ failures + old.good
 
--- With `need_at` good blocks collections go on until nine blocks and those of a flush are free, and with some more good ones until as many
--- more are: fewer free ones leave a closed block with at most `vmax_at` newest pages.
-abbrev pub NineAtLaw : Type 0
-NineAtLaw = (g : Geometry) (share : ℕ) (marks : List (Option Record)) (closed : ℕ → Bool) (more free open_blocks : ℕ)
-    → need_at g share + more ≤ free + open_blocks + blocks_that g closed → open_blocks ≤ 2
-    → ((block : ℕ) → block < g.blocks → closed block ≡ true → vmax_at g share < live g marks block) → 9 + flush_blocks_at g share + more ≤ free
+-- With `need_at` good blocks collections go on until nine blocks and those of a flush are free, with some more or fewer good ones until as many
+-- more or fewer are: fewer free ones leave a closed block with at most `vmax_at` newest pages.
+abbrev pub FreeAtLaw : Type 0
+FreeAtLaw = (g : Geometry) (share : ℕ) (marks : List (Option Record)) (closed : ℕ → Bool) (many free open_blocks : ℕ)
+    → need_at g share + many ≤ free + open_blocks + blocks_that g closed + (9 + flush_blocks_at g share) → open_blocks ≤ 2
+    → ((block : ℕ) → block < g.blocks → closed block ≡ true → vmax_at g share < live g marks block) → many ≤ free
 
 -- With share 0: with `need` good blocks collections go on until nine blocks are free, and with some more good ones until as many more are
 -- free: fewer free ones leave a closed block with at most `vmax` newest pages.

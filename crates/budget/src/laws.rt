@@ -1,7 +1,7 @@
 //! What a page costs, what a collection costs, and why nine blocks are enough.
 ghost use Rattle.budget.specs.Laws.{FirstTryLaw, FailedTryLaw, PassedTryLaw, NoTryLaw, NoPageLaw, OnePageLaw, OpeningsLaw, MetaOpeningsLaw, StuckLaw};
 ghost use Rattle.budget.specs.Laws.{CollectedLaw, FundedLaw, PutFundedLaw, CollectedFundedLaw, FreeLeftLaw, NeverStuckLaw, NineLaw, FallsLaw};
-ghost use Rattle.budget.specs.Laws.{NineAtLaw, FlushLeavesLaw, CopiesFitAtLaw, CopiesFitLaw, TouchedLaw};
+ghost use Rattle.budget.specs.Laws.{FreeAtLaw, FlushLeavesLaw, CopiesFitAtLaw, CopiesFitLaw, TouchedLaw};
 ghost use Rattle.budget.specs.Laws.{AccountBeginsLaw, CopyAccountLaw, WriteBackAccountLaw, WriteBacksLaw, BatchFitsLaw, SomeOverLaw};
 
 /// What a page costs that is tried again after each failure.
@@ -29,7 +29,7 @@ pub fn room_laws()
     ensures collected { CollectedFundedLaw }
     ensures free_left { FreeLeftLaw }
     ensures never_stuck { NeverStuckLaw }
-    ensures nine_at { NineAtLaw }
+    ensures free_at { FreeAtLaw }
     ensures nine { NineLaw }
     ensures flush_leaves { FlushLeavesLaw }
     ensures falls { FallsLaw }

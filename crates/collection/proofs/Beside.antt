@@ -43,6 +43,7 @@ module _ (old new : Ram) (pin : new.pin ≡ old.pin) (goes : Goes old new) where
   beside_filtered f limits part = record {
     pin = pin;
     goes = goes;
+    share = limits.share;
     fewer = (let e = few_in f old.mapping.moved in rw part e);
     moved = λ t now.
         let of_page : moved_in (per_page new.mapping) t new.mapping.moved ≡ moved_in (per_page old.mapping) t (filter f old.mapping.moved) = ap (λ g. moved_in (entries g) t new.mapping.moved) limits.geometry ∙ ap (moved_in (per_page old.mapping) t) part in
@@ -53,6 +54,7 @@ module _ (old new : Ram) (pin : new.pin ≡ old.pin) (goes : Goes old new) where
   beside_same same limits = record {
     pin = pin;
     goes = goes;
+    share = limits.share;
     fewer = (let e = ap (λ (l : List (ℕ × ℕ)). length l) same in omega (arith, e));
     moved = λ t now. sym (ap (λ l. not (length (moved_in (per_page old.mapping) t l) == 0)) same) ∙ (sym (ap (λ g. not (length (moved_in (entries g) t new.mapping.moved) == 0)) limits.geometry) ∙ now);
   }
@@ -60,8 +62,8 @@ module _ (old new : Ram) (pin : new.pin ≡ old.pin) (goes : Goes old new) where
   -- a translation page was written, or the call was refused
   pub beside_written : (t : ℕ) → (new.mapping ≡ old.mapping) ⊎ (new.mapping ≡ cleaned old.mapping t) → LeavesPin old new
   beside_written t is = elim is [
-    | inl same ↦ beside_same (ap (λ (m : MappingState). m.moved) same) (record { geometry = ap (λ (m : MappingState). m.geometry) same; capacity = ap (λ (m : MappingState). m.capacity) same })
-    | inr clean ↦ beside_filtered (λ e. not (e.0 / per_page old.mapping == t)) (record { geometry = ap (λ (m : MappingState). m.geometry) clean; capacity = ap (λ (m : MappingState). m.capacity) clean }) (ap (λ (m : MappingState). m.moved) clean)
+    | inl same ↦ beside_same (ap (λ (m : MappingState). m.moved) same) (record { geometry = ap (λ (m : MappingState). m.geometry) same; capacity = ap (λ (m : MappingState). m.capacity) same; share = ap (λ (m : MappingState). m.share) same })
+    | inr clean ↦ beside_filtered (λ e. not (e.0 / per_page old.mapping == t)) (record { geometry = ap (λ (m : MappingState). m.geometry) clean; capacity = ap (λ (m : MappingState). m.capacity) clean; share = ap (λ (m : MappingState). m.share) clean }) (ap (λ (m : MappingState). m.moved) clean)
   ]
 
 -- nothing but the mapping changes
@@ -69,8 +71,8 @@ goes_mapped : (old : Ram) (m : MappingState) → Goes old (record old { mapping 
 goes_mapped old m = (let g = goes_same old in record { geometry = g.geometry; next = g.next; shut = g.shut })
 
 mapped_by : (slot : Option Slot) (old : Ram) (n : ℕ) (row : Option ℕ) → LeavesPin old (record old { mapping = loaded_by slot old.mapping n row })
-mapped_by (Some s) old n row = beside_same old (record old { mapping = loaded_by (Some s) old.mapping n row }) refl (goes_mapped old (loaded_by (Some s) old.mapping n row)) refl (record { geometry = refl; capacity = refl })
-mapped_by None old n row = beside_filtered old (record old { mapping = loaded_by None old.mapping n row }) refl (goes_mapped old (loaded_by None old.mapping n row)) (λ e. not (e.0 == n)) (record { geometry = refl; capacity = refl }) refl
+mapped_by (Some s) old n row = beside_same old (record old { mapping = loaded_by (Some s) old.mapping n row }) refl (goes_mapped old (loaded_by (Some s) old.mapping n row)) refl (record { geometry = refl; capacity = refl; share = refl })
+mapped_by None old n row = beside_filtered old (record old { mapping = loaded_by None old.mapping n row }) refl (goes_mapped old (loaded_by None old.mapping n row)) (λ e. not (e.0 == n)) (record { geometry = refl; capacity = refl; share = refl }) refl
 
 -- a sector was cached
 pub beside_loaded : (old new : Ram) (n : ℕ) (row : Option ℕ) → new ≡ record old { mapping = loaded old.mapping n row } → LeavesPin old new
@@ -82,13 +84,14 @@ pub beside_then : (a b c : Ram) → LeavesPin a b → LeavesPin b c → LeavesPi
 beside_then a b c x y = record {
   pin = y.pin ∙ x.pin;
   goes = goes_then a b c x.goes y.goes;
+  share = y.share ∙ x.share;
   fewer = omega (arith, x.fewer, y.fewer);
   moved = λ t now. x.moved t (y.moved t now);
 }
 
 -- a fault that is noted changes nothing of it
 pub beside_noted : (fault : Option EngineFault) (a b : Ram) → LeavesPin a b → LeavesPin a (record b { fault = fault })
-beside_noted fault a b x = record { pin = x.pin; goes = (let g = x.goes in record { geometry = g.geometry; next = g.next; shut = g.shut }); fewer = x.fewer; moved = x.moved }
+beside_noted fault a b x = record { pin = x.pin; goes = (let g = x.goes in record { geometry = g.geometry; next = g.next; shut = g.shut }); share = x.share; fewer = x.fewer; moved = x.moved }
 
 -- also where nothing is said of a refused call
 pub beside_noted_ok : {A : Type 0} (fault : Option EngineFault) (a b : Ram) (result : Result A EngineFault) → OnOk result (LeavesPin a b) → OnOk result (LeavesPin a (record b { fault = fault }))

@@ -30,11 +30,12 @@ use Rattle.collection.specs.Results.{MayPut, IsReplaced, IsLastPage, Goes, last_
 use Rattle.collection.specs.Cost.{HasPut, PutCosts}
 use Rattle.collection.specs.Settle.{HasPlace, SetsMapping}
 use Rattle.page_layout.proofs.VersionLemmas.{written_not_old}
-use Rattle.collection.specs.Collect.{IsMovedOut, IsRenewed, KeepsKeys, HasCopied, FaultCosts, Refreshes, IsUpToDate, marks_after}
+use Rattle.collection.specs.Collect.{waiting, IsMovedOut, IsRenewed, KeepsKeys, HasCopied, FaultCosts, Refreshes, IsUpToDate, marks_after}
 use Rattle.collection.specs.declared.fault.EngineFault.TheVariants.{ReadOnly, SequenceSpent, Damaged, Bus}
 use Rattle.budget.specs.declared.stream.Stream.{Stream}
 use Rattle.page_layout.proofs.GeometryLemmas.{sector_entry}
 use Rattle.std.specs.Map.{keys_of}
+use Rattle.collection.proofs.Memory.{moved_places}
 use Rattle.collection.proofs.Dues.{HasFollowed, copied_due, copied_refreshes}
 use Rattle.collection.proofs.MapLemmas.{entry_here, none_not}
 use Rattle.collection.proofs.Puts.{leaves_written, written_keeps}
@@ -131,18 +132,18 @@ mark_within r key n e s of_key is same =
     let l : n / e < translation_pages r.geometry = rw same (sector_entry r.geometry n lt) in
     omega (arith, s.marks)
 
-pub place_any : (r : Ram) (key : Key) → IsRam r → length r.mapping.moved < r.geometry.pages → HasPlace r.mapping key
-place_any r (Sector n) s lt = λ uncached unmoved. rw s.mapping_of lt
+pub place_any : (r : Ram) (key : Key) → IsRam r → length r.mapping.moved < waiting r + r.geometry.pages → HasPlace r.mapping key
+place_any r (Sector n) s lt = λ uncached unmoved. let room = moved_places r s in omega arith
 place_any r (Translation t) s lt = tt
 place_any r (Table u) s lt = tt
 
-moves_one : (key : Key) (row : ℕ) (m m' : MappingState) → SetsMapping key row m m' → length m'.moved ≤ length m.moved + 1
+pub moves_one : (key : Key) (row : ℕ) (m m' : MappingState) → SetsMapping key row m m' → length m'.moved ≤ length m.moved + 1
 moves_one (Sector n) row m m' s = s.moved
 moves_one (Translation t) row m m' s = (let l = ap (λ (z : MappingState). length z.moved) s in omega arith)
 moves_one (Table u) row m m' s = (let l = ap (λ (z : MappingState). length z.moved) s in omega arith)
 
 pub keys_same : (m m' : MappingState) → m' ≡ m → KeepsKeys m m'
-keys_same m m' s = record { limits = record { geometry = ap (λ (z : MappingState). z.geometry) s; capacity = ap (λ (z : MappingState). z.capacity) s }; keys = ap (λ (z : MappingState). keys_of z.cached) s }
+keys_same m m' s = record { limits = record { geometry = ap (λ (z : MappingState). z.geometry) s; capacity = ap (λ (z : MappingState). z.capacity) s; share = ap (λ (z : MappingState). z.share) s }; keys = ap (λ (z : MappingState). keys_of z.cached) s }
 
 pub keys_set : (key : Key) (row : ℕ) (m m' : MappingState) → SetsMapping key row m m' → KeepsKeys m m'
 keys_set (Sector n) row m m' s = record { limits = s.limits; keys = s.keys }
@@ -150,7 +151,7 @@ keys_set (Translation t) row m m' s = keys_same m m' s
 keys_set (Table u) row m m' s = keys_same m m' s
 
 pub keys_then : (a b c : MappingState) → KeepsKeys a b → KeepsKeys b c → KeepsKeys a c
-keys_then a b c x y = record { limits = record { geometry = y.limits.geometry ∙ x.limits.geometry; capacity = y.limits.capacity ∙ x.limits.capacity }; keys = y.keys ∙ x.keys }
+keys_then a b c x y = record { limits = record { geometry = y.limits.geometry ∙ x.limits.geometry; capacity = y.limits.capacity ∙ x.limits.capacity; share = y.limits.share ∙ x.limits.share }; keys = y.keys ∙ x.keys }
 
 pub marked_at : (flushing : Bool) (key key' : Key) (b r' : Ram) → key' ≡ key
     → r' ≡ record b { pin = record { block = b.pin.block; marks = marks_after flushing b.geometry key' b.pin.marks } }

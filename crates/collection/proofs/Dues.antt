@@ -1,9 +1,9 @@
 -- Which translation pages have to be written.
-use Rattle.std.proofs.Common.{◌≡◌, ◌≢◌, inl, inr, ℕ, zero, suc, ◌+◌, ◌/◌, ◌<◌, ◌≤◌, ◌==◌, ◌&&◌, ◌||◌, Bool, true, false, not, List, [], ◌∷◌, ◌++◌, length}
+use Rattle.std.proofs.Common.{◌≡◌, ◌≢◌, inl, inr, ℕ, zero, suc, ◌+◌, ◌/◌, ◌<◌, ◌≤◌, ◌==◌, ◌&&◌, ◌||◌, Bool, true, false, not, List, [], ◌∷◌, ◌++◌, length, nat_lt}
 use Rattle.std.proofs.Common.{get_or, set, count_by, refl, ap, sym, ◌∙◌, subst, arith, get_or-set_same, get_or-set_other}
 use Rattle.std.specs.List.{range_with_len}
 use Rattle.std.specs.Map.{keys_of}
-use Rattle.std.proofs.lemmas.Bool.{cases_eq, eq-eqb, ne_eqb}
+use Rattle.std.proofs.lemmas.Bool.{cases_eq, eq-eqb, ne_eqb, le-ltb}
 use Rattle.page_layout.specs.declared.geometry.Geometry.{Geometry}
 use Rattle.page_layout.specs.declared.record.Key.{Key}
 use Rattle.page_layout.specs.declared.record.Key.TheVariants.{Sector, Translation, Table}
@@ -16,33 +16,9 @@ use Rattle.allocation.proofs.CountLemmas.{count_moved}
 use Rattle.collection.specs.State.{Ram}
 use Rattle.collection.specs.Safe.{IsRam}
 use Rattle.collection.specs.Settle.{SetsMapping, Cleans}
-use Rattle.collection.specs.Collect.{has_moved, is_marked, is_due, due_count, marks_after, IsUpToDate, Refreshes, HasNoneDue}
+use Rattle.collection.specs.Collect.{is_marked, is_due, is_owed, owed_count, due_count, marks_after, IsUpToDate, Refreshes, OwesNone}
 
 -- ---- the moved list
-
-without_head : (n pp t : ℕ) (e : ℕ × ℕ) (ms : List (ℕ × ℕ)) → t ≢ n / pp → (b : Bool) → (e.0 == n) ≡ b → (c : Bool) → (e.0 / pp == t) ≡ c → moved_in pp t (without n ms) ≡ moved_in pp t ms → moved_in pp t (without n (e ∷ ms)) ≡ moved_in pp t (e ∷ ms)
-without_head n pp t e ms ne true here true of_page rest =
-    let same : e.0 ≡ n = Rattle.std.proofs.lemmas.Bool.eqb-true e.0 n here in
-    let page : e.0 / pp ≡ t = Rattle.std.proofs.lemmas.Bool.eqb-true (e.0 / pp) t of_page in
-    absurd (ne (sym page ∙ ap (λ k. k / pp) same))
-without_head n pp t e ms ne true here false of_page rest = rw (here, of_page) rest
-without_head n pp t e ms ne false here true of_page rest = rw (here, of_page) (ap (λ l. e ∷ l) rest)
-without_head n pp t e ms ne false here false of_page rest = rw (here, of_page) rest
-
-without_others : (n pp t : ℕ) (ms : List (ℕ × ℕ)) → t ≢ n / pp → moved_in pp t (without n ms) ≡ moved_in pp t ms
-without_others n pp t [] ne = refl
-without_others n pp t (e ∷ ms) ne = without_head n pp t e ms ne (e.0 == n) refl (e.0 / pp == t) refl (without_others n pp t ms ne)
-
-append_head : (pp t n row : ℕ) (e : ℕ × ℕ) (ms : List (ℕ × ℕ)) (b : Bool) → (e.0 / pp == t) ≡ b → moved_in pp t (ms ++ (n, row) ∷ []) ≡ moved_in pp t ms → moved_in pp t ((e ∷ ms) ++ (n, row) ∷ []) ≡ moved_in pp t (e ∷ ms)
-append_head pp t n row e ms true is rest = rw is (ap (λ l. e ∷ l) rest)
-append_head pp t n row e ms false is rest = rw is rest
-
-append_other : (pp t n row : ℕ) (ms : List (ℕ × ℕ)) → t ≢ n / pp → moved_in pp t (ms ++ (n, row) ∷ []) ≡ moved_in pp t ms
-append_other pp t n row [] ne = (let e : (n / pp == t) ≡ false = ne_eqb (n / pp) t (λ x. ne (sym x)) in rw e refl)
-append_other pp t n row (e ∷ ms) ne = append_head pp t n row e ms (e.0 / pp == t) refl (append_other pp t n row ms ne)
-
-pub moved_others : (pp t n row : ℕ) (ms : List (ℕ × ℕ)) → t ≢ n / pp → moved_in pp t (without n ms ++ (n, row) ∷ []) ≡ moved_in pp t ms
-moved_others pp t n row ms ne = append_other pp t n row (without n ms) ne ∙ without_others n pp t ms ne
 
 -- the sectors of a page leave it
 left_head : (pp t k : ℕ) (e : ℕ × ℕ) (ms : List (ℕ × ℕ)) → k ≢ t → (b : Bool) → (e.0 / pp == t) ≡ b → (c : Bool) → (e.0 / pp == k) ≡ c → moved_in pp k (without_page pp t ms) ≡ moved_in pp k ms → moved_in pp k (without_page pp t (e ∷ ms)) ≡ moved_in pp k (e ∷ ms)
@@ -66,6 +42,16 @@ pub left_none : (pp t : ℕ) (ms : List (ℕ × ℕ)) → moved_in pp t (without
 left_none pp t [] = refl
 left_none pp t (e ∷ ms) = none_head pp t e ms (e.0 / pp == t) refl (left_none pp t ms)
 
+-- the others stay
+parts_head : (pp t : ℕ) (e : ℕ × ℕ) (ms : List (ℕ × ℕ)) (b : Bool) → (e.0 / pp == t) ≡ b → length (moved_in pp t ms) + length (without_page pp t ms) ≡ length ms
+    → length (moved_in pp t (e ∷ ms)) + length (without_page pp t (e ∷ ms)) ≡ length (e ∷ ms)
+parts_head pp t e ms true is rest = rw is (omega arith)
+parts_head pp t e ms false is rest = rw is (omega arith)
+
+pub length_parts : (pp t : ℕ) (ms : List (ℕ × ℕ)) → length (moved_in pp t ms) + length (without_page pp t ms) ≡ length ms
+length_parts pp t [] = refl
+length_parts pp t (e ∷ ms) = parts_head pp t e ms (e.0 / pp == t) refl (length_parts pp t ms)
+
 -- ---- how many have to be written
 
 -- at most one page's turn has changed
@@ -76,7 +62,7 @@ one_more p q t n same lt = (let e = count_moved p q t 0 n same (omega arith) (om
     most true = omega arith
     most false = omega arith
 
-one_less : (p q : ℕ → Bool) (t n : ℕ) → ((k : ℕ) → k ≢ t → q k ≡ p k) → t < n → p t ≡ true → q t ≡ false → count_by q (range_with_len 0 n) + 1 ≤ count_by p (range_with_len 0 n)
+pub one_less : (p q : ℕ → Bool) (t n : ℕ) → ((k : ℕ) → k ≢ t → q k ≡ p k) → t < n → p t ≡ true → q t ≡ false → count_by q (range_with_len 0 n) + 1 ≤ count_by p (range_with_len 0 n)
 one_less p q t n same lt was now = (let e = count_moved p q t 0 n same (omega arith) (omega arith) in let a : bit (p t) ≡ 1 = ap bit was in let b : bit (q t) ≡ 0 = ap bit now in omega (arith, e))
 
 -- ---- a sector was copied
@@ -96,20 +82,31 @@ unmarked_key true g (Translation t) ms not = refl
 unmarked_key true g (Table u) ms not = refl
 unmarked_key false g key ms not = refl
 
-due_by : (flushing : Bool) (pp t : ℕ) (moved moved' : List (ℕ × ℕ)) (mark mark' : Bool) → moved_in pp t moved' ≡ moved_in pp t moved → mark' ≡ mark
-    → (not (length (moved_in pp t moved') == 0) || (flushing && mark')) ≡ (not (length (moved_in pp t moved) == 0) || (flushing && mark))
-due_by flushing pp t moved moved' mark mark' m k = rw (m, k) refl
+-- whether a page has to be written is a question of how many of its sectors are moved, and of its mark
+asked : (ask : ℕ → Bool) (flushing : Bool) (pp t : ℕ) (moved moved' : List (ℕ × ℕ)) (mark mark' : Bool) → moved_in pp t moved' ≡ moved_in pp t moved → mark' ≡ mark
+    → (ask (length (moved_in pp t moved')) || (flushing && mark')) ≡ (ask (length (moved_in pp t moved)) || (flushing && mark))
+asked ask flushing pp t moved moved' mark mark' m k = rw (m, k) refl
 
--- a page of a sector that was copied has no other translation page written
-pub other_due : (flushing : Bool) (n row : ℕ) (r r' : Ram) → IsRam r → HasFollowed flushing (Sector n) row r r' → (k : ℕ) → k ≢ n / entries r.geometry → is_due flushing r' k ≡ is_due flushing r k
-other_due flushing n row r r' s f k ne =
-    let pp_is : per_page r.mapping ≡ entries r.geometry = ap entries s.mapping_of in
-    let pp'_is : per_page r'.mapping ≡ per_page r.mapping = ap entries f.mapping.limits.geometry in
-    let others : moved_in (per_page r.mapping) k r'.mapping.moved ≡ moved_in (per_page r.mapping) k r.mapping.moved = f.mapping.moved_others k (λ e. ne (e ∙ ap (λ p. n / p) pp_is)) in
-    let mark : get_or r'.pin.marks k false ≡ get_or r.pin.marks k false = ap (λ l. get_or l k false) f.marks ∙ marked_other flushing r.geometry n k r.pin.marks ne in
-    ap (λ p. not (length (moved_in p k r'.mapping.moved) == 0) || (flushing && get_or r'.pin.marks k false)) pp'_is ∙ due_by flushing (per_page r.mapping) k r.mapping.moved r'.mapping.moved (get_or r.pin.marks k false) (get_or r'.pin.marks k false) others mark
+module _ (flushing : Bool) (n row : ℕ) (r r' : Ram) (s : IsRam r) (f : HasFollowed flushing (Sector n) row r r') (k : ℕ) (ne : k ≢ n / entries r.geometry) where
+  other_asked : (ask : ℕ → Bool) → (ask (length (moved_in (per_page r'.mapping) k r'.mapping.moved)) || (flushing && is_marked r' k)) ≡ (ask (length (moved_in (per_page r.mapping) k r.mapping.moved)) || (flushing && is_marked r k))
+  other_asked ask =
+      let pp_is : per_page r.mapping ≡ entries r.geometry = ap entries s.mapping_of in
+      let pp'_is : per_page r'.mapping ≡ per_page r.mapping = ap entries f.mapping.limits.geometry in
+      let others : moved_in (per_page r.mapping) k r'.mapping.moved ≡ moved_in (per_page r.mapping) k r.mapping.moved = f.mapping.moved_others k (λ e. ne (e ∙ ap (λ p. n / p) pp_is)) in
+      let mark : is_marked r' k ≡ is_marked r k = ap (λ l. get_or l k false) f.marks ∙ marked_other flushing r.geometry n k r.pin.marks ne in
+      ap (λ p. ask (length (moved_in p k r'.mapping.moved)) || (flushing && is_marked r' k)) pp'_is ∙ asked ask flushing (per_page r.mapping) k r.mapping.moved r'.mapping.moved (is_marked r k) (is_marked r' k) others mark
+
+  -- a page of a sector that was copied has no other translation page written
+  pub other_due : is_due flushing r' k ≡ is_due flushing r k
+  other_due = ap (λ share. nat_lt share (length (moved_in (per_page r'.mapping) k r'.mapping.moved)) || (flushing && is_marked r' k)) f.mapping.limits.share ∙ other_asked (nat_lt r.mapping.share)
+
+  pub other_owed : is_owed flushing r' k ≡ is_owed flushing r k
+  other_owed = other_asked (λ m. not (m == 0))
 
 -- nor has a page of no sector
+pub same_owed : (flushing : Bool) (r r' : Ram) → r'.mapping ≡ r.mapping → r'.pin.marks ≡ r.pin.marks → (k : ℕ) → is_owed flushing r' k ≡ is_owed flushing r k
+same_owed flushing r r' m marks k = rw (m, marks) refl
+
 pub same_due : (flushing : Bool) (r r' : Ram) → r'.mapping ≡ r.mapping → r'.pin.marks ≡ r.pin.marks → (k : ℕ) → is_due flushing r' k ≡ is_due flushing r k
 same_due flushing r r' m marks k = rw (m, marks) refl
 
@@ -158,22 +155,35 @@ module _ (t : ℕ) (r r' : Ram) (s : IsRam r) (lt : t < translation_pages r.geom
   mark_here : get_or r'.pin.marks t false ≡ false
   mark_here = ap (λ l. get_or l t false) f.marks ∙ get_or-set_same r.pin.marks t false false (omega (arith, s.marks))
 
+  module _ (flushing : Bool) (ask : ℕ → Bool) (asks_some : ask 0 ≡ false) where
+    abbrev asks : Ram → ℕ → Bool
+    asks q k = ask (length (moved_in (per_page q.mapping) k q.mapping.moved)) || (flushing && is_marked q k)
+
+    written_asked : asks r t ≡ true → count_by (asks r') (range_with_len 0 (translation_pages r'.geometry)) + 1 ≤ count_by (asks r) (range_with_len 0 (translation_pages r.geometry))
+    written_asked was =
+        let same : (k : ℕ) → k ≢ t → asks r' k ≡ asks r k = λ k ne.
+        ap (λ (m : MappingState). ask (length (moved_in (per_page m) k m.moved)) || (flushing && is_marked r' k)) f.mapping
+        ∙ asked ask flushing (per_page r.mapping) k r.mapping.moved (without_page (per_page r.mapping) t r.mapping.moved) (is_marked r k)
+        (is_marked r' k) (left_others (per_page r.mapping) t k r.mapping.moved ne) (mark_there k ne) in
+        let now : asks r' t ≡ false =
+        ap (λ (m : MappingState). ask (length (moved_in (per_page m) t m.moved)) || (flushing && is_marked r' t)) f.mapping
+        ∙ (ap (λ l. ask (length l) || (flushing && is_marked r' t)) (left_none (per_page r.mapping) t r.mapping.moved)
+        ∙ none flushing (is_marked r' t) mark_here) in
+        let e = one_less (asks r) (asks r') t (translation_pages r.geometry) same lt was now in
+        rw f.geometry e
+      where
+        none : (b m : Bool) → m ≡ false → (ask 0 || (b && m)) ≡ false
+        none true m is = rw asks_some is
+        none false m is = rw asks_some refl
+
   pub written_due : (flushing : Bool) → is_due flushing r t ≡ true → due_count flushing r' + 1 ≤ due_count flushing r
   written_due flushing was =
-      let same : (k : ℕ) → k ≢ t → is_due flushing r' k ≡ is_due flushing r k = λ k ne.
-      ap (λ (m : MappingState). not (length (moved_in (per_page m) k m.moved) == 0) || (flushing && get_or r'.pin.marks k false)) f.mapping
-      ∙ due_by flushing (per_page r.mapping) k r.mapping.moved (without_page (per_page r.mapping) t r.mapping.moved) (get_or r.pin.marks k false)
-      (get_or r'.pin.marks k false) (left_others (per_page r.mapping) t k r.mapping.moved ne) (mark_there k ne) in
-      let now : is_due flushing r' t ≡ false =
-      ap (λ (m : MappingState). not (length (moved_in (per_page m) t m.moved) == 0) || (flushing && get_or r'.pin.marks t false)) f.mapping
-      ∙ (ap (λ l. not (length l == 0) || (flushing && get_or r'.pin.marks t false)) (left_none (per_page r.mapping) t r.mapping.moved)
-      ∙ none flushing (get_or r'.pin.marks t false) mark_here) in
-      let e = one_less (is_due flushing r) (is_due flushing r') t (translation_pages r.geometry) same lt was now in
-      rw f.geometry e
-    where
-      none : (b m : Bool) → m ≡ false → (not (0 == 0) || (b && m)) ≡ false
-      none true m is = is
-      none false m is = refl
+      let less = written_asked flushing (nat_lt r.mapping.share) (le-ltb _ _ (omega arith)) was in
+      let same : r'.mapping.share ≡ r.mapping.share = ap (λ m. m.share) f.mapping in
+      (let P : ℕ → Type 0 = λ share. count_by (λ k. nat_lt share (length (moved_in (per_page r'.mapping) k r'.mapping.moved)) || (flushing && is_marked r' k)) (range_with_len 0 (translation_pages r'.geometry)) + 1 ≤ due_count flushing r in subst P (sym same) less)
+
+  pub written_owed : (flushing : Bool) → is_owed flushing r t ≡ true → owed_count flushing r' + 1 ≤ owed_count flushing r
+  written_owed flushing was = written_asked flushing (λ m. not (m == 0)) refl was
 
   pub written_refreshes : Cleans (per_page r.mapping) t r.mapping r'.mapping → Refreshes r r'
   written_refreshes c = record {
@@ -188,16 +198,8 @@ module _ (t : ℕ) (r r' : Ram) (s : IsRam r) (lt : t < translation_pages r.geom
 
 -- ---- none has to be written any more
 
-none_marked : (flushing : Bool) (r : Ram) (t : ℕ) → is_due flushing r t ≡ false → flushing ≡ true → is_marked r t ≡ false
-none_marked true r t is did = by (has_moved r.mapping t) (is_marked r t) is
-  where
-    by : (a b : Bool) → (a || b) ≡ false → b ≡ false
-    by true b e = (let no : ⊥ = cc in absurd no)
-    by false b e = e
-none_marked false r t is did = (let no : ⊥ = cc in absurd no)
-
-pub erased_refreshes : (r r' : Ram) → HasNoneDue true r → r'.geometry ≡ r.geometry → r'.mapping ≡ r.mapping → Refreshes r r'
-erased_refreshes r r' none g m = record { each = λ t within fresh unmarked. (let P : MappingState → Type 0 = λ x. IsUpToDate x t in subst P (sym m) (fresh (none_marked true r t (none t within) refl))) }
+pub erased_refreshes : (r r' : Ram) → OwesNone true r → r'.geometry ≡ r.geometry → r'.mapping ≡ r.mapping → Refreshes r r'
+erased_refreshes r r' none g m = record { each = λ t within fresh unmarked. (let P : MappingState → Type 0 = λ x. IsUpToDate x t in subst P (sym m) (fresh (none.unmarked refl t within))) }
 
 -- ---- how many sectors are moved
 

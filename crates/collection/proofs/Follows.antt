@@ -47,34 +47,6 @@ follows_by a c key other sized keys f = record {
   page_is = f.page_is ∙ ap (λ g. Translation (f.sector / entries g)) sized;
 }
 
--- ---- the moved sectors of other translation pages
-
-but_head : (n pp : ℕ) (e : ℕ × ℕ) (ms : List (ℕ × ℕ)) (b : Bool) → (e.0 == n) ≡ b → (c : Bool) → (e.0 / pp == n / pp) ≡ c → without_page pp (n / pp) (without n ms) ≡ without_page pp (n / pp) ms → without_page pp (n / pp) (without n (e ∷ ms)) ≡ without_page pp (n / pp) (e ∷ ms)
-but_head n pp e ms true here true of_page rest = rw (here, of_page) rest
-but_head n pp e ms true here false of_page rest =
-    let same : e.0 ≡ n = Rattle.std.proofs.lemmas.Bool.eqb-true e.0 n here in
-    let page : (e.0 / pp == n / pp) ≡ true = eq-eqb (e.0 / pp) (n / pp) (ap (λ k. k / pp) same) in
-    let no : true ≡ false = sym page ∙ of_page in
-    let never : ⊥ = cc in absurd never
-but_head n pp e ms false here true of_page rest = rw (here, of_page) rest
-but_head n pp e ms false here false of_page rest = rw (here, of_page) (ap (λ l. e ∷ l) rest)
-
-but_sector : (n pp : ℕ) (ms : List (ℕ × ℕ)) → without_page pp (n / pp) (without n ms) ≡ without_page pp (n / pp) ms
-but_sector n pp [] = refl
-but_sector n pp (e ∷ ms) = but_head n pp e ms (e.0 == n) refl (e.0 / pp == n / pp) refl (but_sector n pp ms)
-
-last_head : (pp t n row : ℕ) (e : ℕ × ℕ) (ms : List (ℕ × ℕ)) (b : Bool) → (e.0 / pp == t) ≡ b → without_page pp t (ms ++ (n, row) ∷ []) ≡ without_page pp t ms → without_page pp t ((e ∷ ms) ++ (n, row) ∷ []) ≡ without_page pp t (e ∷ ms)
-last_head pp t n row e ms true is rest = rw is rest
-last_head pp t n row e ms false is rest = rw is (ap (λ l. e ∷ l) rest)
-
-but_last : (pp n row : ℕ) (ms : List (ℕ × ℕ)) → without_page pp (n / pp) (ms ++ (n, row) ∷ []) ≡ without_page pp (n / pp) ms
-but_last pp n row [] = (let e : (n / pp == n / pp) ≡ true = eq-eqb (n / pp) (n / pp) refl in rw e refl)
-but_last pp n row (e ∷ ms) = last_head pp (n / pp) n row e ms (e.0 / pp == n / pp) refl (but_last pp n row ms)
-
--- they stay where the sector is moved
-pub moved_but : (pp n row : ℕ) (ms : List (ℕ × ℕ)) → without_page pp (n / pp) (without n ms ++ (n, row) ∷ []) ≡ without_page pp (n / pp) ms
-moved_but pp n row ms = but_last pp n row (without n ms) ∙ but_sector n pp ms
-
 -- ---- a page is put, and its translation page follows
 
 followed_on : (pp pp' n : ℕ) (ms ms' : List (ℕ × ℕ)) → pp' ≡ pp → without_page pp (n / pp) ms' ≡ without_page pp (n / pp) ms → without_page pp' (n / pp') ms' ≡ without_page pp (n / pp) ms

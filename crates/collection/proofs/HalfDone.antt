@@ -4,7 +4,7 @@ use Rattle.std.specs.Map.{keys_of}
 use Rattle.std.proofs.lemmas.Bool.{cases_lt}
 use Rattle.std.proofs.lemmas.List.{get_or-replicate, get_or_past, length-replicate}
 use Rattle.page_layout.specs.View.{View}
-use Rattle.page_layout.specs.Geometry.{translation_pages, vmax}
+use Rattle.page_layout.specs.Geometry.{translation_pages, vmax_at}
 use Rattle.page_layout.specs.Page.{Image}
 use Rattle.budget.proofs.CopyLemmas.{touched_pages}
 use Rattle.mapping_cache.specs.Mapping.{per_page, moved_in}
@@ -31,10 +31,11 @@ use Rattle.collection.specs.Log.{Went}
 use Rattle.collection.specs.Room.{IsFundedOn, IsWorth, Collects}
 use Rattle.collection.specs.Truth.{IsTrue}
 use Rattle.collection.specs.Results.{IsSame, Refused}
-use Rattle.collection.specs.Collect.{has_moved, is_marked, is_due, due_count, GoesBut, Refreshes, LeadTo, Ledger, CollectCosts, HasCollected, CollectsFew, CollectCounts, IsEmptied, IsRearranged, RoomRefused, RoomTells, RoomCounts}
+use Rattle.collection.specs.Collect.{is_over, is_marked, is_due, due_count, waiting, GoesBut, Refreshes, LeadTo, Ledger, CollectCosts, HasCollected, CollectsFew, CollectCounts, IsEmptied, IsRearranged, RoomRefused, RoomTells, RoomCounts}
 use Rattle.collection.specs.Whole.{next_of}
 use Rattle.collection.specs.Left.{IdleLaw, IsHalfDone, IsCalm, IsFew, HasPassed, PinIsFew, pin_after, pinned_to}
-use Rattle.collection.proofs.Dues.{some_positive, moved_count, length_keys}
+use Rattle.std.proofs.lemmas.Bool.{ltb-true}
+use Rattle.collection.proofs.Dues.{moved_count, length_keys}
 use Rattle.collection.proofs.Lowest.{shut_closed}
 use Rattle.collection.proofs.Rooms.{shut_fewer, on_same, erased_more, room_tells, rearranged_same, rearranged_then, room_refused, funded_same, funded_then, refused_room}
 use Rattle.collection.proofs.Finds.{none_yet}
@@ -56,14 +57,14 @@ due_moved false false m none is = is
 pub due_few : (flushing : Bool) (r : Ram) → r.pin.marks ≡ replicate (translation_pages r.geometry) false → due_count flushing r ≤ length r.mapping.moved
 due_few flushing r unmarked =
     let has : (t : ℕ) → t < translation_pages r.geometry → is_due flushing r t ≡ true → 0 < count_by (λ n. n / per_page r.mapping == t) (keys_of r.mapping.moved) = λ t below is.
-    let moved : has_moved r.mapping t ≡ true = due_moved (has_moved r.mapping t) flushing (is_marked r t) (unmarked_at r t unmarked) is in
-    let some = some_positive (length (moved_in (per_page r.mapping) t r.mapping.moved)) moved in
+    let over : is_over r.mapping t ≡ true = due_moved (is_over r.mapping t) flushing (is_marked r t) (unmarked_at r t unmarked) is in
+    let some : r.mapping.share < length (moved_in (per_page r.mapping) t r.mapping.moved) = ltb-true _ _ over in
     omega (arith, some, moved_count (per_page r.mapping) t r.mapping.moved) in
     let e = touched_pages (per_page r.mapping) (translation_pages r.geometry) (keys_of r.mapping.moved) (is_due flushing r) has in
     omega (arith, e, length_keys r.mapping.moved)
 
 pub idle_law : IdleLaw
-idle_law flushing r idle = (let e : length r.mapping.moved ≡ 0 = ap (λ l. length l) idle.moved in omega (arith, e, due_few flushing r idle.unmarked))
+idle_law flushing r idle = record { few = idle.moved; unmarked = λ on t lt. unmarked_at r t idle.unmarked }
 
 -- ---- the pin after a step
 
@@ -81,23 +82,23 @@ unpinned_few r none = λ p is. (let e : None ≡ Some p = sym none ∙ is in let
 
 -- ---- at first, and where a step was refused
 
-pub due_first : (flushing : Bool) (r : Ram) (p : Pinned) → r.pin.marks ≡ replicate (translation_pages r.geometry) false → IsHalfDone r p → due_count flushing r ≤ p.first
-due_first flushing r p unmarked half = omega (arith, due_few flushing r unmarked, half.passed)
+pub due_first : (flushing : Bool) (r : Ram) (p : Pinned) → r.pin.marks ≡ replicate (translation_pages r.geometry) false → r.mapping.share ≡ 0 → IsHalfDone r p → due_count flushing r ≤ p.first
+due_first flushing r p unmarked unshared half = (let few = due_few flushing r unmarked in let passed = half.passed in let may : waiting r ≡ 0 = rw unshared (omega arith) in omega arith)
 
 -- a step that was refused leaves few pages
 pub few_left : (old now new : Ram) (p : Pinned) (first : ℕ) (y z : Image) (fault : EngineFault) → IsRam now → IsRam new → now.geometry ≡ old.geometry
     → new.geometry ≡ now.geometry → p.block < old.geometry.blocks → is_closed now.blocks p.block ≡ true
-    → length new.mapping.moved ≡ length now.mapping.moved → new.pin.block ≡ Some (record { block = p.block; first = first }) → IsFew 0 old p
+    → new.mapping ≡ now.mapping → now.mapping.share ≡ old.mapping.share → new.pin.block ≡ Some (record { block = p.block; first = first }) → IsFew 0 old p
     → IsTrue None now y → (copies : ℕ) → copies + live_at now.blocks p.block ≤ live_at old.blocks p.block
     → live_at now.blocks p.block + length now.mapping.moved ≤ live_at old.blocks p.block + length old.mapping.moved → Refused now y new z fault
     → fault ≢ Bus → PinIsFew 0 new
-few_left old now new p first y z fault s s' same still within closed moved pin few w copies left fewer refused ne = λ q is.
+few_left old now new p first y z fault s s' same still within closed kept share pin few w copies left fewer refused ne = λ q is.
     let less : live_at new.blocks p.block ≤ live_at now.blocks p.block = refused_fewer now new p.block y z fault s s' still w (rw same within) closed refused ne in
     let e : q ≡ record { block = p.block; first = first } = (let e2 : Some (record { block = p.block; first = first }) ≡ Some q = sym pin ∙ is in let f : record { block = p.block; first = first } ≡ q = cc in sym f) in
     let at : IsFew 0 new (record { block = p.block; first = first }) = record {
       within = rw (still, same) within;
-      small = rw (still, same) (omega (arith, less, left, few.small));
-      moved = rw (still, same) (omega (arith, less, fewer, moved, few.moved));
+      small = rw (still, same, kept, share) (omega (arith, less, left, few.small));
+      moved = rw (still, same, kept, share) (omega (arith, less, fewer, few.moved));
     } in
     subst (IsFew 0 new) (sym e) at
   where
@@ -139,8 +140,7 @@ module _ (a b : Ram) (to : Option Pinned) where
     meta_pages = l.meta_pages;
     pages = l.pages;
     programmed = record { account = l.programmed.account; next = l.programmed.next };
-    for_copies = l.for_copies;
-    for_pages = l.for_pages;
+    account = record { flushed = l.account.flushed; share = l.account.share; moved = l.account.moved; last = l.account.last; once = l.account.once };
   }
 
   same_from : (x y : Image) → IsSame (pinned_to to a) x b y → IsSame a x b y
@@ -191,8 +191,7 @@ sparing_from a b to flushing block (Ok u) k =
           meta_pages = l.meta_pages;
           pages = l.pages;
           programmed = record { account = l.programmed.account; next = l.programmed.next };
-          for_copies = l.for_copies;
-          for_pages = l.for_pages;
+          account = record { flushed = l.account.flushed; share = l.account.share; moved = l.account.moved; last = l.account.last; once = l.account.once };
         };
         none = c.none;
         erase = c.erase;
@@ -219,38 +218,38 @@ acts_from a b to result p = record {
 -- ---- a block is pinned
 
 pub idle_half : (r : Ram) (block : ℕ) (to : Option Pinned) → IsIdle r → block < r.geometry.blocks → is_closed r.blocks block ≡ true → IsHalfDone (pinned_to to r) (record { block = block; first = 0 })
-idle_half r block to idle lt closed = record { within = lt; closed = closed; passed = (let e : length r.mapping.moved ≡ 0 = ap (λ l. length l) idle.moved in omega (arith, e)); on_die = omega arith }
+idle_half r block to idle lt closed = record { within = lt; closed = closed; passed = (let few = idle.moved in omega arith); on_die = omega arith }
 
 pub passed_none : (r : Ram) (x : Image) (block : ℕ) → HasPassed r x (record { block = block; first = 0 })
 passed_none r x block = none_yet r.geometry.pages block x 0
 
-pub idle_few : (r : Ram) (block : ℕ) (to : Option Pinned) → block < r.geometry.blocks → IsIdle r → live_at r.blocks block ≤ vmax r.geometry → IsFew 0 (pinned_to to r) (record { block = block; first = 0 })
-idle_few r block to lt idle small = record { within = lt; small = small; moved = (let e : length r.mapping.moved ≡ 0 = ap (λ l. length l) idle.moved in omega (arith, e, small)) }
+pub idle_few : (r : Ram) (block : ℕ) (to : Option Pinned) → block < r.geometry.blocks → IsIdle r → live_at r.blocks block ≤ vmax_at r.geometry r.mapping.share → IsFew 0 (pinned_to to r) (record { block = block; first = 0 })
+idle_few r block to lt idle small = record { within = lt; small = small; moved = (let few = idle.moved in omega arith) }
 
 -- ---- between calls
 
 pub calm_half : (r : Ram) (p : Pinned) → IsCalm r → r.pin.block ≡ Some p → IsHalfDone r p
-calm_half r p calm is = (let P : Option Pinned → Type 0 = λ o. MatchOption o (r.mapping.moved ≡ []) (IsHalfDone r) in subst P is calm.pinned)
+calm_half r p calm is = (let P : Option Pinned → Type 0 = λ o. MatchOption o (length r.mapping.moved ≤ waiting r) (IsHalfDone r) in subst P is calm.pinned)
 
 pub calm_by : (r : Ram) → IsIdle r → r.pin.block ≡ None → IsCalm r
-calm_by r idle none = record { unmarked = idle.unmarked; pinned = (let P : Option Pinned → Type 0 = λ o. MatchOption o (r.mapping.moved ≡ []) (IsHalfDone r) in subst P (sym none) idle.moved) }
+calm_by r idle none = record { unmarked = idle.unmarked; pinned = (let P : Option Pinned → Type 0 = λ o. MatchOption o (length r.mapping.moved ≤ waiting r) (IsHalfDone r) in subst P (sym none) idle.moved) }
 
 pub calm_ok : (r : Ram) (result : Result (Unit {0}) EngineFault) → OnOk result (IsIdle r) → OnOk result (r.pin.block ≡ None) → OnOk result (IsCalm r)
 calm_ok r (Ok u) idle none = calm_by r idle none
 calm_ok r (Err fault) idle none = tt
 
 pub unpinned_idle : (r : Ram) → IsCalm r → r.pin.block ≡ None → IsIdle r
-unpinned_idle r calm none = record { moved = (let P : Option Pinned → Type 0 = λ o. MatchOption o (r.mapping.moved ≡ []) (IsHalfDone r) in subst P none calm.pinned); unmarked = calm.unmarked }
+unpinned_idle r calm none = record { moved = (let P : Option Pinned → Type 0 = λ o. MatchOption o (length r.mapping.moved ≤ waiting r) (IsHalfDone r) in subst P none calm.pinned); unmarked = calm.unmarked }
 
-pub calm_idle : (r : Ram) → IsCalm r → (9 ≤ free_count r.blocks) ⊎ (r.pin.block ≡ None) → free_count r.blocks < 9 + 0 → IsIdle r
-calm_idle r calm (inl nine) few = absurd (omega (arith, nine, few))
-calm_idle r calm (inr none) few = unpinned_idle r calm none
+pub calm_idle : (many : ℕ) (r : Ram) → IsCalm r → (many ≤ free_count r.blocks) ⊎ (r.pin.block ≡ None) → free_count r.blocks < many → IsIdle r
+calm_idle many r calm (inl enough) few = absurd (omega (arith, enough, few))
+calm_idle many r calm (inr none) few = unpinned_idle r calm none
 
 -- ---- the pinned block is finished
 
-pub finished_unpinned : (r : Ram) (result : Result (Unit {0}) EngineFault) → OnOk result (r.pin.block ≡ None) → OnOk result ((9 ≤ free_count r.blocks) ⊎ (r.pin.block ≡ None))
-finished_unpinned r (Ok u) none = inr none
-finished_unpinned r (Err fault) none = tt
+pub finished_unpinned : (many : ℕ) (r : Ram) (result : Result (Unit {0}) EngineFault) → OnOk result (r.pin.block ≡ None) → OnOk result ((many ≤ free_count r.blocks) ⊎ (r.pin.block ≡ None))
+finished_unpinned many r (Ok u) none = inr none
+finished_unpinned many r (Err fault) none = tt
 
 pub finished_erases : {N : Type 0} (erases : N → ℕ) (a c : Engine N) (result : Result (Unit {0}) EngineFault) → OnOk result (erases c.nand ≡ counted (erases a.nand)) → OnOk result (c.pinned ≡ None) → OnOk result (RestsOrErases erases a c)
 finished_erases erases a c (Ok u) is none = erased_more erases a a c (inl refl) is none
@@ -260,20 +259,20 @@ pub finished_tells : (flushing : Bool) (block : ℕ) (a c : Ram) (result : Resul
 finished_tells flushing block a c (Ok u) cost = tt
 finished_tells flushing block a c (Err fault) cost = room_tells flushing block a c fault cost
 
--- with fewer than nine free blocks none is pinned once that one is finished
-pub unpinned_now : (r : Ram) → (9 ≤ free_count r.blocks) ⊎ (r.pin.block ≡ None) → free_count r.blocks < 9 + 0 → r.pin.block ≡ None
-unpinned_now r (inl nine) few = absurd (omega (arith, nine, few))
-unpinned_now r (inr none) few = none
+-- with fewer free blocks than are wanted none is pinned once that one is finished
+pub unpinned_now : (many : ℕ) (r : Ram) → (many ≤ free_count r.blocks) ⊎ (r.pin.block ≡ None) → free_count r.blocks < many → r.pin.block ≡ None
+unpinned_now many r (inl enough) few = absurd (omega (arith, enough, few))
+unpinned_now many r (inr none) few = none
 
 -- one block more
-pub collects_more : (flushing : Bool) (block : ℕ) (a b c : Ram) → (blocks : List ℕ) × Collects flushing a blocks b → b.pin.block ≡ None → IsWorth 0 b block → HasCollected flushing block b c → (blocks : List ℕ) × Collects flushing a blocks c
-collects_more flushing block a b c before none worth cost =
-    (let P : Option Pinned → Type 0 = λ o. MatchOption o (IsWorth 0 b block) (λ q. q.block ≡ block) in
-    (block ∷ before.0, (b, before.1, record { scarce = omega (arith, worth.scarce); which = subst P (sym none) worth }, cost)))
+pub collects_more : (many : ℕ) (flushing : Bool) (block : ℕ) (a b c : Ram) → (blocks : List ℕ) × Collects many flushing a blocks b → b.pin.block ≡ None → IsWorth many b block → HasCollected flushing block b c → (blocks : List ℕ) × Collects many flushing a blocks c
+collects_more many flushing block a b c before none worth cost =
+    (let P : Option Pinned → Type 0 = λ o. MatchOption o (IsWorth many b block) (λ q. q.block ≡ block) in
+    (block ∷ before.0, (b, before.1, record { scarce = worth.scarce; which = subst P (sym none) worth }, cost)))
 
-pub finished_collects : (flushing : Bool) (p : Pinned) (a c : Ram) (result : Result (Unit {0}) EngineFault) → a.pin.block ≡ Some p → free_count a.blocks < 9 → CollectCosts flushing p.block a c result → OnOk result ((blocks : List ℕ) × Collects flushing a blocks c)
-finished_collects flushing p a c (Ok u) is scarce cost = (let P : Option Pinned → Type 0 = λ o. MatchOption o (IsWorth 0 a p.block) (λ q. q.block ≡ p.block) in (p.block ∷ [], (a, refl, record { scarce = scarce; which = subst P (sym is) refl }, cost)))
-finished_collects flushing p a c (Err fault) is scarce cost = tt
+pub finished_collects : (many : ℕ) (flushing : Bool) (p : Pinned) (a c : Ram) (result : Result (Unit {0}) EngineFault) → a.pin.block ≡ Some p → free_count a.blocks < many → CollectCosts flushing p.block a c result → OnOk result ((blocks : List ℕ) × Collects many flushing a blocks c)
+finished_collects many flushing p a c (Ok u) is scarce cost = (let P : Option Pinned → Type 0 = λ o. MatchOption o (IsWorth many a p.block) (λ q. q.block ≡ p.block) in (p.block ∷ [], (a, refl, record { scarce = scarce; which = subst P (sym is) refl }, cost)))
+finished_collects many flushing p a c (Err fault) is scarce cost = tt
 
 pub finished_truth : (block : ℕ) (a c : Ram) (x z : Image) (result : Result (Unit {0}) EngineFault) → IsRam a → IsRam c → c.geometry ≡ a.geometry
     → IsTrue None a x → MatchResult result (λ u. IsEmptied block a x c z) (Refused a x c z)
@@ -281,8 +280,8 @@ pub finished_truth : (block : ℕ) (a c : Ram) (x z : Image) (result : Result (U
 finished_truth block a c x z (Ok u) s s' same w k = rearranged_then a a c x x z s s' (on_same a) same (rearranged_same a x w) k.same
 finished_truth block a c x z (Err fault) s s' same w k = room_refused a a c x x z fault s s' (on_same a) same (rearranged_same a x w) k
 
-pub finished_counts : (failures : ℕ) (a c : Ram) (result : Result (Unit {0}) EngineFault) → IsRam a
+pub finished_counts : (many failures : ℕ) (a c : Ram) (result : Result (Unit {0}) EngineFault) → IsRam a
     → IsFunded a.geometry.pages failures (counts_of a.blocks) → CollectCounts a c result
-    → MatchResult result (λ u. IsFundedOn failures a c) (λ fault. RoomCounts failures a c (Err fault))
-finished_counts failures a c (Ok u) s funded k = funded_then failures a a c refl (funded_same failures a funded) k
-finished_counts failures a c (Err fault) s funded k = refused_room failures a a c fault s refl (funded_same failures a funded) k
+    → MatchResult result (λ u. IsFundedOn failures a c) (λ fault. RoomCounts many failures a c (Err fault))
+finished_counts many failures a c (Ok u) s funded k = funded_then failures a a c refl (funded_same failures a funded) k
+finished_counts many failures a c (Err fault) s funded k = refused_room many failures a a c fault s refl (funded_same failures a funded) k

@@ -17,7 +17,7 @@ use Rattle.page_layout.specs.Recording.{Recording}
 use Rattle.page_layout.proofs.CountLemmas.{bit, count_by-cons}
 use Rattle.page_layout.proofs.StepLemmas.{Keeps-trans, Keeps-Writes, array_kept, array_written, array_unwritten}
 use Rattle.mapping_cache.specs.declared.slot.Slot.{Slot}
-use Rattle.mapping_cache.specs.Mapping.{slot_of, moved_row}
+use Rattle.mapping_cache.specs.Mapping.{slot_of, moved_row, moved_room}
 use Rattle.promises.specs.Stop.{CutShort, LeavesOnly}
 use Rattle.promises.proofs.CutLemmas.{cut_join, cut_more}
 use Rattle.image_check.specs.Stale.{stale_count}
@@ -30,6 +30,8 @@ use Rattle.collection.specs.Settle.{HasPlace}
 use Rattle.collection.specs.Results.{MayPut, array_after}
 use Rattle.collection.specs.Stops.{IsHalfPut, IsKeptByStop, IsKeptOrPut, IsKeptOrWritten, IsPutByStop, room_of}
 use Rattle.collection.proofs.MapLemmas.{maps_put}
+use Rattle.collection.specs.Collect.{waiting}
+use Rattle.collection.proofs.Memory.{few_moved, moved_places}
 use Rattle.collection.proofs.Mounts.{IsHeld, few_held, orderly, stale_held_but, tables_are}
 use Rattle.collection.proofs.Stops.{leaves_more}
 use Rattle.collection.proofs.Truths.{tables_put}
@@ -75,11 +77,8 @@ not_sector key n ne e = (let same : key ≡ Sector n = cc in ne same)
 few_but : (a : Ram) (left : Image) (key : Key) → IsRam a → HasPlace a.mapping key → Maps (Some key) a.geometry left a.directory a.mapping → stale_count a.geometry left ≤ room_of a
 few_but a left key s place maps = by key place maps
   where
-    pages_same : a.mapping.geometry.pages ≡ a.geometry.pages
-    pages_same = ap (λ (g : Geometry). g.pages) s.mapping_of
-
-    none_more : length a.mapping.moved + 0 ≤ a.geometry.pages
-    none_more = omega (arith, pages_same, s.mapping.moved_within)
+    none_more : length a.mapping.moved + 0 ≤ waiting a + a.geometry.pages
+    none_more = (let few = few_moved a s in omega arith)
 
     -- a sector that is held already
     held : (n : ℕ) → IsHeld a.mapping n → Maps (Some (Sector n)) a.geometry left a.directory a.mapping → stale_count a.geometry left ≤ room_of a
@@ -89,9 +88,9 @@ few_but a left key s place maps = by key place maps
     ])
 
     -- one that is to be moved
-    moves : (n : ℕ) → length a.mapping.moved < a.mapping.geometry.pages → Maps (Some (Sector n)) a.geometry left a.directory a.mapping → stale_count a.geometry left ≤ room_of a
+    moves : (n : ℕ) → length a.mapping.moved < moved_room a.mapping.geometry a.mapping.share → Maps (Some (Sector n)) a.geometry left a.directory a.mapping → stale_count a.geometry left ≤ room_of a
     moves n room maps =
-        let more : length a.mapping.moved + 1 ≤ a.geometry.pages = omega (arith, pages_same, room) in
+        let more : length a.mapping.moved + 1 ≤ waiting a + a.geometry.pages = (let places = moved_places a s in omega (arith, places, room)) in
         few_held a left (n ∷ []) s more (λ k lt old. elim (cases_eq k n) [
           | inl same ↦
               let whole : n / 1 ≡ k = omega arith in

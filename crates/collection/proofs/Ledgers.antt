@@ -1,8 +1,14 @@
 -- What a collection costs, step after step.
-use Rattle.std.proofs.Common.{◌≡◌, ◌≢◌, ◌⊎◌, inl, inr, ℕ, ◌+◌, ◌-◌, ◌<◌, ◌≤◌, min, Bool, true, [], ◌∷◌, length, Some, None, Result, Ok, Err, refl, ap, ◌∙◌, subst, arith}
+use Rattle.std.proofs.Common.{◌≡◌, ◌≢◌, ◌⊎◌, inl, inr, ℕ, ◌+◌, ◌-◌, ◌*◌, ◌<◌, ◌≤◌, min, Bool, true, false, [], ◌∷◌, length, Some, None, Result, Ok, Err, refl, ap, ◌∙◌, subst, arith}
 use Rattle.page_layout.specs.declared.geometry.Geometry.{Geometry}
-use Rattle.page_layout.specs.Geometry.{translation_pages, vmax}
+use Rattle.page_layout.specs.Geometry.{translation_pages, vmax_at}
 use Rattle.page_layout.specs.Page.{Image}
+use Rattle.page_layout.specs.declared.record.Key.{Key}
+use Rattle.page_layout.specs.declared.record.Key.TheVariants.{Sector, Translation, Table}
+use Rattle.std.specs.Int.{div_ceil}
+use Rattle.std.proofs.Math.Nat.{mul-add}
+use Rattle.std.proofs.lemmas.Bool.{cases_Bool}
+use Rattle.mapping_cache.specs.Mapping.{MappingState}
 use Rattle.page_layout.specs.Counter.{counted}
 use Rattle.budget.specs.declared.stream.Stream.{Stream}
 use Rattle.budget.specs.declared.stream.Stream.TheVariants.{Data, Meta}
@@ -10,7 +16,7 @@ use Rattle.budget.specs.Counts.{Counts, Fits, Erased}
 use Rattle.budget.specs.Put.{StreamPut}
 use Rattle.budget.specs.Spending.{data_of, meta_of, Collected, Stuck}
 use Rattle.budget.proofs.AccountLemmas.{no_page, one_page, collected, stuck}
-use Rattle.budget.proofs.CopyLemmas.{copies_fit}
+use Rattle.budget.proofs.CopyLemmas.{copies_fit_at, account_begins, copy_account, write_back_account}
 use Rattle.allocation.specs.State.{live_at, free_count, is_closed}
 use Rattle.allocation.specs.Counts.{counts_of}
 use Rattle.allocation.proofs.SafeLemmas.{free_fits}
@@ -22,10 +28,13 @@ use Rattle.collection.specs.Truth.{IsTrue}
 use Rattle.collection.specs.Cost.{HasPut}
 use Rattle.collection.specs.Live.{HoldsNoneIn}
 use Rattle.collection.specs.Results.{Goes, Refused}
-use Rattle.collection.specs.Collect.{is_due, due_count, HasCopied, HasWritten, HasErased, HasProgrammed, HasCollected, StreamRunsOut, IsCopied}
-use Rattle.collection.specs.Collect.{CollectsFew, HasNoneDue, IsEmptied, IsThrifty, FaultCosts, CollectCosts, CollectCounts, StepCosts, IsStepped, GoesBut, IsReleased}
+use Rattle.collection.specs.Settle.{SetsMapping}
+use Rattle.collection.specs.Collect.{is_due, due_count, waiting, OwesPage, IsAccount, HasCopied, HasWritten, HasErased, HasProgrammed, HasCollected, StreamRunsOut, IsCopied}
+use Rattle.collection.specs.Collect.{CollectsFew, OwesNone, IsEmptied, IsThrifty, FaultCosts, CollectCosts, CollectCounts, StepCosts, IsStepped, GoesBut, IsReleased}
 use Rattle.bad_blocks.specs.declared.table.TableRow.{TableRow}
 use Rattle.bad_blocks.specs.Table.{most_wear}
+use Rattle.collection.specs.declared.engine.Pinned.{Pinned}
+use Rattle.collection.specs.Left.{IsFew}
 use Rattle.collection.specs.Whole.{next_of, erases_after, step_within, busy_of, work_left, IsSoFar, IsUnderWay}
 use Rattle.collection.specs.declared.fault.EngineFault.{EngineFault}
 use Rattle.collection.specs.declared.fault.EngineFault.TheVariants.{ReadOnly, SequenceSpent, Damaged, Bus}
@@ -34,7 +43,8 @@ use Rattle.collection.specs.declared.engine.collect_steps.Progress.TheVariants a
 use Rattle.collection.specs.declared.engine.collect_in_turns.Step.TheVariants as steps
 use Rattle.allocation.specs.Laws.{IsLeftButLive}
 use Rattle.collection.proofs.Blocks.{left_then}
-use Rattle.collection.proofs.Memory.{shut_same}
+use Rattle.collection.proofs.Memory.{shut_same, few_moved}
+use Rattle.collection.proofs.Batches.{few_batches}
 use Rattle.collection.proofs.Puts.{same_then}
 use Rattle.collection.proofs.Finds.{none_of_all}
 use Rattle.collection.proofs.Lowest.{same_here, holds_none, shut_closed}
@@ -96,8 +106,13 @@ begun flushing block first r known x s w passed =
         meta_pages = 0;
         pages = refl;
         programmed = record { account = no_page r.geometry.pages (counts_of r.blocks) (fit r s); next = omega arith };
-        for_copies = omega arith;
-        for_pages = omega (arith, due);
+        account = record {
+          flushed = λ on. omega arith;
+          share = refl;
+          moved = λ off. account_begins r.mapping.share (length r.mapping.moved);
+          last = λ off. inl refl;
+          once = omega (arith, due);
+        };
       };
       order = inl refl;
       busy = omega arith;
@@ -106,6 +121,11 @@ begun flushing block first r known x s w passed =
     }
 
 -- ---- a page is copied
+
+pub sets_share : (key : Key) (row : ℕ) (old new : MappingState) → SetsMapping key row old new → new.share ≡ old.share
+sets_share (Sector n) row old new sets = sets.limits.share
+sets_share (Translation t) row old new sets = ap (λ m. m.share) sets
+sets_share (Table u) row old new sets = ap (λ m. m.share) sets
 
 pub copied_more : (flushing : Bool) (block first page : ℕ) (old now new : Ram) (known : Type 0) (x y z : Image) → IsRam now → Goes old now
     → Goes now new → 1 < old.geometry.pages → IsUnderWay flushing block first old now known x y → first ≤ page → page < now.geometry.pages
@@ -130,8 +150,13 @@ copied_more flushing block first page old now new known x y z s goes then some u
         meta_pages = u.ledger.meta_pages + meta_of cost.stream;
         pages = omega (arith, u.ledger.pages, one);
         programmed = programmed_more cost.stream old now new u.ledger.data_pages u.ledger.meta_pages same u.ledger.programmed cost.put;
-        for_copies = omega (arith, u.ledger.for_copies, cost.due);
-        for_pages = omega (arith, zero, due);
+        account = record {
+          flushed = λ on. (let f = u.ledger.account.flushed on in let d = cost.due in omega arith);
+          share = sets_share cost.key cost.row now.mapping new.mapping cost.sets ∙ u.ledger.account.share;
+          moved = λ off. copy_account old.mapping.share (length old.mapping.moved) u.ledger.copies u.ledger.written (length now.mapping.moved) (length new.mapping.moved) (u.ledger.account.moved off) cost.moved;
+          last = λ off. inl zero;
+          once = omega (arith, zero, due);
+        };
       };
       order = inl zero;
       busy = omega (arith, u.busy, more);
@@ -143,6 +168,27 @@ copied_more flushing block first page old now new known x y z s goes then some u
     }
 
 -- ---- a translation page is written
+
+pub waiting_same : (old now : Ram) → now.geometry ≡ old.geometry → now.mapping.share ≡ old.mapping.share → waiting now ≡ waiting old
+waiting_same old now same share = rw (same, share) refl
+
+module _ (flushing : Bool) (old now : Ram) (copies written : ℕ) (same : now.geometry ≡ old.geometry) (a : IsAccount flushing old now copies written) (many : flushing ≡ false → waiting now < length now.mapping.moved) where
+  -- what the next one brings
+  pub last_then : flushing ≡ false → (old.mapping.share + 1) * (written + 1) + waiting old ≤ length old.mapping.moved + copies + old.mapping.share
+  last_then off =
+      let account = a.moved off in
+      let more = many off in
+      let may = waiting_same old now same a.share in
+      omega (arith, account, more, may, mul-add (old.mapping.share + 1) written 1)
+
+written_account : (flushing : Bool) (old now new : Ram) (copies written : ℕ) → now.geometry ≡ old.geometry → IsAccount flushing old now copies written → HasWritten flushing now new → IsAccount flushing old new copies (written + 1)
+written_account flushing old now new copies written same a cost = record {
+  flushed = λ on. (let f = a.flushed on in let d = cost.due in omega arith);
+  share = ap (λ m. m.share) cost.mapping ∙ a.share;
+  moved = λ off. write_back_account old.mapping.share (length old.mapping.moved) copies written (length now.mapping.moved) (length new.mapping.moved) (a.moved off) (let m = cost.many off in let e = a.share in omega arith);
+  last = λ off. inr (last_then flushing old now copies written same a cost.lowest.many off);
+  once = (let o = a.once in let d = cost.due in omega arith);
+}
 
 pub written_more : (flushing : Bool) (block first : ℕ) (old now new : Ram) (known : Type 0) (x y z : Image) → IsRam now → IsRam new → Goes old now
     → Goes now new → 1 < old.geometry.pages → block < old.geometry.blocks → IsUnderWay flushing block first old now known x y
@@ -165,8 +211,7 @@ written_more flushing block first old now new known x y z s s' goes then some wi
         meta_pages = u.ledger.meta_pages + meta_of Meta;
         pages = omega (arith, u.ledger.pages);
         programmed = programmed_more Meta old now new u.ledger.data_pages u.ledger.meta_pages same u.ledger.programmed cost.put;
-        for_copies = omega (arith, u.ledger.for_copies, cost.due);
-        for_pages = omega (arith, u.ledger.for_pages, cost.due);
+        account = written_account flushing old now new u.ledger.copies u.ledger.written same u.ledger.account cost;
       };
       order = inr (omega arith);
       busy = omega (arith, u.busy, more);
@@ -185,20 +230,54 @@ written_more flushing block first old now new known x y z s s' goes then some wi
           };
     }
 
+-- ---- what was owed at first
+
+-- in a flush, whose die has share 0, no more translation pages were due at first than sectors were moved
+abbrev pub BeginsFew : Bool → Ram → Type 0
+BeginsFew flushing old = flushing ≡ true → (old.mapping.share ≡ 0) × (due_count flushing old ≤ length old.mapping.moved)
+
+-- the block had few newest pages at first, and few sectors were moved
+pub record BeginsSmall (block : ℕ) (old : Ram) : Type 0 where
+  pub small : live_at old.blocks block ≤ vmax_at old.geometry old.mapping.share
+  pub moved : live_at old.blocks block + length old.mapping.moved ≤ vmax_at old.geometry old.mapping.share + waiting old
+
+pub begins_small : (r : Ram) (p : Pinned) → IsFew 0 r p → BeginsSmall p.block r
+begins_small r p few = record { small = few.small; moved = (let m = few.moved in omega arith) }
+
+module _ (flushing : Bool) (old now : Ram) (copies written : ℕ) (begin : BeginsFew flushing old) (a : IsAccount flushing old now copies written) where
+  last_of : (written ≡ 0) ⊎ ((old.mapping.share + 1) * written + waiting old ≤ length old.mapping.moved + copies + old.mapping.share)
+  last_of = elim (cases_Bool flushing) [
+    | inl on ↦ inr (let b = begin on in let f = a.flushed on in rw b.0 (omega (arith, f, b.1)))
+    | inr off ↦ a.last off
+  ]
+
+  last_owed : now.geometry ≡ old.geometry → OwesPage flushing now → (old.mapping.share + 1) * (written + 1) + waiting old ≤ length old.mapping.moved + copies + old.mapping.share
+  last_owed same owes = elim (cases_Bool flushing) [
+    | inl on ↦ (let b = begin on in let f = a.flushed on in let due = owes.due in rw b.0 (omega (arith, f, b.1, due)))
+    | inr off ↦ last_then flushing old now copies written same a owes.many off
+  ]
+
 -- ---- it ends
 
-pub collected_cost : (flushing : Bool) (block first : ℕ) (old now new : Ram) (known : Type 0) (x y : Image) → IsUnderWay flushing block first old now known x y → HasNoneDue flushing now → HasErased block now new → HasCollected flushing block old new
+pub collected_cost : (flushing : Bool) (block first : ℕ) (old now new : Ram) (known : Type 0) (x y : Image) → IsUnderWay flushing block first old now known x y → OwesNone flushing now → HasErased block now new → HasCollected flushing block old new
 collected_cost flushing block first old now new known x y u none e = record { mid = now; ledger = u.ledger; none = none; erase = e }
 
--- where the die is honest and none was due
-pub collected_few : (flushing : Bool) (block first : ℕ) (old now new : Ram) (known : Type 0) (x y : Image) → known → due_count flushing old ≡ 0
-    → IsUnderWay flushing block first old now known x y → HasNoneDue flushing now → HasErased block now new → CollectsFew flushing block old new
-collected_few flushing block first old now new known x y k idle u none e =
+-- where the die is honest and no more were moved than may wait
+pub collected_few : (flushing : Bool) (block first : ℕ) (old now new : Ram) (known : Type 0) (x y : Image) → known → BeginsFew flushing old
+    → length old.mapping.moved ≤ waiting old → IsUnderWay flushing block first old now known x y → OwesNone flushing now → HasErased block now new
+    → CollectsFew flushing block old new
+collected_few flushing block first old now new known x y k begin few u none e =
     let w = u.truth k in
+    let copies : u.ledger.copies ≤ live_at old.blocks block = omega (arith, w.copies_left) in
+    let last = last_of flushing old now u.ledger.copies u.ledger.written begin u.ledger.account in
+    let batches : u.ledger.written ≤ div_ceil (live_at old.blocks block) (old.mapping.share + 1) = elim last [
+      | inl none ↦ omega arith
+      | inr l ↦ few_batches old.mapping.share (live_at old.blocks block) u.ledger.written (omega arith)
+    ] in
     record {
       collected = record { mid = now; ledger = u.ledger; none = none; erase = e };
-      copies = omega (arith, w.copies_left);
-      written = omega (arith, w.copies_left, u.ledger.for_copies, u.ledger.for_pages, idle);
+      copies = copies;
+      written = (let o = u.ledger.account.once in omega arith);
     }
 
 erase_busy : (blocks f : ℕ) (old new : Counts) → old.free ≤ blocks → new.free ≤ blocks → Erased f old new → new.good + (blocks + 2 - (new.free + min new.data_left 1 + min new.meta_left 1)) + 1 ≤ old.good + (blocks + 2 - (old.free + min old.data_left 1 + min old.meta_left 1))
@@ -213,51 +292,69 @@ less_work flushing block first old now new known x y s s' same u e =
 
 -- ---- the count
 
-few : (g : Geometry) (live_pages moved first copies written due : ℕ) → live_pages + moved ≤ vmax g + 0 → first ≤ moved → copies ≤ live_pages → written + due ≤ copies + first → written + due ≤ translation_pages g → copies + written + 1 ≤ g.pages
-few g live_pages moved first copies written due small begin le a b = (let f = copies_fit g (live_pages + moved) (omega (arith, small)) in omega (arith, f, begin, le, a, b))
+few_pages : (block : ℕ) (old : Ram) (copies written : ℕ) → BeginsSmall block old → copies ≤ live_at old.blocks block
+    → (written ≡ 0) ⊎ ((old.mapping.share + 1) * written + waiting old ≤ length old.mapping.moved + copies + old.mapping.share)
+    → written ≤ translation_pages old.geometry → copies + written + 1 ≤ old.geometry.pages
+few_pages block old copies written few le last once =
+    let all : ℕ = live_at old.blocks block + (length old.mapping.moved - waiting old) in
+    let fits = copies_fit_at old.geometry old.mapping.share all (let small = few.small in let both = few.moved in omega arith) in
+    let batches : written ≤ div_ceil all (old.mapping.share + 1) = elim last [
+      | inl none ↦ omega arith
+      | inr l ↦ few_batches old.mapping.share all written (omega arith)
+    ] in
+    omega arith
 
-few_more : (g : Geometry) (live_pages moved first copies written due still : ℕ) → live_pages + moved ≤ vmax g + 0 → first ≤ moved
-    → copies + still ≤ live_pages → written + due ≤ copies + first → written + due ≤ translation_pages g → (0 < still) ⊎ (0 < due)
-    → copies + written + 2 ≤ g.pages
-few_more g live_pages moved first copies written due still small begin le a b (inl some) = (let f = copies_fit g (live_pages + moved) (omega (arith, small)) in omega (arith, f, begin, le, a, b))
-few_more g live_pages moved first copies written due still small begin le a b (inr some) = (let f = copies_fit g (live_pages + moved) (omega (arith, small)) in omega (arith, f, begin, le, a, b))
+-- where one more page is owed
+few_owed : (flushing : Bool) (block : ℕ) (old now : Ram) (copies written : ℕ) → BeginsFew flushing old → BeginsSmall block old
+    → now.geometry ≡ old.geometry → copies + live_at now.blocks block ≤ live_at old.blocks block → IsAccount flushing old now copies written
+    → (0 < live_at now.blocks block) ⊎ OwesPage flushing now → copies + written + 2 ≤ old.geometry.pages
+few_owed flushing block old now copies written begin few same le a (inl some) =
+    let once = a.once in
+    let more : (written ≡ 0) ⊎ ((old.mapping.share + 1) * written + waiting old ≤ length old.mapping.moved + (copies + 1) + old.mapping.share) = elim (last_of flushing old now copies written begin a) [ inl none ↦ inl none | inr l ↦ inr (omega arith) ] in
+    let f = few_pages block old (copies + 1) written few (omega arith) more (omega arith) in
+    omega arith
+few_owed flushing block old now copies written begin few same le a (inr owes) =
+    let once = a.once in
+    let due = owes.due in
+    let f = few_pages block old copies (written + 1) few (omega arith) (inr (last_owed flushing old now copies written begin a same owes)) (omega arith) in
+    omega arith
 
 pub counts_collected : (flushing : Bool) (block first : ℕ) (old now new : Ram) (known : Type 0) (x y : Image) → IsRam new
-    → new.geometry ≡ old.geometry → known → live_at old.blocks block + length old.mapping.moved ≤ vmax old.geometry + 0
-    → due_count flushing old ≤ length old.mapping.moved → IsUnderWay flushing block first old now known x y → HasErased block now new
+    → new.geometry ≡ old.geometry → known → BeginsSmall block old
+    → BeginsFew flushing old → IsUnderWay flushing block first old now known x y → HasErased block now new
     → Collected old.geometry.pages (counts_of old.blocks) (counts_of new.blocks)
 counts_collected flushing block first old now new known x y s same k small begin u e =
     let w = u.truth k in
     let le : u.ledger.copies ≤ live_at old.blocks block = omega (arith, w.copies_left) in
-    let f = few old.geometry (live_at old.blocks block) (length old.mapping.moved) (due_count flushing old) u.ledger.copies u.ledger.written (due_count flushing now) small begin le u.ledger.for_copies u.ledger.for_pages in
+    let f = few_pages block old u.ledger.copies u.ledger.written small le (last_of flushing old now u.ledger.copies u.ledger.written begin u.ledger.account) (let o = u.ledger.account.once in omega arith) in
     let fits_new : Fits old.geometry.pages (counts_of new.blocks) = (let P : Geometry → Type 0 = λ g. Fits g.pages (counts_of new.blocks) in subst P same (fit new s)) in
     collected old.geometry.pages e.failures u.ledger.data_pages u.ledger.meta_pages (counts_of old.blocks) (counts_of now.blocks) (counts_of new.blocks) u.ledger.programmed.account (omega (arith, u.ledger.pages, f)) e.counts fits_new
 
-pub counts_stuck : (flushing : Bool) (block first : ℕ) (old now new : Ram) (known : Type 0) (x y : Image) → known
-    → live_at old.blocks block + length old.mapping.moved ≤ vmax old.geometry + 0 → due_count flushing old ≤ length old.mapping.moved
-    → IsUnderWay flushing block first old now known x y → (0 < live_at now.blocks block) ⊎ (0 < due_count flushing now) → StreamRunsOut now new
+pub counts_stuck : (flushing : Bool) (block first : ℕ) (old now new : Ram) (known : Type 0) (x y : Image) → now.geometry ≡ old.geometry → known
+    → BeginsSmall block old → BeginsFew flushing old
+    → IsUnderWay flushing block first old now known x y → (0 < live_at now.blocks block) ⊎ OwesPage flushing now → StreamRunsOut now new
     → Stuck (counts_of old.blocks) (counts_of new.blocks)
-counts_stuck flushing block first old now new known x y k small begin u owed out =
+counts_stuck flushing block first old now new known x y same k small begin u owed out =
     let w = u.truth k in
-    let f = few_more old.geometry (live_at old.blocks block) (length old.mapping.moved) (due_count flushing old) u.ledger.copies u.ledger.written (due_count flushing now) (live_at now.blocks block) small begin w.copies_left u.ledger.for_copies u.ledger.for_pages owed in
+    let f = few_owed flushing block old now u.ledger.copies u.ledger.written begin small same w.copies_left u.ledger.account owed in
     stuck out.stream old.geometry.pages out.out.failures u.ledger.data_pages u.ledger.meta_pages (counts_of old.blocks) (counts_of now.blocks) (counts_of new.blocks) u.ledger.programmed.account (omega (arith, u.ledger.pages, f)) out.out.found
 
 thrift : (flushing : Bool) (block first : ℕ) (old now : Ram) (known : Type 0) (x y : Image) → known
-    → live_at old.blocks block + length old.mapping.moved ≤ vmax old.geometry + 0 → due_count flushing old ≤ length old.mapping.moved
+    → BeginsSmall block old → BeginsFew flushing old
     → IsUnderWay flushing block first old now known x y → IsThrifty old now
 thrift flushing block first old now known x y k small begin u =
     let w = u.truth k in
     let le : u.ledger.copies ≤ live_at old.blocks block = omega (arith, w.copies_left) in
-    let f = few old.geometry (live_at old.blocks block) (length old.mapping.moved) (due_count flushing old) u.ledger.copies u.ledger.written (due_count flushing now) small begin le u.ledger.for_copies u.ledger.for_pages in
+    let f = few_pages block old u.ledger.copies u.ledger.written small le (last_of flushing old now u.ledger.copies u.ledger.written begin u.ledger.account) (let o = u.ledger.account.once in omega arith) in
     omega (arith, u.ledger.programmed.next, u.ledger.pages, f)
 
 pub thrifty_erased : (flushing : Bool) (block first : ℕ) (old now new : Ram) (known : Type 0) (x y : Image) → known
-    → live_at old.blocks block + length old.mapping.moved ≤ vmax old.geometry + 0 → due_count flushing old ≤ length old.mapping.moved
+    → BeginsSmall block old → BeginsFew flushing old
     → IsUnderWay flushing block first old now known x y → HasErased block now new → IsThrifty old new
 thrifty_erased flushing block first old now new known x y k small begin u e = (let t = thrift flushing block first old now known x y k small begin u in omega (arith, t, e.next, e.counts.good))
 
 pub thrifty_refused : (flushing : Bool) (block first : ℕ) (old now new : Ram) (known : Type 0) (x y : Image) (fault : EngineFault) → known
-    → live_at old.blocks block + length old.mapping.moved ≤ vmax old.geometry + 0 → due_count flushing old ≤ length old.mapping.moved
+    → BeginsSmall block old → BeginsFew flushing old
     → IsUnderWay flushing block first old now known x y → FaultCosts now new fault → fault ≢ Damaged → fault ≢ Bus → IsThrifty old new
 thrifty_refused flushing block first old now new known x y ReadOnly k small begin u out nd nb = (let t = thrift flushing block first old now known x y k small begin u in omega (arith, t, out.out.next, out.out.found.good))
 thrifty_refused flushing block first old now new known x y SequenceSpent k small begin u out nd nb = (let t = thrift flushing block first old now known x y k small begin u in omega (arith, t, out.spent.tried.next, out.spent.tried.tries.good))
@@ -270,14 +367,14 @@ refused_cost flushing block first old now new known x y SequenceSpent u out = re
 refused_cost flushing block first old now new known x y Damaged u out = tt
 refused_cost flushing block first old now new known x y Bus u out = tt
 
-pub refused_counts : (flushing : Bool) (block first : ℕ) (old now new : Ram) (known : Type 0) (x y : Image) (z : Image) (fault : EngineFault) → known
-    → live_at old.blocks block + length old.mapping.moved ≤ vmax old.geometry + 0 → due_count flushing old ≤ length old.mapping.moved
-    → IsUnderWay flushing block first old now known x y → (fault ≡ ReadOnly → (0 < live_at now.blocks block) ⊎ (0 < due_count flushing now))
+pub refused_counts : (flushing : Bool) (block first : ℕ) (old now new : Ram) (known : Type 0) (x y : Image) (z : Image) (fault : EngineFault) → now.geometry ≡ old.geometry → known
+    → BeginsSmall block old → BeginsFew flushing old
+    → IsUnderWay flushing block first old now known x y → (fault ≡ ReadOnly → (0 < live_at now.blocks block) ⊎ OwesPage flushing now)
     → FaultCosts now new fault → Refused now y new z fault → CollectCounts old new (Err fault)
-refused_counts flushing block first old now new known x y z ReadOnly k small begin u owed out r = counts_stuck flushing block first old now new known x y k small begin u (owed refl) out
-refused_counts flushing block first old now new known x y z SequenceSpent k small begin u owed out r = tt
-refused_counts flushing block first old now new known x y z Damaged k small begin u owed out r = r
-refused_counts flushing block first old now new known x y z Bus k small begin u owed out r = tt
+refused_counts flushing block first old now new known x y z ReadOnly same k small begin u owed out r = counts_stuck flushing block first old now new known x y same k small begin u (owed refl) out
+refused_counts flushing block first old now new known x y z SequenceSpent same k small begin u owed out r = tt
+refused_counts flushing block first old now new known x y z Damaged same k small begin u owed out r = r
+refused_counts flushing block first old now new known x y z Bus same k small begin u owed out r = tt
 
 -- ---- a step, whichever it was
 
@@ -323,7 +420,7 @@ within_by flushing block first pages now new step_is.Erased same cost = tt
 pub erased_by : (flushing : Bool) (block first : ℕ) (now new : Ram) (step : Progress) → step ≡ step_is.Erased → StepCosts flushing block first now new (Ok step) → HasErased block now new
 erased_by flushing block first now new step is cost = (let P : Progress → Type 0 = λ s. StepCosts flushing block first now new (Ok s) in let c = subst P is cost in c.1)
 
-pub none_due_by : (flushing : Bool) (block first : ℕ) (now new : Ram) (step : Progress) → step ≡ step_is.Erased → StepCosts flushing block first now new (Ok step) → HasNoneDue flushing now
+pub none_due_by : (flushing : Bool) (block first : ℕ) (now new : Ram) (step : Progress) → step ≡ step_is.Erased → StepCosts flushing block first now new (Ok step) → OwesNone flushing now
 none_due_by flushing block first now new step is cost = (let P : Progress → Type 0 = λ s. StepCosts flushing block first now new (Ok s) in let c = subst P is cost in c.0)
 
 pub emptied_by : (block : ℕ) (now new : Ram) (y z : Image) (step : Progress) → step ≡ step_is.Erased → IsStepped block now y new z step → IsEmptied block now y new z
@@ -345,11 +442,14 @@ pub once_erased : (step : Progress) (before after : ℕ) → step ≡ step_is.Er
 once_erased step before after is h = h ∙ ap (λ s. erases_after s before) is
 
 pub room_next : (flushing : Bool) (block first next pages : ℕ) (now new : Ram) (step : Progress) → IsRam new → pages ≡ new.geometry.pages
-    → length now.mapping.moved ≤ first → next_of pages step ≡ Some next → StepCosts flushing block first now new (Ok step)
-    → length new.mapping.moved ≤ next
-room_next flushing block first next pages now new (step_is.Copied page) s' p room is cost = (let e : page + 1 ≡ next = cc in omega (arith, e, cost.0, cost.2.moved))
-room_next flushing block first next pages now new step_is.WroteBack s' p room is cost = (let e : pages ≡ next = cc in let m = s'.mapping.moved_within in let g = ap (λ (x : Geometry). x.pages) s'.mapping_of in omega arith)
-room_next flushing block first next pages now new step_is.Erased s' p room is cost = (let no : ⊥ = cc in absurd no)
+    → new.geometry ≡ now.geometry → length now.mapping.moved ≤ waiting now + first → next_of pages step ≡ Some next
+    → StepCosts flushing block first now new (Ok step) → length new.mapping.moved ≤ waiting new + next
+room_next flushing block first next pages now new (step_is.Copied page) s' p same room is cost =
+    let e : page + 1 ≡ next = cc in
+    let may = waiting_same now new same (sets_share cost.2.key cost.2.row now.mapping new.mapping cost.2.sets) in
+    omega (arith, e, cost.0, cost.2.moved, may, room)
+room_next flushing block first next pages now new step_is.WroteBack s' p same room is cost = (let e : pages ≡ next = cc in let few = few_moved new s' in omega arith)
+room_next flushing block first next pages now new step_is.Erased s' p same room is cost = (let no : ⊥ = cc in absurd no)
 
 pub steps_fall : (flushing : Bool) (block first next pages : ℕ) (now new : Ram) (step : Progress) → IsRam new → next_of pages step ≡ Some next → StepCosts flushing block first now new (Ok step) → 18446744073709551615 - new.next < 18446744073709551615 - now.next
 steps_fall flushing block first next pages now new (step_is.Copied page) s' is cost = omega (arith, cost.2.put.next, s'.next)

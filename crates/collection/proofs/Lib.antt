@@ -5,6 +5,8 @@ pub mod Finds
 pub mod Dues
 pub mod Copies
 pub mod Lowest
+mod Overs
+mod Batches
 pub mod Steps
 pub mod Lefts
 pub mod Beside
@@ -39,4 +41,3 @@ pub mod Stops
 pub mod HalfPuts
 pub mod PageReads
 pub mod Cuts
-pub mod Standing

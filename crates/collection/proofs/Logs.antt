@@ -1,11 +1,11 @@
 -- Logs of an engine's operations.
-use Rattle.std.proofs.Common.{◌≡◌, ◌≢◌, inl, inr, ℕ, ◌+◌, ◌*◌, ◌/◌, ◌%◌, ◌<◌, min, Bool, true, not, List, [], ◌∷◌, ◌++◌, Option, refl, ap, sym, ◌∙◌, subst, arith}
+use Rattle.std.proofs.Common.{◌≡◌, ◌≢◌, inl, inr, ℕ, ◌+◌, ◌*◌, ◌/◌, ◌%◌, ◌<◌, min, Bool, true, not, List, [], ◌∷◌, ◌++◌, Option, Some, None, refl, ap, sym, ◌∙◌, subst, arith}
 use Rattle.std.proofs.lemmas.Bool.{cases_eq}
 use Rattle.std.proofs.lemmas.Nat.{div-mul-add, mod-mul-add}
 use Rattle.page_layout.specs.declared.geometry.Geometry.{Geometry}
 use Rattle.page_layout.specs.Page.{Page}
 use Rattle.page_layout.specs.Flash.{Flash, Operation, Program, Erase}
-use Rattle.page_layout.specs.Recording.{Recording}
+use Rattle.page_layout.specs.Recording.{Recording, Records}
 use Rattle.page_layout.proofs.FlashLemmas.{Leads-append, Leads-one}
 use Rattle.page_layout.proofs.RecordingLemmas.{records_join, records_none}
 use Rattle.bad_blocks.specs.declared.table.TableRow.{TableRow}

@@ -1,5 +1,5 @@
 -- The first live page of a block is copied, and the lowest translation page written.
-use Rattle.std.proofs.Common.{◌≡◌, inl, inr, ℕ, ◌+◌, ◌*◌, ◌/◌, ◌<◌, ◌≤◌, Bool, true, false, not, ◌||◌, ◌&&◌, List, set, Option, Some, None}
+use Rattle.std.proofs.Common.{◌≡◌, inl, inr, ℕ, ◌+◌, ◌*◌, ◌/◌, ◌<◌, ◌≤◌, ◌==◌, Bool, true, false, not, ◌||◌, ◌&&◌, List, set, length, ltb, Option, Some, None}
 use Rattle.std.proofs.Common.{MatchOption, refl, ap, sym, ◌∙◌, subst, arith}
 use Rattle.std.proofs.lemmas.Nat.{div-mul-add}
 use Rattle.page_layout.specs.declared.geometry.Geometry.{Geometry}
@@ -18,11 +18,12 @@ use Rattle.collection.specs.Truth.{IsTrue}
 use Rattle.collection.specs.Cost.{HasPut}
 use Rattle.collection.specs.Live.{NotAt, HoldsNoneIn, IsLivePage, FindsFirst, IsFirstLive}
 use Rattle.collection.specs.Results.{IsSame, LeavesNewest}
-use Rattle.collection.specs.Collect.{has_moved, is_marked, is_due, due_count, IsLowestDue, HasNoneDue, IsMovedOut, IsCopied, HasWritten}
+use Rattle.collection.specs.Collect.{is_over, is_marked, is_due, due_count, excess, waiting, OwesPage, IsLowestDue, OwesNone, IsMovedOut, IsCopied, HasWritten}
 use Rattle.collection.specs.Settle.{HasNoMore}
-use Rattle.mapping_cache.specs.Mapping.{cleaned}
+use Rattle.mapping_cache.specs.Mapping.{MappingState, per_page, moved_in, without_page, cleaned}
+use Rattle.std.proofs.lemmas.Bool.{ltb-true, ne_eqb, cases_Bool}
 use Rattle.budget.specs.declared.stream.Stream.TheVariants.{Meta}
-use Rattle.collection.proofs.Dues.{written_due}
+use Rattle.collection.proofs.Dues.{HasLeft, written_due, written_owed, length_parts}
 use Rattle.collection.proofs.Puts.{leaves_same}
 use Rattle.collection.proofs.Copies.{exact_at}
 use Rattle.collection.proofs.Finds.{none_all, none_join}
@@ -94,11 +95,21 @@ copied_from r r1 r2 x x1 x2 block first page row found body live w same still at
 
 -- ---- translation pages
 
-pub due_some : (flushing : Bool) (r : Ram) (o : Option ℕ) (t : ℕ) → MatchOption o (HasNoneDue flushing r) (IsLowestDue flushing r) → o ≡ Some t → IsLowestDue flushing r t
-due_some flushing r o t m is = (let P : Option ℕ → Type 0 = λ x. MatchOption x (HasNoneDue flushing r) (IsLowestDue flushing r) in subst P is m)
+pub due_some : (flushing : Bool) (r : Ram) (o : Option ℕ) (t : ℕ) → MatchOption o (OwesNone flushing r) (IsLowestDue flushing r) → o ≡ Some t → IsLowestDue flushing r t
+due_some flushing r o t m is = (let P : Option ℕ → Type 0 = λ x. MatchOption x (OwesNone flushing r) (IsLowestDue flushing r) in subst P is m)
 
 pub due_positive : (flushing : Bool) (r : Ram) (t : ℕ) → IsLowestDue flushing r t → 0 < due_count flushing r
 due_positive flushing r t d = (let lt = d.within in count_has (is_due flushing r) t 0 (translation_pages r.geometry) d.due (omega arith) (omega arith))
+
+-- so one more page is owed
+pub owes_lowest : (flushing : Bool) (r : Ram) (t : ℕ) → IsLowestDue flushing r t → OwesPage flushing r
+owes_lowest flushing r t low = record { due = due_positive flushing r t low; many = low.many }
+
+pub excess_lowest : (flushing : Bool) (r : Ram) (t : ℕ) → IsLowestDue flushing r t → 0 < excess flushing r
+excess_lowest flushing r t low = elim (cases_Bool flushing) [
+  | inl on ↦ (let some = due_positive flushing r t low in rw on (let P : Bool → Type 0 = λ b. 0 < due_count b r in subst P on some))
+  | inr off ↦ (let many = low.many off in rw off (omega arith))
+]
 
 pub put_pinned : (stream : Stream) (r b : Ram) (p : Pin) → HasPut stream r b → HasPut stream r (record b { pin = p })
 put_pinned stream r b p cost = record { failures = cost.failures; put = cost.put; next = cost.next }
@@ -111,6 +122,30 @@ moved_only true flushing m is off = refl
 moved_only false true m is off = (let no : ⊥ = cc in absurd no)
 moved_only false false m is off = is
 
+-- a page that is due is owed
+owed_by : (share n : ℕ) (mark : Bool) → (ltb share n || mark) ≡ true → (not (n == 0) || mark) ≡ true
+owed_by share n true is = by (not (n == 0))
+  where
+    by : (b : Bool) → (b || true) ≡ true
+    by true = refl
+    by false = refl
+owed_by share n false is = some_owed n (ltb-true share n (or_false (ltb share n) is))
+  where
+    or_false : (b : Bool) → (b || false) ≡ true → b ≡ true
+    or_false true e = refl
+    or_false false e = e
+
+    some_owed : (n : ℕ) → share < n → (not (n == 0) || false) ≡ true
+    some_owed n less = ap (λ b. not b || false) (ne_eqb n 0 (λ none. absurd (omega arith)))
+
+-- those of the page leave the list
+fewer_moved : (t : ℕ) (r b : Ram) → b.mapping ≡ cleaned r.mapping t → is_over r.mapping t ≡ true → length b.mapping.moved + r.mapping.share < length r.mapping.moved
+fewer_moved t r b mapping over =
+    let left : length b.mapping.moved ≡ length (without_page (per_page r.mapping) t r.mapping.moved) = ap (λ (m : MappingState). length m.moved) mapping in
+    let parts = length_parts (per_page r.mapping) t r.mapping.moved in
+    let more : r.mapping.share < length (moved_in (per_page r.mapping) t r.mapping.moved) = ltb-true _ _ over in
+    omega arith
+
 pub written_cost : (flushing : Bool) (t : ℕ) (r b : Ram) (p : Pin) → IsRam r → IsLowestDue flushing r t → HasPut Meta r b
     → HasNoMore r.mapping b.mapping → b.geometry ≡ r.geometry → b.mapping ≡ cleaned r.mapping t → p.marks ≡ set r.pin.marks t false
     → HasWritten flushing r (record b { pin = p })
@@ -118,8 +153,16 @@ written_cost flushing t r b p s low cost more same mapping marks = record {
   put = put_pinned Meta r b p cost;
   page = t;
   lowest = low;
-  of_moved = moved_only (has_moved r.mapping t) flushing (is_marked r t) low.due;
+  of_moved = over;
   mapping = mapping;
   moved = more.moved;
-  due = written_due t r (record b { pin = p }) s low.within (record { geometry = same; mapping = mapping; marks = marks }) flushing low.due;
+  many = λ off. fewer_moved t r b mapping (over off);
+  due = written_due t r (record b { pin = p }) s low.within left flushing low.due;
+  owed = written_owed t r (record b { pin = p }) s low.within left flushing (owed_by r.mapping.share (length (moved_in (per_page r.mapping) t r.mapping.moved)) (flushing && is_marked r t) low.due);
 }
+  where
+    left : HasLeft t r (record b { pin = p })
+    left = record { geometry = same; mapping = mapping; marks = marks }
+
+    over : flushing ≡ false → is_over r.mapping t ≡ true
+    over = moved_only (is_over r.mapping t) flushing (is_marked r t) low.due

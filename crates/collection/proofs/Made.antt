@@ -1,5 +1,5 @@
 -- What making room says holds of nothing done, of the last look at the free blocks, and of a fault that is noted.
-use Rattle.std.proofs.Common.{◌≡◌, ◌<◌, ◌≤◌, Bool, [], Result, Ok, Err, Some, refl, ap, sym, inl, subst, arith}
+use Rattle.std.proofs.Common.{◌≡◌, ℕ, ◌<◌, ◌≤◌, Bool, [], Result, Ok, Err, Some, refl, ap, sym, inl, subst, arith}
 use Rattle.std.specs.Prelude.{IfErr}
 use Rattle.page_layout.specs.View.{View}
 use Rattle.allocation.specs.State.{free_count}
@@ -16,8 +16,8 @@ use Rattle.collection.proofs.Looks.{ok_not_bus}
 use Rattle.collection.proofs.Noted.{on_noted, fresh_noted, tells_noted, room_refused_noted, few_noted}
 use Rattle.collection.proofs.Rooms.{on_same, rearranged_same, enough_truth}
 
-module _ {N : Type 0} {view : View N} (flushing : Bool) where
-  pub nothing_made : (a : Engine N) → IsCalm (ram a) → MakesRoom view flushing a a (Ok tt)
+module _ {N : Type 0} {view : View N} (many : ℕ) (flushing : Bool) where
+  pub nothing_made : (a : Engine N) → IsCalm (ram a) → MakesRoom view many flushing a a (Ok tt)
   nothing_made a calm = record {
     calm = calm;
     goes = on_same (ram a);
@@ -25,20 +25,20 @@ module _ {N : Type 0} {view : View N} (flushing : Bool) where
     refreshes = λ on. refreshes_same (ram a) (ram a) refl refl;
     works = inl refl;
     collects = ([], refl);
-    rests = λ nine. (refl, refl);
+    rests = λ enough. (refl, refl);
     tells = tt;
     truth = λ known w passed. rearranged_same (ram a) _ w;
     few = λ known w passed few ne. few;
   }
 
-  -- with nine free blocks at first there are nine still
-  pub not_resting : (a b : Engine N) → MakesRoom view flushing a b (Ok tt) → free_count (ram b).blocks < 9 → 9 ≤ free_count (ram a).blocks → ⊥
-  not_resting a b k scarce nine = (let still : free_count (ram b).blocks ≡ free_count (ram a).blocks = ap (λ (e : Engine N). free_count (ram e).blocks) (k.rests nine).1 in omega (arith, scarce, nine, still))
+  -- with as many free blocks as are wanted at first there are so many still
+  pub not_resting : (a b : Engine N) → MakesRoom view many flushing a b (Ok tt) → free_count (ram b).blocks < many → many ≤ free_count (ram a).blocks → ⊥
+  not_resting a b k scarce enough = (let still : free_count (ram b).blocks ≡ free_count (ram a).blocks = ap (λ (e : Engine N). free_count (ram e).blocks) (k.rests enough).1 in omega (arith, scarce, enough, still))
 
   -- the answer of the last look at the free blocks
-  pub enough_made : (a b : Engine N) (result : Result (Unit {0}) EngineFault) → IfErr result (λ fault. (fault ≡ ReadOnly) × (free_count (ram b).blocks < 5)) → MakesRoom view flushing a b (Ok tt) → MakesRoom view flushing a b result
-  enough_made a b (Ok u) e k = k
-  enough_made a b (Err fault) e k =
+  pub enough_made : 5 ≤ many → (a b : Engine N) (result : Result (Unit {0}) EngineFault) → IfErr result (λ fault. (fault ≡ ReadOnly) × (free_count (ram b).blocks < 5)) → MakesRoom view many flushing a b (Ok tt) → MakesRoom view many flushing a b result
+  enough_made least a b (Ok u) e k = k
+  enough_made least a b (Err fault) e k =
       let few : free_count (ram b).blocks < 5 = e.1 in
       let short : RoomTells (ram b) fault = subst (RoomTells (ram b)) (sym e.0) few in
       record {
@@ -48,13 +48,13 @@ module _ {N : Type 0} {view : View N} (flushing : Bool) where
         refreshes = k.refreshes;
         works = tt;
         collects = tt;
-        rests = λ nine. absurd (not_resting a b k (omega (arith, few)) nine);
+        rests = λ enough. absurd (not_resting a b k (omega (arith, few, least)) enough);
         tells = short;
         truth = λ known w passed. enough_truth (ram a) (ram b) _ _ (Err fault) (k.truth known w passed) e;
         few = λ known w passed few ne. k.few known w passed few (ok_not_bus tt);
       }
 
-  pub makes_noted : (a b : Engine N) (result : Result (Unit {0}) EngineFault) → MakesRoom view flushing a b result → MakesRoom view flushing a (record b { fault = fault_after b.fault result }) result
+  pub makes_noted : (a b : Engine N) (result : Result (Unit {0}) EngineFault) → MakesRoom view many flushing a b result → MakesRoom view many flushing a (record b { fault = fault_after b.fault result }) result
   makes_noted a b (Ok u) k = k
   makes_noted a b (Err f) k = record {
     calm = tt;
@@ -63,7 +63,7 @@ module _ {N : Type 0} {view : View N} (flushing : Bool) where
     keys = k.keys;
     refreshes = λ on. fresh_noted (Some f) (ram a) (ram b) (k.refreshes on);
     works = tt;
-    rests = λ nine. (let no = (k.rests nine).0 in let never : ⊥ = cc in absurd never);
+    rests = λ enough. (let no = (k.rests enough).0 in let never : ⊥ = cc in absurd never);
     tells = tells_noted (Some f) (ram b) f k.tells;
     truth = λ known w passed. room_refused_noted (Some f) (ram a) (ram b) _ _ f (k.truth known w passed);
     few = λ known w passed few ne. few_noted (Some f) (ram b) (k.few known w passed few ne);

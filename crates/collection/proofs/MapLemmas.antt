@@ -1,5 +1,6 @@
 -- What the directory and the mapping know of an image, as the image changes and as they follow it.
-use Rattle.std.proofs.Common.{◌≡◌, ◌≢◌, inl, inr, ℕ, ◌+◌, ◌/◌, ◌%◌, ◌<◌, List, length, set, slice_get, Option, Some, None, refl, ap, sym, ◌∙◌, subst, arith}
+use Rattle.std.proofs.Common.{◌≡◌, ◌≢◌, ◌⊎◌, inl, inr, ℕ, ◌+◌, ◌/◌, ◌%◌, ◌<◌, List, length, set, slice_get, Option, Some, None, Result, Ok, Err, OnOk, OnErr, unwrap_or, refl, ap, sym, ◌∙◌, subst, arith}
+use Rattle.std.specs.Option.{ForSome}
 use Rattle.std.proofs.lemmas.Bool.{cases_eq}
 use Rattle.page_layout.specs.declared.record.Record.{Record}
 use Rattle.page_layout.specs.declared.record.Key.{Key}
@@ -86,6 +87,30 @@ maps_entry g image directory m m' k row w here known_now pending_now known_other
 
     meta : (key : Key) (at : ℕ) → directory_place g key ≡ Some at → Some (Sector k) ≢ Some key
     meta key at is e = (let same : directory_place g (Sector k) ≡ directory_place g key = ap (directory_place g) (let s : Sector k ≡ key = cc in s) in let no : ⊥ = cc in no)
+
+-- a sector is cached, or was not
+pub maps_loaded : (g : Geometry) (image : Image) (directory : List (Option ℕ)) (m m' : MappingState) (k : ℕ) (row : Option ℕ)
+    → Maps None g image directory m → row ≡ newest_row image (Sector k) → (known m' k ≡ Some (unwrap_or (known m k) row)) ⊎ (m' ≡ m)
+    → ((n : ℕ) → n ≢ k → ForSome (known m' n) (λ r. known m n ≡ Some r)) → ((n : ℕ) → pending m' n ≡ pending m n) → Maps None g image directory m'
+maps_loaded g image directory m m' k row w here now others same = record {
+  directory_is = w.directory_is;
+  known_is = λ n q ne is. elim (cases_eq n k) [
+    | inl at ↦ elim now [
+      | inl loaded ↦ (let e : Some (unwrap_or (known m k) row) ≡ Some q = sym loaded ∙ (ap (known m') (sym at) ∙ is) in subst (λ j. q ≡ newest_row image (Sector j)) (sym at) (by (known m k) refl q e))
+      | inr kept ↦ w.known_is n q (none_not (Sector n)) (ap (λ z. known z n) (sym kept) ∙ is)
+    ]
+    | inr other ↦ w.known_is n q (none_not (Sector n)) (others n other q is)
+  ];
+  entry_is = λ n lt ne none. w.entry_is n lt (none_not (Sector n)) (sym (same n) ∙ none);
+}
+  where
+    by : (o : Option (Option ℕ)) → known m k ≡ o → (q : Option ℕ) → Some (unwrap_or o row) ≡ Some q → q ≡ newest_row image (Sector k)
+    by None is q e = (let f : row ≡ q = cc in sym f ∙ here)
+    by (Some r) is q e = (let f : r ≡ q = cc in sym f ∙ w.known_is k r (none_not (Sector k)) is)
+
+pub loaded_or_kept : {A E : Type 0} (result : Result A E) (P Q : Type 0) → OnOk result P → OnErr result Q → P ⊎ Q
+loaded_or_kept (Ok a) P Q p q = inl p
+loaded_or_kept (Err e) P Q p q = inr q
 
 -- two keys don't share a place
 pub places_apart : (g : Geometry) (a b : Key) (i : ℕ) → IsKeyOf g a → IsKeyOf g b → directory_place g a ≡ Some i → directory_place g b ≡ Some i → a ≡ b

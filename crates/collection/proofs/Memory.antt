@@ -1,11 +1,12 @@
 -- What an attempt to program makes of the memory, whatever the die does.
-use Rattle.std.proofs.Common.{◌≡◌, ◌≢◌, ℕ, ◌+◌, ◌*◌, ◌/◌, ◌<◌, ◌^◌, ◌||◌, not, Bool, true, false, length, Option, Some, refl, ap, sym, ◌∙◌, subst, arith}
+use Rattle.std.proofs.Common.{◌≡◌, ◌≢◌, ℕ, ◌+◌, ◌*◌, ◌/◌, ◌<◌, ◌≤◌, ◌^◌, ◌||◌, not, Bool, true, false, length, Option, Some, refl, ap, sym, ◌∙◌, subst, arith}
 use Rattle.std.specs.Option.{IfSome}
 use Rattle.page_layout.proofs.GeometryLemmas.{row_within}
 use Rattle.page_layout.specs.declared.geometry.Geometry.{Geometry}
 use Rattle.page_layout.specs.Geometry.{translation_pages, table_pages, row_count}
 use Rattle.bad_blocks.specs.declared.table.TableRow.{TableRow}
 use Rattle.bad_blocks.specs.Table.{is_good, is_good_at, good_count}
+use Rattle.mapping_cache.specs.Mapping.{moved_room}
 use Rattle.budget.specs.declared.stream.Stream.{Stream}
 use Rattle.allocation.specs.State as blocks
 use Rattle.allocation.specs.State.{State, pointer_at, is_closed, free_count}
@@ -15,7 +16,15 @@ use Rattle.allocation.proofs.OtherLemmas.{next_not_closed}
 use Rattle.collection.specs.State.{Ram, Pin}
 use Rattle.collection.specs.Safe.{IsRam, IsOutside, is_shut}
 use Rattle.collection.specs.Results.{Goes, GoesPut, KeepsTable}
+use Rattle.collection.specs.Collect.{waiting}
 use Rattle.collection.proofs.Blocks.{IsMade, IsTaken, block_of_taken, left_then}
+
+-- as many sectors are moved, at most, as a block has pages
+pub moved_places : (r : Ram) → IsRam r → moved_room r.mapping.geometry r.mapping.share ≡ waiting r + r.geometry.pages
+moved_places r s = rw s.mapping_of refl
+
+pub few_moved : (r : Ram) → IsRam r → length r.mapping.moved ≤ waiting r + r.geometry.pages
+few_moved r s = let within = s.mapping.moved_within in let room = moved_places r s in omega arith
 
 -- what no attempt changes, and the next sequence
 pub record Ticks (old new : Ram) : Type 0 where

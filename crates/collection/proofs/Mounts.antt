@@ -30,8 +30,10 @@ use Rattle.image_check.proofs.TablesLemmas.{table_is}
 use Rattle.collection.specs.State.{Ram}
 use Rattle.collection.specs.Safe.{IsRam}
 use Rattle.collection.specs.Maps.{Maps}
+use Rattle.collection.specs.Collect.{waiting}
 use Rattle.collection.specs.Truth.{IsTrue, HasTable}
 use Rattle.collection.proofs.MapLemmas.{none_not}
+use Rattle.collection.proofs.Memory.{few_moved}
 
 -- ---- stale sectors are cached or moved
 
@@ -81,8 +83,8 @@ held_counted m t held = elim held [
 ]
 
 -- each is held, or is one of some more for which the moved list has room
-pub few_held : (r : Ram) (image : Image) (more : List ℕ) → IsRam r → length r.mapping.moved + length more ≤ r.geometry.pages
-    → ((n : ℕ) → n < r.geometry.sectors → is_stale r.geometry image n ≡ true → IsHeld r.mapping n ⊎ (0 < count_by (λ k. eqb (k / 1) n) more)) → stale_count r.geometry image ≤ r.mapping.capacity + r.geometry.pages
+pub few_held : (r : Ram) (image : Image) (more : List ℕ) → IsRam r → length r.mapping.moved + length more ≤ waiting r + r.geometry.pages
+    → ((n : ℕ) → n < r.geometry.sectors → is_stale r.geometry image n ≡ true → IsHeld r.mapping n ⊎ (0 < count_by (λ k. eqb (k / 1) n) more)) → stale_count r.geometry image ≤ r.mapping.capacity + (waiting r + r.geometry.pages)
 unfolding stale_sectors
 few_held r image more s room each =
     let held : List ℕ = keys_of r.mapping.cached ++ keys_of r.mapping.moved in
@@ -97,10 +99,9 @@ few_held r image more s room each =
     let moved = length-map r.mapping.moved (λ (e : ℕ × ℕ). e.0) in
     omega (arith, length-filter (is_stale r.geometry image) (range_with_len 0 r.geometry.sectors), most, all, size, cached, moved, s.mapping.within, room)
 
-few_stale : (r : Ram) (image : Image) → IsRam r → IsTrue None r image → stale_count r.geometry image ≤ r.mapping.capacity + r.geometry.pages
+few_stale : (r : Ram) (image : Image) → IsRam r → IsTrue None r image → stale_count r.geometry image ≤ r.mapping.capacity + (waiting r + r.geometry.pages)
 few_stale r image s w =
-    let pages_same : r.mapping.geometry.pages ≡ r.geometry.pages = ap (λ (g : Geometry). g.pages) s.mapping_of in
-    let none : length r.mapping.moved + 0 ≤ r.geometry.pages = omega (arith, pages_same, s.mapping.moved_within) in
+    let none : length r.mapping.moved + 0 ≤ waiting r + r.geometry.pages = (let few = few_moved r s in omega arith) in
     few_held r image [] s none (λ n lt old. inl (stale_held r image n w lt old))
 
 -- ---- a certificate is to be had
@@ -111,7 +112,7 @@ tables_are g image has = record {
   formed = λ u lt. (let t = has u lt in subst (IsWellFormed (entries g) g.blocks u) (sym (table_is image u t.row t.newest_is)) t.formed);
 }
 
-pub orderly : (r : Ram) (image : Image) → IsRam r → IsTrue None r image → IsOrderly r.geometry (r.mapping.capacity + r.geometry.pages) image
+pub orderly : (r : Ram) (image : Image) → IsRam r → IsTrue None r image → IsOrderly r.geometry (r.mapping.capacity + (waiting r + r.geometry.pages)) image
 orderly r image s w = record {
   numbers = record { in_range = w.one.in_range };
   sequences = w.one.distinct;

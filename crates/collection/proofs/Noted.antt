@@ -45,20 +45,20 @@ module _ (fault : Option EngineFault) where
   room_refused_noted a b x y Damaged k = k
   room_refused_noted a b x y Bus k = tt
 
-  worth_noted : (b : Ram) → (9 ≤ free_count b.blocks) ⊎ HasNoneWorth b → (9 ≤ free_count b.blocks) ⊎ HasNoneWorth (record b { fault = fault })
-  worth_noted b (inl nine) = inl nine
-  worth_noted b (inr none) = inr (record { none = none.none })
+  worth_noted : (many : ℕ) (b : Ram) → (many ≤ free_count b.blocks) ⊎ HasNoneWorth b → (many ≤ free_count b.blocks) ⊎ HasNoneWorth (record b { fault = fault })
+  worth_noted many b (inl enough) = inl enough
+  worth_noted many b (inr none) = inr (record { none = none.none })
 
-  pub room_noted : (b : Ram) (result : Result (Unit {0}) EngineFault) → OnOk result (HasRoom b) → OnOk result (HasRoom (record b { fault = fault }))
-  room_noted b (Ok u) k = record { five = k.five; nine = worth_noted b k.nine }
-  room_noted b (Err f) k = tt
+  pub room_noted : (many : ℕ) (b : Ram) (result : Result (Unit {0}) EngineFault) → OnOk result (HasRoom many b) → OnOk result (HasRoom many (record b { fault = fault }))
+  room_noted many b (Ok u) k = record { five = k.five; wanted = worth_noted many b k.wanted }
+  room_noted many b (Err f) k = tt
 
-  pub counts_noted : (failures : ℕ) (a b : Ram) (result : Result (Unit {0}) EngineFault) → RoomCounts failures a b result → RoomCounts failures a (record b { fault = fault }) result
-  counts_noted failures a b (Ok u) k = record { its_failures = k.its_failures; good = k.good; funded = k.funded; nine = k.nine }
-  counts_noted failures a b (Err ReadOnly) k = k
-  counts_noted failures a b (Err SequenceSpent) k = k
-  counts_noted failures a b (Err Damaged) k = k
-  counts_noted failures a b (Err Bus) k = k
+  pub counts_noted : (many failures : ℕ) (a b : Ram) (result : Result (Unit {0}) EngineFault) → RoomCounts many failures a b result → RoomCounts many failures a (record b { fault = fault }) result
+  counts_noted many failures a b (Ok u) k = record { its_failures = k.its_failures; good = k.good; funded = k.funded; wanted = k.wanted }
+  counts_noted many failures a b (Err ReadOnly) k = k
+  counts_noted many failures a b (Err SequenceSpent) k = k
+  counts_noted many failures a b (Err Damaged) k = k
+  counts_noted many failures a b (Err Bus) k = k
 
   pub tells_noted : (b : Ram) (f : EngineFault) → RoomTells b f → RoomTells (record b { fault = fault }) f
   tells_noted b ReadOnly k = k

@@ -1,19 +1,23 @@
 -- What the words of a rescue and of a renewal come to.
-use Rattle.std.proofs.Common.{◌≡◌, inl, inr, ℕ, ◌+◌, ◌*◌, ◌/◌, ◌%◌, ◌<◌, true, false, Some, None, IsSome, refl, ap, sym, ◌∙◌, subst, arith}
+use Rattle.std.proofs.Common.{◌≡◌, ◌≢◌, inl, inr, ℕ, ◌+◌, ◌*◌, ◌/◌, ◌%◌, ◌<◌, ◌≤◌, Bool, true, false, Option, Some, None, IsSome, refl, ap, sym, ◌∙◌, subst, arith}
 use Rattle.std.specs.Map.{keys_of}
 use Rattle.std.proofs.Math.Nat.{div-add-mod'}
 use Rattle.std.proofs.lemmas.Bool.{cases_lt}
 use Rattle.page_layout.specs.declared.geometry.Geometry.{Geometry}
+use Rattle.page_layout.specs.declared.record.Key.{Key}
 use Rattle.page_layout.specs.declared.record.Key.TheVariants.{Sector}
 use Rattle.page_layout.specs.Page.{Image}
 use Rattle.budget.specs.declared.stream.Stream.TheVariants.{Meta}
-use Rattle.mapping_cache.specs.Mapping.{per_page, slot_of, cleaned}
+use Rattle.bad_blocks.specs.Table.{is_good_at}
+use Rattle.mapping_cache.specs.Mapping.{MappingState, per_page, slot_of, cleaned}
 use Rattle.collection.specs.State.{Ram}
 use Rattle.collection.specs.Safe.{IsRam}
+use Rattle.collection.specs.Pages.{newest_row}
 use Rattle.collection.specs.Cost.{HasPut}
 use Rattle.collection.specs.Live.{NotAt}
 use Rattle.collection.specs.Settle.{SetsMapping}
-use Rattle.collection.specs.Collect.{PutsBehind, IsFollowed, HasRescuedPage, LeavesLowest}
+use Rattle.collection.specs.Collect.{PutsBehind, IsFollowed, IsAiling, HasRescuedPage, LeavesLowest}
+use Rattle.collection.specs.Renew.{HasNoneDue, IsRenewedAt}
 use Rattle.collection.specs.Rescued.{LazyLaw, FollowedLaw, AloneLaw, OneLowestLaw, OneAnswerLaw}
 use Rattle.collection.proofs.Follows.{slot_by, some_or_none}
 use Rattle.collection.proofs.Lowest.{some_pages}

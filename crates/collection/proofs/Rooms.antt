@@ -5,7 +5,7 @@ use Rattle.std.proofs.lemmas.Bool.{cases_lt, eqb-true}
 use Rattle.std.specs.Prelude.{IfErr, MatchResult}
 use Rattle.page_layout.specs.declared.geometry.Geometry.{Geometry}
 use Rattle.page_layout.specs.declared.record.Key.{Key}
-use Rattle.page_layout.specs.Geometry.{need, vmax}
+use Rattle.page_layout.specs.Geometry.{need_at, vmax_at, flush_blocks_at}
 use Rattle.page_layout.specs.Page.{Image}
 use Rattle.page_layout.specs.Counter.{counted, HasRisen}
 use Rattle.page_layout.specs.Array.{marks, array_of}
@@ -16,7 +16,7 @@ use Rattle.bad_blocks.specs.Table.{is_good, is_good_at, good_count}
 use Rattle.page_layout.specs.declared.record.Record.{Record}
 use Rattle.budget.specs.Counts.{Fits}
 use Rattle.budget.specs.Spending.{Collected, IsFunded}
-use Rattle.budget.proofs.RoomLemmas.{collected_funded, never_stuck, nine}
+use Rattle.budget.proofs.RoomLemmas.{collected_funded, never_stuck, free_at}
 use Rattle.allocation.specs.State.{State, live_at, pointer_at, holds, free_count, is_free, is_closed}
 use Rattle.allocation.proofs.TallyLemmas.{good_by_number}
 use Rattle.page_layout.specs.Count.{blocks_that}
@@ -36,7 +36,7 @@ use Rattle.page_layout.specs.Sound.{version_for}
 use Rattle.collection.specs.Collect.{GoesOn, GoesBut, CollectCosts, CollectCounts, HasNoneWorth, RoomTells, IsRearranged, RoomRefused}
 use Rattle.collection.specs.declared.engine.Engine.{Engine}
 use Rattle.collection.specs.Acts.{RestsOrErases}
-use Rattle.collection.specs.Collect.{HasRegained, RoomCounts}
+use Rattle.collection.specs.Collect.{HasRegained, LacksBlocks, RoomCounts}
 use Rattle.collection.specs.Room.{IsMade, IsWorth, IsFundedOn}
 use Rattle.collection.proofs.Blocks.{left_then}
 use Rattle.collection.proofs.Copies.{exact_at}
@@ -47,7 +47,7 @@ use Rattle.collection.proofs.Ledgers.{fit}
 pub none_worth_none : (r : Ram) → IsRam r → ((b : ℕ) → b < r.blocks.geometry.blocks → is_closed r.blocks b ≡ false) → HasNoneWorth r
 none_worth_none r s none = record { none = λ b lt closed. (let f : is_closed r.blocks b ≡ false = none b (rw s.blocks_of lt) in let no : true ≡ false = sym closed ∙ f in let never : ⊥ = cc in absurd never) }
 
-pub none_worth_large : (r : Ram) (v : ℕ) → IsRam r → IsVictim r.blocks r.blocks.geometry.blocks v → vmax r.geometry < live_at r.blocks v → HasNoneWorth r
+pub none_worth_large : (r : Ram) (v : ℕ) → IsRam r → IsVictim r.blocks r.blocks.geometry.blocks v → vmax_at r.geometry r.mapping.share < live_at r.blocks v → HasNoneWorth r
 none_worth_large r v s w large = record { none = λ b lt closed. (let l = w.live_least b (rw s.blocks_of lt) closed in omega arith) }
 
 -- a good block is free, open or closed
@@ -89,23 +89,24 @@ good_most s whole =
     let all : count_by (is_good_at s.table) (range_with_len 0 s.geometry.blocks) ≡ good_count s.table = ap (λ n. count_by (is_good_at s.table) (range_with_len 0 n)) (sym whole) ∙ good_by_number s.table in
     omega (arith, four, all)
 
-none_enough : (more : ℕ) (r : Ram) → IsRam r → HasNoneWorth r → (ms : List (Option Record)) → IsLiveExact r.blocks ms → need r.geometry + more ≤ good_count r.blocks.table → 9 + more ≤ free_count r.blocks
-none_enough more r safe none ms exact enough =
+none_enough : (many : ℕ) (r : Ram) → IsRam r → HasNoneWorth r → (ms : List (Option Record)) → IsLiveExact r.blocks ms
+    → need_at r.geometry r.mapping.share + many ≤ good_count r.blocks.table + (9 + flush_blocks_at r.geometry r.mapping.share) → many ≤ free_count r.blocks
+none_enough many r safe none ms exact enough =
     let s : State = r.blocks in
-    let many : need s.geometry + more ≤ good_count s.table = rw safe.blocks_of enough in
-    nine s.geometry ms (is_closed s) more (free_count s)
+    let asked : need_at s.geometry r.mapping.share + many ≤ good_count s.table + (9 + flush_blocks_at s.geometry r.mapping.share) = rw safe.blocks_of enough in
+    free_at s.geometry r.mapping.share ms (is_closed s) many (free_count s)
     (count_by (holds s.data_open) (range_with_len 0 s.geometry.blocks) + count_by (holds s.meta_open) (range_with_len 0 s.geometry.blocks))
-    (omega (arith, good_most s safe.blocks.table_whole, many))
+    (omega (arith, good_most s safe.blocks.table_whole, asked))
     (omega (arith, held_most s.data_open s.geometry.blocks, held_most s.meta_open s.geometry.blocks)) (λ b lt closed.
     let below : b < r.geometry.blocks = (let P : Geometry → Type 0 = λ g. b < g.blocks in subst P safe.blocks_of lt) in
-    let large : vmax s.geometry < live_at s b = (let P : Geometry → Type 0 = λ g. vmax g < live_at s b in subst P (sym safe.blocks_of) (none.none b below closed)) in
+    let large : vmax_at s.geometry r.mapping.share < live_at s b = (let P : Geometry → Type 0 = λ g. vmax_at g r.mapping.share < live_at s b in subst P (sym safe.blocks_of) (none.none b below closed)) in
     omega (arith, large, exact b lt))
 
-pub made_free : (more : ℕ) (r : Ram) → 9 + more ≤ free_count r.blocks → IsMade more r
-made_free more r free = record { room = inl free; enough = λ ms exact many. free }
+pub made_free : (many : ℕ) (r : Ram) → many ≤ free_count r.blocks → IsMade many r
+made_free many r free = record { room = inl free; enough = λ ms exact asked. free }
 
-pub made_none_worth : (more : ℕ) (r : Ram) → IsRam r → HasNoneWorth r → IsMade more r
-made_none_worth more r s none = record { room = inr none; enough = none_enough more r s none }
+pub made_none_worth : (many : ℕ) (r : Ram) → IsRam r → HasNoneWorth r → IsMade many r
+made_none_worth many r s none = record { room = inr none; enough = none_enough many r s none }
 
 -- ---- blocks
 
@@ -223,36 +224,39 @@ funded_then failures a b c same f k =
       funded = (let e : failures + (f.its_failures + k'.failures) ≡ failures + f.its_failures + k'.failures = omega arith in rw e (collected_funded a.geometry.pages (failures + f.its_failures) (counts_of b.blocks) (counts_of c.blocks) f.funded k'));
     }
 
-pub refused_room : (failures : ℕ) (a b c : Ram) (fault : EngineFault) → IsRam b → b.geometry ≡ a.geometry → IsFundedOn failures a b → CollectCounts b c (Err fault) → RoomCounts failures a c (Err fault)
-refused_room failures a b c ReadOnly s same f k =
+pub refused_room : (many failures : ℕ) (a b c : Ram) (fault : EngineFault) → IsRam b → b.geometry ≡ a.geometry → IsFundedOn failures a b → CollectCounts b c (Err fault) → RoomCounts many failures a c (Err fault)
+refused_room many failures a b c ReadOnly s same f k =
     let fits_b : Fits a.geometry.pages (counts_of b.blocks) = (let P : Geometry → Type 0 = λ g. Fits g.pages (counts_of b.blocks) in subst P same (fit b s)) in
     let n = never_stuck a.geometry.pages (failures + f.its_failures) (counts_of b.blocks) (counts_of c.blocks) fits_b f.funded k in
     inr (omega (arith, n, f.good))
-refused_room failures a b c SequenceSpent s same f k = tt
-refused_room failures a b c Damaged s same f k = k
-refused_room failures a b c Bus s same f k = tt
+refused_room many failures a b c SequenceSpent s same f k = tt
+refused_room many failures a b c Damaged s same f k = k
+refused_room many failures a b c Bus s same f k = tt
 
--- with fewer than nine free blocks, and none worth collecting, fewer than `need` are good
-pub short_or_nine : (r : Ram) (x : Image) → IsTrue None r x → IsMade 0 r → ((counts_of r.blocks).good < need r.geometry) ⊎ (9 ≤ (counts_of r.blocks).free)
-short_or_nine r x w room = elim (cases_lt (counts_of r.blocks).good (need r.geometry)) [ inl few ↦ inl few | inr many ↦ inr (room.enough (marks x) w.live (omega (arith, many))) ]
+-- with fewer free blocks than are wanted, and none worth collecting, too few are good
+pub short_or_free : (many : ℕ) (r : Ram) (x : Image) → IsTrue None r x → IsMade many r → LacksBlocks many r r ⊎ (many ≤ (counts_of r.blocks).free)
+short_or_free many r x w room = elim (cases_lt ((counts_of r.blocks).good + (9 + flush_blocks_at r.geometry r.mapping.share)) (need_at r.geometry r.mapping.share + many)) [
+  | inl few ↦ inl few
+  | inr enough ↦ inr (room.enough (marks x) w.live (omega (arith, enough)))
+]
 
-pub regained : (failures : ℕ) (a b : Ram) (y : Image) → IsTrue None b y → b.geometry ≡ a.geometry → IsMade 0 b → IsFundedOn failures a b → HasRegained failures a b
-regained failures a b y w same room f = record { its_failures = f.its_failures; good = f.good; funded = f.funded; nine = (let n = short_or_nine b y w room in rw (← same) n) }
+pub regained : (many failures : ℕ) (a b : Ram) (y : Image) → IsTrue None b y → b.geometry ≡ a.geometry → b.mapping.share ≡ a.mapping.share → IsMade many b → IsFundedOn failures a b → HasRegained many failures a b
+regained many failures a b y w same share room f = record { its_failures = f.its_failures; good = f.good; funded = f.funded; wanted = (let n = short_or_free many b y w room in rw (← same, ← share) n) }
 
-pub too_few : (failures : ℕ) (a b : Ram) (y : Image) → IsTrue None b y → b.geometry ≡ a.geometry → IsMade 0 b → free_count b.blocks < 5 → RoomCounts failures a b (Err ReadOnly)
-too_few failures a b y w same room few = elim (short_or_nine b y w room) [ inl short ↦ inl (rw (← same) short) | inr nine ↦ absurd (omega arith) ]
+pub too_few : (many failures : ℕ) (a b : Ram) (y : Image) → 5 ≤ many → IsTrue None b y → b.geometry ≡ a.geometry → b.mapping.share ≡ a.mapping.share → IsMade many b → free_count b.blocks < 5 → RoomCounts many failures a b (Err ReadOnly)
+too_few many failures a b y least w same share room few = elim (short_or_free many b y w room) [ inl short ↦ inl (rw (← same, ← share) short) | inr enough ↦ absurd (omega (arith, enough, few, least)) ]
 
-pub made_none : (r : Ram) (o : Option ℕ) → MatchOption o (IsMade 0 r) (IsWorth 0 r) → o ≡ None → IsMade 0 r
-made_none r o m is = (let P : Option ℕ → Type 0 = λ x. MatchOption x (IsMade 0 r) (IsWorth 0 r) in subst P is m)
+pub made_none : (many : ℕ) (r : Ram) (o : Option ℕ) → MatchOption o (IsMade many r) (IsWorth many r) → o ≡ None → IsMade many r
+made_none many r o m is = (let P : Option ℕ → Type 0 = λ x. MatchOption x (IsMade many r) (IsWorth many r) in subst P is m)
 
-pub made_some : (r : Ram) (o : Option ℕ) (block : ℕ) → MatchOption o (IsMade 0 r) (IsWorth 0 r) → o ≡ Some block → IsWorth 0 r block
-made_some r o block m is = (let P : Option ℕ → Type 0 = λ x. MatchOption x (IsMade 0 r) (IsWorth 0 r) in subst P is m)
+pub made_some : (many : ℕ) (r : Ram) (o : Option ℕ) (block : ℕ) → MatchOption o (IsMade many r) (IsWorth many r) → o ≡ Some block → IsWorth many r block
+made_some many r o block m is = (let P : Option ℕ → Type 0 = λ x. MatchOption x (IsMade many r) (IsWorth many r) in subst P is m)
 
-pub final_counts : (failures : ℕ) (a b : Ram) (y : Image) (result : Result (Unit {0}) EngineFault) → IsTrue None b y → b.geometry ≡ a.geometry
-    → IsMade 0 b → IsFundedOn failures a b → IfErr result (λ fault. (fault ≡ ReadOnly) × (free_count b.blocks < 5))
-    → RoomCounts failures a b result
-final_counts failures a b y (Ok u) w same room f few = regained failures a b y w same room f
-final_counts failures a b y (Err fault) w same room f few = (let P : EngineFault → Type 0 = λ e. RoomCounts failures a b (Err e) in subst P (sym few.0) (too_few failures a b y w same room few.1))
+pub final_counts : (many failures : ℕ) (a b : Ram) (y : Image) (result : Result (Unit {0}) EngineFault) → 5 ≤ many → IsTrue None b y → b.geometry ≡ a.geometry
+    → b.mapping.share ≡ a.mapping.share → IsMade many b → IsFundedOn failures a b → IfErr result (λ fault. (fault ≡ ReadOnly) × (free_count b.blocks < 5))
+    → RoomCounts many failures a b result
+final_counts many failures a b y (Ok u) least w same share room f few = regained many failures a b y w same share room f
+final_counts many failures a b y (Err fault) least w same share room f few = (let P : EngineFault → Type 0 = λ e. RoomCounts many failures a b (Err e) in subst P (sym few.0) (too_few many failures a b y least w same share room few.1))
 
 -- the answer of the last look at the free blocks
 pub enough_truth : (a b : Ram) (x y : Image) (result : Result (Unit {0}) EngineFault) → IsRearranged a x b y → IfErr result (λ fault. (fault ≡ ReadOnly) × (free_count b.blocks < 5)) → MatchResult result (λ u. IsRearranged a x b y) (RoomRefused a x b y)

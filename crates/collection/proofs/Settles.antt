@@ -63,6 +63,7 @@ record Left (r r' : Ram) : Type 0 where
   pub rows : (k row : ℕ) → slice_get r'.directory k ≡ Some (Some row) → row < row_count r.geometry
   pub mapping : IsMapping r'.mapping
   pub mapping_of : r'.mapping.geometry ≡ r.mapping.geometry
+  pub share : r'.mapping.share ≡ r.mapping.share
 
 left : (r r' : Ram) (key : Key) (row : ℕ) → IsRam r → IsKeyOf r.geometry key → row < row_count r.geometry → SetsDirectory r.geometry key row r.directory r'.directory → SetsMapping key row r.mapping r'.mapping → Left r r'
 left r r' (Sector n) row s of_key lt d m = record {
@@ -70,18 +71,21 @@ left r r' (Sector n) row s of_key lt d m = record {
   rows = (let x = s.directory_rows in rw d x);
   mapping = m.valid;
   mapping_of = m.limits.geometry;
+  share = m.limits.share;
 }
 left r r' (Translation t) row s of_key lt d m = record {
   directory = ap length d ∙ length-set r.directory t (Some row);
   rows = rows_by r.directory r'.directory t row (row_count r.geometry) d lt s.directory_rows (let x = s.directory in omega arith);
   mapping = (let x = s.mapping in rw m x);
   mapping_of = ap (λ z. z.geometry) m;
+  share = ap (λ z. z.share) m;
 }
 left r r' (Table u) row s of_key lt d m = record {
   directory = ap length d ∙ length-set r.directory (translation_pages r.geometry + u) (Some row);
   rows = rows_by r.directory r'.directory (translation_pages r.geometry + u) row (row_count r.geometry) d lt s.directory_rows (let x = s.directory in omega arith);
   mapping = (let x = s.mapping in rw m x);
   mapping_of = ap (λ z. z.geometry) m;
+  share = ap (λ z. z.share) m;
 }
 
 pub settled_ram : (r r' : Ram) (key : Key) (row : ℕ) → IsRam r → IsKeyOf r.geometry key → row < row_count r.geometry → SettlesRow key row r r' → IsRam r'

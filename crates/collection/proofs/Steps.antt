@@ -22,7 +22,7 @@ use Rattle.collection.specs.Truth.{IsTrue}
 use Rattle.collection.specs.declared.fault.EngineFault.{EngineFault}
 use Rattle.collection.specs.declared.fault.EngineFault.TheVariants.{Bus}
 use Rattle.collection.specs.Results.{IsSame, IsImageKept, LeavesNewest, Goes, Refused}
-use Rattle.collection.specs.Collect.{has_moved, is_due, HasNoneDue, GoesBut, IsEmptied, IsCopiedOr, HasErased, FaultCosts, Refreshes}
+use Rattle.collection.specs.Collect.{has_moved, is_due, OwesNone, GoesBut, IsEmptied, IsCopiedOr, HasErased, FaultCosts, Refreshes}
 use Rattle.collection.proofs.Puts.{same_then, same_kept, refused_then}
 use Rattle.collection.proofs.Copies.{exact_at}
 use Rattle.collection.proofs.Dues.{erased_refreshes}
@@ -98,39 +98,14 @@ module _ (block : ℕ) (r r1 : Ram) (x x1 : Image) (same : r1 ≡ r) (goes : Goe
 
 -- ---- none has to be written any more
 
-head_known : (m : MappingState) (e : ℕ × ℕ) (ms : List (ℕ × ℕ)) → m.moved ≡ e ∷ ms → known m e.0 ≡ Some (Some e.1)
-unfolding known
-head_known m e ms is =
-    let here : (e.0 == e.0) ≡ true = eq-eqb e.0 e.0 refl in
-    let row : moved_row m e.0 ≡ Some e.1 = ap (lookup (λ k. e.0 == k)) is ∙ (rw here refl) in
-    ap (known_by (slot_of m e.0)) row
-
-pub moved_nil : (flushing : Bool) (r : Ram) → IsRam r → HasNoneDue flushing r → r.mapping.moved ≡ []
-moved_nil flushing r s none = by r.mapping.moved refl
-  where
-    by : (l : List (ℕ × ℕ)) → r.mapping.moved ≡ l → l ≡ []
-    by [] is = refl
-    by (e ∷ ms) is =
-        let entry : IsEntryOf r.mapping.geometry e.0 (Some e.1) = s.mapping.known_in e.0 (Some e.1) (head_known r.mapping e ms is) in
-        let pp : per_page r.mapping ≡ entries r.geometry = ap entries s.mapping_of in
-        let lt : e.0 / per_page r.mapping < translation_pages r.geometry = (let x = sector_entry r.mapping.geometry e.0 entry.sector in rw (← s.mapping_of) x) in
-        let page : (e.0 / per_page r.mapping == e.0 / per_page r.mapping) ≡ true = eq-eqb (e.0 / per_page r.mapping) (e.0 / per_page r.mapping) refl in
-        let more : length (moved_in (per_page r.mapping) (e.0 / per_page r.mapping) (e ∷ ms)) ≡ suc (length (moved_in (per_page r.mapping) (e.0 / per_page r.mapping) ms)) = rw page refl in
-        let some : has_moved r.mapping (e.0 / per_page r.mapping) ≡ true = ap
-        (λ l. not (length (moved_in (per_page r.mapping) (e.0 / per_page r.mapping) l) == 0)) is ∙ ap not
-        (ne_eqb (length (moved_in (per_page r.mapping) (e.0 / per_page r.mapping) (e ∷ ms))) 0 (λ z. absurd (omega (arith, more, z)))) in
-        let due : is_due flushing r (e.0 / per_page r.mapping) ≡ true = ap (λ b. b || (flushing && get_or r.pin.marks (e.0 / per_page r.mapping) false)) some in
-        let no : true ≡ false = sym due ∙ none (e.0 / per_page r.mapping) lt in
-        let never : ⊥ = cc in absurd never
-
-pub idle_by : (flushing : Bool) (block : ℕ) (r r' : Ram) → IsRam r → HasNoneDue flushing r → HasErased block r r' → r'.pin.marks ≡ replicate (translation_pages r.geometry) false → IsIdle r'
+pub idle_by : (flushing : Bool) (block : ℕ) (r r' : Ram) → IsRam r → OwesNone flushing r → HasErased block r r' → r'.pin.marks ≡ replicate (translation_pages r.geometry) false → IsIdle r'
 idle_by flushing block r r' s none e unmarked = record {
-  moved = ap (λ (m : MappingState). m.moved) e.mapping ∙ moved_nil flushing r s none;
+  moved = rw (e.mapping, e.geometry) none.few;
   unmarked = unmarked ∙ ap (λ g. replicate (translation_pages g) false) (sym e.geometry);
 }
 
-pub erased_fresh : (flushing : Bool) (block : ℕ) (r r' : Ram) → flushing ≡ true → HasNoneDue flushing r → HasErased block r r' → Refreshes r r'
-erased_fresh flushing block r r' on none e = erased_refreshes r r' (let P : Bool → Type 0 = λ b. HasNoneDue b r in subst P on none) e.geometry e.mapping
+pub erased_fresh : (flushing : Bool) (block : ℕ) (r r' : Ram) → flushing ≡ true → OwesNone flushing r → HasErased block r r' → Refreshes r r'
+erased_fresh flushing block r r' on none e = erased_refreshes r r' (let P : Bool → Type 0 = λ b. OwesNone b r in subst P on none) e.geometry e.mapping
 
 pub read_fault : (a b : Ram) (fault : EngineFault) → fault ≡ Bus → FaultCosts a b fault
 read_fault a b fault is = (let P : EngineFault → Type 0 = λ f. FaultCosts a b f in subst P (sym is) tt)

@@ -93,16 +93,17 @@ all_kept g a b ra rb keeps l = leaves_more a b ra rb (IsKeptOr g a.image b.image
 pub record IsSized (a b : Ram) : Type 0 where
   pub geometry : b.geometry ≡ a.geometry
   pub capacity : b.mapping.capacity ≡ a.mapping.capacity
+  pub share : b.mapping.share ≡ a.mapping.share
 
 pub sized_same : (a : Ram) → IsSized a a
-sized_same a = record { geometry = refl; capacity = refl }
+sized_same a = record { geometry = refl; capacity = refl; share = refl }
 
 pub sized_then : (a b c : Ram) → IsSized a b → IsSized b c → IsSized a c
-sized_then a b c p q = record { geometry = q.geometry ∙ p.geometry; capacity = q.capacity ∙ p.capacity }
+sized_then a b c p q = record { geometry = q.geometry ∙ p.geometry; capacity = q.capacity ∙ p.capacity; share = q.share ∙ p.share }
 
 pub orderly_sized : (a b : Ram) (image : Image) → IsSized a b → IsOrderly b.geometry (room_of b) image → IsOrderly a.geometry (room_of a) image
 orderly_sized a b image s o =
-    subst (λ g. IsOrderly g (a.mapping.capacity + g.pages) image) s.geometry (subst (λ c. IsOrderly b.geometry (c + b.geometry.pages) image) s.capacity o)
+    (let room : room_of b ≡ room_of a = rw (s.geometry, s.capacity, s.share) refl in subst (λ g. IsOrderly g (room_of a) image) s.geometry (subst (λ n. IsOrderly b.geometry n image) room o))
 
 pub array_sized : (a b : Ram) (x y : Image) → IsSized a b → array_of b.geometry x ≡ array_of b.geometry y → array_of a.geometry x ≡ array_of a.geometry y
 array_sized a b x y s e = subst (λ g. array_of g x ≡ array_of g y) s.geometry e

@@ -6,9 +6,9 @@ use Rattle.page_layout.specs.View.{View}
 use Rattle.page_layout.specs.declared.geometry.Geometry.{Geometry}
 use Rattle.page_layout.specs.declared.record.Record.{Record}
 use Rattle.page_layout.specs.Page.{Image}
-use Rattle.page_layout.specs.Geometry.{translation_pages, vmax}
+use Rattle.page_layout.specs.Geometry.{translation_pages, vmax_at}
 use Rattle.page_layout.specs.Change.{HoldsNone}
-use Rattle.allocation.specs.State.{live_at}
+use Rattle.allocation.specs.State.{live_at, is_closed}
 use Rattle.collection.specs.declared.engine.Engine.{Engine}
 use Rattle.collection.specs.declared.engine.Pinned.{Pinned}
 use Rattle.collection.specs.declared.engine.collect_steps.Progress.{Progress}
@@ -18,18 +18,19 @@ use Rattle.collection.specs.declared.engine.collect_in_turns.Step.TheVariants.{C
 use Rattle.collection.specs.declared.fault.EngineFault.{EngineFault}
 use Rattle.collection.specs.declared.fault.EngineFault.TheVariants.{ReadOnly, SequenceSpent, Damaged, Bus}
 use Rattle.collection.specs.State.{Ram}
-use Rattle.collection.specs.Safe.{IsRam, IsIdle, ram}
+use Rattle.collection.specs.Safe.{IsRam, IsIdle, ram, is_shut}
 use Rattle.collection.specs.Truth.{IsTrue}
 use Rattle.collection.specs.Live.{HoldsNoneIn, IsLivePage, FindsFirst, IsFirstLive}
 use Rattle.collection.specs.Results.{Goes, fault_after}
-use Rattle.collection.specs.Collect.{Refreshes, StepCosts, FaultCosts, IsStepped}
+use Rattle.collection.specs.Collect.{waiting, HasCopied, HasWritten, HasErased, Refreshes, StepCosts, FaultCosts, IsStepped}
 use Rattle.collection.specs.Whole.{erases_after}
-use Rattle.collection.specs.Left.{IsHalfDone, IsCalm, IsFew, HasPassed, TouchesNoMore, HasStepped, StepsOn, is_touched, told, pin_after, pinned_to}
+use Rattle.collection.specs.Left.{IsHalfDone, IsCalm, IsFew, HasPassed, TouchesNoMore, HasStepped, StepsOn, told, pin_after, pinned_to}
 use Rattle.collection.specs.Turns.{Advances, erases_told}
 use Rattle.collection.proofs.Gates.{goes_noted, refused_noted}
 use Rattle.collection.proofs.Noted.{but_noted, fresh_noted}
 use Rattle.collection.proofs.Lowest.{shut_closed, holds_none}
 use Rattle.collection.proofs.Lefts.{copy_law, write_law}
+use Rattle.collection.proofs.Ledgers.{sets_share, waiting_same}
 
 some_same : {A : Type 0} (x y : A) → Some x ≡ Some y → x ≡ y
 some_same x y e = cc
@@ -43,6 +44,25 @@ module _ (r b : Ram) (to : Option Pinned) where
   pub half_pinned : (q : Pinned) → IsHalfDone b q → IsHalfDone (pinned_to to b) q
   half_pinned q h = record { within = h.within; closed = h.closed; passed = h.passed; on_die = h.on_die }
 
+-- what a step cost is the same of a memory with another pin
+module _ (flushing : Bool) (block first : ℕ) (r b : Ram) (to : Option Pinned) where
+  copied_pinned : HasCopied flushing r b → HasCopied flushing r (pinned_to to b)
+  copied_pinned c = record { stream = c.stream; put = record { failures = c.put.failures; put = c.put.put; next = c.put.next }; key = c.key; row = c.row; sets = c.sets; moved = c.moved; due = c.due }
+
+  written_pinned : HasWritten flushing r b → HasWritten flushing r (pinned_to to b)
+  written_pinned c = record { put = record { failures = c.put.failures; put = c.put.put; next = c.put.next }; page = c.page; lowest = c.lowest; of_moved = c.of_moved; mapping = c.mapping; moved = c.moved; many = c.many; due = c.due; owed = c.owed }
+
+  erased_pinned : HasErased block r b → HasErased block r (pinned_to to b)
+  erased_pinned c = record { failures = c.failures; counts = c.counts; blocks = c.blocks; geometry = c.geometry; directory = c.directory; mapping = c.mapping; next = c.next; fault = c.fault }
+
+  pub cost_pinned : (done : Progress) → StepCosts flushing block first r b (Ok done) → StepCosts flushing block first r (pinned_to to b) (Ok done)
+  cost_pinned (step.Copied page) (low, high, c, f) = (low, high, copied_pinned c, f)
+  cost_pinned step.WroteBack c = written_pinned c
+  cost_pinned step.Erased (none, c) = (none, erased_pinned c)
+
+  pub touches_pinned : (x y : Image) → TouchesNoMore flushing block r x b y → TouchesNoMore flushing block r x (pinned_to to b) y
+  touches_pinned x y t = record { pages = t.pages; share = t.share; moves = t.moves }
+
 -- the block is still closed, and no more sectors are moved than pages were passed
 pub half_on : (flushing : Bool) (r b : Ram) (p : Pinned) (done : Progress) → IsHalfDone r p → (done ≢ step.Erased → Goes r b) → StepCosts flushing p.block p.first r b (Ok done) → ForSome (pin_after p.block r.geometry.pages done) (IsHalfDone b)
 half_on flushing r b p (step.Copied page) h goes (low, high, c, f) = λ q is.
@@ -51,7 +71,7 @@ half_on flushing r b p (step.Copied page) h goes (low, high, c, f) = λ q is.
     let half : IsHalfDone b next = record {
       within = rw g.geometry h.within;
       closed = (g.shut p.block h.within (shut_closed r.blocks p.block h.closed)).closed ∙ h.closed;
-      passed = (let m = c.moved in let q = h.passed in omega arith);
+      passed = (let m = c.moved in let q = h.passed in let may = waiting_same r b g.geometry (sets_share c.key c.row r.mapping b.mapping c.sets) in omega arith);
       on_die = rw g.geometry (omega (arith, high));
     } in
     subst (IsHalfDone b) (some_same next q is) half
@@ -61,7 +81,7 @@ half_on flushing r b p step.WroteBack h goes c = λ q is.
     let half : IsHalfDone b next = record {
       within = rw g.geometry h.within;
       closed = (g.shut p.block h.within (shut_closed r.blocks p.block h.closed)).closed ∙ h.closed;
-      passed = (let m = c.moved in let q = h.passed in let d = h.on_die in omega arith);
+      passed = (let m = c.moved in let q = h.passed in let d = h.on_die in let may = waiting_same r b g.geometry (ap (λ m. m.share) c.mapping) in omega arith);
       on_die = rw g.geometry (omega arith);
     } in
     subst (IsHalfDone b) (some_same next q is) half
@@ -69,20 +89,21 @@ half_on flushing r b p step.Erased h goes c = λ q is. (let no : ⊥ = cc in abs
 
 -- ---- the page that was found is copied
 
-pub touched_from : (flushing : Bool) (r r1 r2 : Ram) (x x1 : Image) (block first page row : ℕ) (found : Record) (body : List ℕ)
+pub touched_from : (flushing : Bool) (r r1 r2 : Ram) (x x1 x2 : Image) (block first page row : ℕ) (found : Record) (body : List ℕ)
     (live : Option (ℕ × Record)) → IsTrue None r x → r1 ≡ r → x1 ≡ x → row ≡ block * r1.geometry.pages + page → page < r.geometry.pages
     → FindsFirst r.geometry.pages block first body x live → live ≡ Some (page, found)
-    → (IsTrue None r1 x1 → IsLivePage row body found x1 → TouchesNoMore flushing (row / r1.geometry.pages) r1 x1 r2)
-    → TouchesNoMore flushing block r x r2
-touched_from flushing r r1 r2 x x1 block first page row found body live w same still at lt finds is call = λ t due.
+    → is_closed r.blocks block ≡ true
+    → (IsTrue None r1 x1 → is_shut r1.blocks (row / r1.geometry.pages) ≡ true → IsLivePage row body found x1 → TouchesNoMore flushing (row / r1.geometry.pages) r1 x1 r2 x2)
+    → TouchesNoMore flushing block r x r2 x2
+touched_from flushing r r1 r2 x x1 x2 block first page row found body live w same still at lt finds is closed call =
     let f : IsFirstLive r.geometry.pages block first page body found x = (let P : Option (ℕ × Record) → Type 0 = λ o. FindsFirst r.geometry.pages block first body x o in subst P is finds) in
     let here : row ≡ block * r.geometry.pages + page = at ∙ ap (λ (z : Ram). block * z.geometry.pages + page) same in
     let of_block : row / r1.geometry.pages ≡ block = ap (λ (z : Ram). row / z.geometry.pages) same ∙ (ap (λ k. k / r.geometry.pages) here ∙ div-mul-add block r.geometry.pages page lt) in
     let live_page : IsLivePage row body found x = (let P : ℕ → Type 0 = λ q. IsLivePage q body found x in subst P (sym here) f.live) in
-    let touched : is_touched flushing r1 x1 (row / r1.geometry.pages) t ≡ true = call (rw (same, still) w) (rw still live_page) t due in
-    let P : ℕ → Type 0 = λ k. is_touched flushing r1 x1 k t ≡ true in
-    let Q : Image → Type 0 = λ i. is_touched flushing r1 i block t ≡ true in
-    let R : Ram → Type 0 = λ z. is_touched flushing z x block t ≡ true in
+    let touched : TouchesNoMore flushing (row / r1.geometry.pages) r1 x1 r2 x2 = call (rw (same, still) w) (let here_shut : is_shut r.blocks (row / r1.geometry.pages) ≡ true = ap (is_shut r.blocks) of_block ∙ shut_closed r.blocks block closed in (let P : Ram → Type 0 = λ z. is_shut z.blocks (row / r1.geometry.pages) ≡ true in subst P (sym same) here_shut)) (rw still live_page) in
+    let P : ℕ → Type 0 = λ k. TouchesNoMore flushing k r1 x1 r2 x2 in
+    let Q : Image → Type 0 = λ i. TouchesNoMore flushing block r1 i r2 x2 in
+    let R : Ram → Type 0 = λ z. TouchesNoMore flushing block z x r2 x2 in
     subst R same (subst Q still (subst P of_block touched))
 
 -- ---- how a step is told
@@ -129,7 +150,7 @@ calm_on r b block pages done same unmarked next half idle = record {
   pinned = by b.pin.block refl;
 }
   where
-    by : (o : Option Pinned) → b.pin.block ≡ o → MatchOption o (b.mapping.moved ≡ []) (IsHalfDone b)
+    by : (o : Option Pinned) → b.pin.block ≡ o → MatchOption o (length b.mapping.moved ≤ waiting b) (IsHalfDone b)
     by None is = (idle (none_erased block pages done (sym next ∙ is))).moved
     by (Some q) is = half q is
 
@@ -138,11 +159,12 @@ stepped_on flushing p r b (step.Copied page) (low, high, c, f) next = record { c
 stepped_on flushing p r b step.WroteBack c next = record { cost = c; next = next }
 stepped_on flushing p r b step.Erased (none, c) next = record { cost = c; next = next }
 
-few_on : (r b : Ram) (p q : Pinned) → q.block ≡ p.block → b.geometry ≡ r.geometry → live_at b.blocks p.block ≤ live_at r.blocks p.block → live_at b.blocks p.block + length b.mapping.moved ≤ live_at r.blocks p.block + length r.mapping.moved → IsFew 0 r p → IsFew 0 b q
-few_on r b p q at same fewer sum few =
+few_on : (r b : Ram) (p q : Pinned) → q.block ≡ p.block → b.geometry ≡ r.geometry → b.mapping.share ≡ r.mapping.share → live_at b.blocks p.block ≤ live_at r.blocks p.block → live_at b.blocks p.block + length b.mapping.moved ≤ live_at r.blocks p.block + length r.mapping.moved → IsFew 0 r p → IsFew 0 b q
+few_on r b p q at same share fewer sum few =
     let small = few.small in
     let moved = few.moved in
-    let size : vmax b.geometry ≡ vmax r.geometry = ap vmax same in
+    let size : vmax_at b.geometry b.mapping.share ≡ vmax_at r.geometry r.mapping.share = rw (same, share) refl in
+    let may = waiting_same r b same share in
     let live : live_at b.blocks q.block ≡ live_at b.blocks p.block = ap (live_at b.blocks) at in
     record { within = (let lt = few.within in rw (same, at) lt); small = omega arith; moved = omega arith }
 
@@ -152,7 +174,7 @@ none_in pages block image h = record { none = λ p ge lt key is. h.none key (blo
 
 pub steps_on : (flushing : Bool) (p : Pinned) (r b : Ram) (x y : Image) (done : Progress) → IsRam b → IsHalfDone r p → b.geometry ≡ r.geometry
     → StepCosts flushing p.block p.first r b (Ok done) → b.pin.block ≡ pin_after p.block r.geometry.pages done → IsStepped p.block r x b y done
-    → ((page : ℕ) → done ≡ step.Copied page → TouchesNoMore flushing p.block r x b) → StepsOn flushing p r x b y (told done)
+    → ((page : ℕ) → done ≡ step.Copied page → TouchesNoMore flushing p.block r x b y) → StepsOn flushing p r x b y (told done)
 steps_on flushing p r b x y (step.Copied page) s' h same (low, high, c, f) next s touched =
     let to : Pinned = record { block = p.block; first = page + 1 } in
     let passed : HasPassed b y to = (let P : Geometry → Type 0 = λ g. HoldsNoneIn g.pages p.block 0 (page + 1) y in subst P (sym same) s.none) in
@@ -164,7 +186,7 @@ steps_on flushing p r b x y (step.Copied page) s' h same (low, high, c, f) next 
       none = λ ne. absurd (ne refl);
       passed = λ q is. subst (HasPassed b y) (some_same to q (sym next ∙ is)) passed;
       left = λ ne. copy_law flushing r b x y p.block h.within h.closed same s.same.leaves (touched page refl) fewer;
-      few = λ few q is. subst (IsFew 0 b) (some_same to q (sym next ∙ is)) (few_on r b p to refl same (omega arith) (omega arith) few);
+      few = λ few q is. subst (IsFew 0 b) (some_same to q (sym next ∙ is)) (few_on r b p to refl same (touched page refl).share (omega arith) (omega arith) few);
     }
 steps_on flushing p r b x y step.WroteBack s' h same c next s touched =
     let to : Pinned = record { block = p.block; first = r.geometry.pages } in
@@ -179,7 +201,7 @@ steps_on flushing p r b x y step.WroteBack s' h same c next s touched =
       none = λ ne. none;
       passed = λ q is. subst (HasPassed b y) (some_same to q (sym next ∙ is)) passed;
       left = λ ne. write_law flushing r b x y p.block s' s.same.truth h.within same none c;
-      few = λ few q is. subst (IsFew 0 b) (some_same to q (sym next ∙ is)) (few_on r b p to refl same (omega arith) (omega arith) few);
+      few = λ few q is. subst (IsFew 0 b) (some_same to q (sym next ∙ is)) (few_on r b p to refl same (ap (λ m. m.share) c.mapping) (omega arith) (omega arith) few);
     }
 steps_on flushing p r b x y step.Erased s' h same c next s touched = record {
   same = s.same;

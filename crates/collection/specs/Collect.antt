@@ -1,6 +1,7 @@
 -- What a collection of a block does, step by step and as a whole.
 use Rattle.std.specs.Prelude.{◌≡◌, ◌≢◌, ◌⊎◌, ℕ, ◌+◌, ◌-◌, ◌*◌, ◌/◌, ◌<◌, ◌≤◌, ◌==◌, ◌^◌, ◌||◌, ◌&&◌, min, Bool, true, false, not, List, [], ◌∷◌, length}
-use Rattle.std.specs.Prelude.{slice_set, get_or, count_by, Option, Some, None, IsSome, Result, Ok, Err}
+use Rattle.std.specs.Prelude.{slice_set, get_or, count_by, nat_lt, Option, Some, None, IsSome, Result, Ok, Err}
+use Rattle.std.specs.Int.{div_ceil}
 use Rattle.std.specs.List.{range_with_len}
 use Rattle.std.specs.Map.{keys_of}
 use Rattle.page_layout.specs.Page.{Image}
@@ -8,7 +9,7 @@ use Rattle.page_layout.specs.declared.geometry.Geometry.{Geometry}
 use Rattle.page_layout.specs.declared.record.Key.{Key}
 use Rattle.page_layout.specs.declared.record.Record.{Record}
 use Rattle.page_layout.specs.declared.record.Key.TheVariants.{Sector, Translation, Table}
-use Rattle.page_layout.specs.Geometry.{translation_pages, entries, need, vmax}
+use Rattle.page_layout.specs.Geometry.{translation_pages, entries, need_at, vmax_at, waiting_at, flush_blocks_at}
 use Rattle.page_layout.specs.Change.{HoldsNone}
 use Rattle.page_layout.specs.Sound.{version_for}
 use Rattle.page_layout.specs.Version.{is_old, AddsNoOld}
@@ -17,6 +18,7 @@ use Rattle.bad_blocks.specs.Table.{is_good_at, wear_at, most_wear}
 use Rattle.budget.specs.declared.stream.Stream.{Stream}
 use Rattle.budget.specs.declared.stream.Stream.TheVariants.{Meta}
 use Rattle.budget.specs.Counts.{Erased}
+use Rattle.budget.specs.Laws.{Accounts}
 use Rattle.budget.specs.Spending.{Spending, Collected, Stuck, IsFunded}
 use Rattle.mapping_cache.specs.Mapping.{MappingState, HasLimitsOf, per_page, pending, slot_of, moved_in, cleaned}
 use Rattle.collection.specs.declared.engine.collect_in_turns.Step.{Step}
@@ -44,26 +46,43 @@ use Rattle.collection.specs.Truth.{IsTrue}
 abbrev pub has_moved : MappingState → ℕ → Bool
 has_moved m t = not (length (moved_in (per_page m) t m.moved) == 0)
 
+-- more of them than the share are
+abbrev pub is_over : MappingState → ℕ → Bool
+is_over m t = nat_lt m.share (length (moved_in (per_page m) t m.moved))
+
 abbrev pub is_marked : Ram → ℕ → Bool
 is_marked r t = get_or r.pin.marks t false
 
--- it has to be written before the block is erased: a sector of it is on the moved list or, in a flush, it is marked
-abbrev pub is_due : Bool → Ram → ℕ → Bool
-is_due flushing r t = has_moved r.mapping t || (flushing && is_marked r t)
+-- how many moved sectors may wait for their translation pages once a collection has ended
+abbrev pub waiting : Ram → ℕ
+waiting r = waiting_at r.geometry r.mapping.share
 
--- how many have to
+-- it is due before the block is erased: more than the share of its sectors are on the moved list or, in a flush, it is marked
+abbrev pub is_due : Bool → Ram → ℕ → Bool
+is_due flushing r t = is_over r.mapping t || (flushing && is_marked r t)
+
+-- it may come to be: some sector of it is on the moved list or, in a flush, it is marked
+abbrev pub is_owed : Bool → Ram → ℕ → Bool
+is_owed flushing r t = has_moved r.mapping t || (flushing && is_marked r t)
+
+abbrev pub owed_count : Bool → Ram → ℕ
+owed_count flushing r = count_by (is_owed flushing r) (range_with_len 0 (translation_pages r.geometry))
+
+-- how many are due
 abbrev pub due_count : Bool → Ram → ℕ
 due_count flushing r = count_by (is_due flushing r) (range_with_len 0 (translation_pages r.geometry))
 
--- the lowest of them
+-- THE LOWEST OF THEM is written back; unless flushing, just where more sectors are moved than may wait
 pub record IsLowestDue (flushing : Bool) (r : Ram) (t : ℕ) : Type 0 where
   pub within : t < translation_pages r.geometry
   pub due : is_due flushing r t ≡ true
   pub lowest : (k : ℕ) → k < t → is_due flushing r k ≡ false
+  pub many : flushing ≡ false → waiting r < length r.mapping.moved
 
--- none has to
-abbrev pub HasNoneDue : Bool → Ram → Type 0
-HasNoneDue flushing r = (t : ℕ) → t < translation_pages r.geometry → is_due flushing r t ≡ false
+-- none has to be written back: no more sectors are moved than may wait and, in a flush, no translation page is marked
+pub record OwesNone (flushing : Bool) (r : Ram) : Type 0 where
+  pub few : length r.mapping.moved ≤ waiting r
+  pub unmarked : flushing ≡ true → (t : ℕ) → t < translation_pages r.geometry → is_marked r t ≡ false
 
 -- the marks after a copy of a page of this key: in a flush the translation page of a sector is marked
 abbrev pub marks_after : Bool → Geometry → Key → List Bool → List Bool
@@ -130,15 +149,18 @@ pub record HasCopied (flushing : Bool) (old new : Ram) : Type 0 where
   pub moved : length new.mapping.moved ≤ length old.mapping.moved + 1
   pub due : due_count flushing new ≤ due_count flushing old + 1
 
--- The lowest translation page that has to be written was, and lacks no row: one less has to be. UNLESS FLUSHING, a sector of it was moved.
+-- The lowest translation page that is due was written back, and lacks no row: one less is due. UNLESS FLUSHING, more than the share of its
+-- sectors were moved, and they are so no more.
 pub record HasWritten (flushing : Bool) (old new : Ram) : Type 0 where
   pub put : HasPut Meta old new
   pub page : ℕ
   pub lowest : IsLowestDue flushing old page
-  pub of_moved : flushing ≡ false → has_moved old.mapping page ≡ true
+  pub of_moved : flushing ≡ false → is_over old.mapping page ≡ true
   pub mapping : new.mapping ≡ cleaned old.mapping page
   pub moved : length new.mapping.moved ≤ length old.mapping.moved
+  pub many : flushing ≡ false → length new.mapping.moved + old.mapping.share < length old.mapping.moved
   pub due : due_count flushing new + 1 ≤ due_count flushing old
+  pub owed : owed_count flushing new + 1 ≤ owed_count flushing old
 
 -- a page that found no block, or no sequence
 pub record StreamRunsOut (old new : Ram) : Type 0 where
@@ -160,7 +182,7 @@ FaultCosts old new Bus = Unit {0}
 abbrev pub StepCosts : Bool → (block first : ℕ) → Ram → Ram → Result Progress EngineFault → Type 0
 StepCosts flushing block first old new (Ok (step.Copied page)) = (first ≤ page) × (page < old.geometry.pages) × HasCopied flushing old new × (new.fault ≡ old.fault)
 StepCosts flushing block first old new (Ok step.WroteBack) = HasWritten flushing old new
-StepCosts flushing block first old new (Ok step.Erased) = HasNoneDue flushing old × HasErased block old new
+StepCosts flushing block first old new (Ok step.Erased) = OwesNone flushing old × HasErased block old new
 StepCosts flushing block first old new (Err fault) = FaultCosts old new fault
 
 -- ---- what it does, where the die is honest
@@ -230,8 +252,27 @@ written_in (steps.Copied ∷ before) = written_in before
 written_in (steps.WroteBack ∷ before) = written_in before + 1
 written_in (steps.Erased ∷ before) = written_in before
 
--- So far so many pages were copied and so many translation pages written back, step by step. As many more have to be written as are due, and
--- with them they are no more than the copies and those that were due at first, and no more than there are.
+-- how much too many there are: in a flush the translation pages that are due, and else the moved sectors beyond those that may wait
+abbrev pub excess : Bool → Ram → ℕ
+excess true r = due_count true r
+excess false r = length r.mapping.moved - waiting r
+
+-- one more translation page has to be written back
+pub record OwesPage (flushing : Bool) (r : Ram) : Type 0 where
+  pub due : 0 < due_count flushing r
+  pub many : flushing ≡ false → waiting r < length r.mapping.moved
+
+-- THE ACCOUNT OF A COLLECTION that has copied so many pages and written so many translation pages back. In a flush these, and those that are due,
+-- are no more than the copies and those that were due at first. Else each was written for more than the share of the moved sectors, and only while
+-- more were moved than may wait. None is written twice.
+pub record IsAccount (flushing : Bool) (first now : Ram) (copies written : ℕ) : Type 0 where
+  pub flushed : flushing ≡ true → written + due_count flushing now ≤ copies + due_count flushing first
+  pub share : now.mapping.share ≡ first.mapping.share
+  pub moved : flushing ≡ false → Accounts first.mapping.share (length first.mapping.moved) copies written (length now.mapping.moved)
+  pub last : flushing ≡ false → (written ≡ 0) ⊎ ((first.mapping.share + 1) * written + waiting first ≤ length first.mapping.moved + copies + first.mapping.share)
+  pub once : written + due_count flushing now ≤ translation_pages first.geometry
+
+-- So far so many pages were copied and so many translation pages written back, step by step.
 pub record Ledger (flushing : Bool) (first now : Ram) : Type 0 where
   pub steps_taken : List Step
   pub lead : LeadTo flushing first steps_taken now
@@ -243,22 +284,21 @@ pub record Ledger (flushing : Bool) (first now : Ram) : Type 0 where
   pub meta_pages : ℕ
   pub pages : data_pages + meta_pages ≡ copies + written
   pub programmed : HasProgrammed first now data_pages meta_pages
-  pub for_copies : written + due_count flushing now ≤ copies + due_count flushing first
-  pub for_pages : written + due_count flushing now ≤ translation_pages first.geometry
+  pub account : IsAccount flushing first now copies written
 
 -- copies, translation pages until none has to be written, and the erase of the block
 pub record HasCollected (flushing : Bool) (block : ℕ) (old new : Ram) : Type 0 where
   pub mid : Ram
   pub ledger : Ledger flushing old mid
-  pub none : HasNoneDue flushing mid
+  pub none : OwesNone flushing mid
   pub erase : HasErased block mid new
 
--- WHERE THE DIE IS HONEST, and none was due before: a block with so many newest pages costs as many copies at most, and as many translation
--- pages, and no more of these than there are
+-- WHERE THE DIE IS HONEST, and no more sectors were moved before than may wait: a block with so many newest pages costs as many copies at most,
+-- and one translation page for each `share + 1` of them, and no more of these than there are
 pub record CollectsFew (flushing : Bool) (block : ℕ) (old new : Ram) : Type 0 where
   pub collected : HasCollected flushing block old new
   pub copies : collected.ledger.copies ≤ live_at old.blocks block
-  pub written : collected.ledger.written ≤ min (live_at old.blocks block) (translation_pages old.geometry)
+  pub written : collected.ledger.written ≤ min (div_ceil (live_at old.blocks block) (old.mapping.share + 1)) (translation_pages old.geometry)
 
 -- copies and translation pages, and one more page that found no block, or no sequence
 pub record HasStuck (flushing : Bool) (old new : Ram) : Type 0 where
@@ -278,7 +318,7 @@ CollectCosts flushing block old new (Err SequenceSpent) = HasSpentIn flushing ol
 CollectCosts flushing block old new (Err Damaged) = Unit {0}
 CollectCosts flushing block old new (Err Bus) = Unit {0}
 
--- ---- the count, where the die is honest and the block has at most vmax newest pages
+-- ---- the count, where the die is honest and the block has at most vmax_at newest pages
 
 -- FEWER PAGES THAN A BLOCK HAS were programmed, but for one more for each failure
 abbrev pub IsThrifty : Ram → Ram → Type 0
@@ -296,12 +336,16 @@ CollectCounts old new (Err Bus) = Unit {0}
 
 -- no closed block has as few live pages
 pub record HasNoneWorth (r : Ram) : Type 0 where
-  pub none : (b : ℕ) → b < r.geometry.blocks → is_closed r.blocks b ≡ true → vmax r.geometry < live_at r.blocks b
+  pub none : (b : ℕ) → b < r.geometry.blocks → is_closed r.blocks b ≡ true → vmax_at r.geometry r.mapping.share < live_at r.blocks b
 
--- what there is when room was made: five free blocks, and nine unless no block is worth collecting
-pub record HasRoom (r : Ram) : Type 0 where
+-- what there is when room was made: five free blocks, and as many as are wanted unless no block is worth collecting
+pub record HasRoom (many : ℕ) (r : Ram) : Type 0 where
   pub five : 5 ≤ free_count r.blocks
-  pub nine : (9 ≤ free_count r.blocks) ⊎ HasNoneWorth r
+  pub wanted : (many ≤ free_count r.blocks) ⊎ HasNoneWorth r
+
+-- FEWER BLOCKS ARE GOOD than so many free ones ask for: `need_at` asks for nine and those of a flush
+abbrev pub LacksBlocks : ℕ → Ram → Ram → Type 0
+LacksBlocks many old new = (counts_of new.blocks).good + (9 + flush_blocks_at old.geometry old.mapping.share) < need_at old.geometry old.mapping.share + many
 
 -- why there is none, whatever the die does
 abbrev pub RoomTells : Ram → EngineFault → Type 0
@@ -324,21 +368,21 @@ RoomRefused old before new after SequenceSpent = IsRearranged old before new aft
 RoomRefused old before new after Damaged = ⊥
 RoomRefused old before new after Bus = Unit {0}
 
--- THE COUNT: with so many failures before it the pool held five blocks' pages but for a block for each failure, and so it does now; nine blocks are free
--- unless fewer than `need` are good
-pub record HasRegained (failures : ℕ) (old new : Ram) : Type 0 where
+-- THE COUNT: with so many failures before it the pool held five blocks' pages but for a block for each failure, and so it does now; as many blocks
+-- are free as are wanted, unless too few are good
+pub record HasRegained (many failures : ℕ) (old new : Ram) : Type 0 where
   pub its_failures : ℕ
   pub good : (counts_of old.blocks).good ≡ (counts_of new.blocks).good + its_failures
   pub funded : IsFunded old.geometry.pages (failures + its_failures) (counts_of new.blocks)
-  pub nine : ((counts_of new.blocks).good < need old.geometry) ⊎ (9 ≤ (counts_of new.blocks).free)
+  pub wanted : LacksBlocks many old new ⊎ (many ≤ (counts_of new.blocks).free)
 
--- refused: fewer than `need` blocks are good, or three have failed, here and before
-abbrev pub RoomCounts : ℕ → Ram → Ram → Result (Unit {0}) EngineFault → Type 0
-RoomCounts failures old new (Ok done) = HasRegained failures old new
-RoomCounts failures old new (Err ReadOnly) = ((counts_of new.blocks).good < need old.geometry) ⊎ (3 + (counts_of new.blocks).good ≤ failures + (counts_of old.blocks).good)
-RoomCounts failures old new (Err SequenceSpent) = Unit {0}
-RoomCounts failures old new (Err Damaged) = ⊥
-RoomCounts failures old new (Err Bus) = Unit {0}
+-- refused: too few blocks are good, or three have failed, here and before
+abbrev pub RoomCounts : (many failures : ℕ) → Ram → Ram → Result (Unit {0}) EngineFault → Type 0
+RoomCounts many failures old new (Ok done) = HasRegained many failures old new
+RoomCounts many failures old new (Err ReadOnly) = LacksBlocks many old new ⊎ (3 + (counts_of new.blocks).good ≤ failures + (counts_of old.blocks).good)
+RoomCounts many failures old new (Err SequenceSpent) = Unit {0}
+RoomCounts many failures old new (Err Damaged) = ⊥
+RoomCounts many failures old new (Err Bus) = Unit {0}
 
 -- ---- a page is rescued
 

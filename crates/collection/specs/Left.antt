@@ -1,11 +1,12 @@
 -- A block that is collected from turn to turn, and how much of its collection is left.
-use Rattle.std.specs.Prelude.{◌≡◌, ◌≢◌, ℕ, ◌+◌, ◌-◌, ◌/◌, ◌<◌, ◌≤◌, ◌==◌, ◌||◌, Bool, true, false, not, List, [], length, replicate, filter, count_by, Option, Some, None, MatchOption}
+use Rattle.std.specs.Prelude.{◌≡◌, ◌≢◌, ℕ, ◌+◌, ◌-◌, ◌/◌, ◌<◌, ◌≤◌, ◌==◌, ◌||◌, ◌&&◌, min, Bool, true, false, not, List, length, replicate, filter, count_by, Option, Some, None, MatchOption}
+use Rattle.std.specs.Int.{div_ceil}
 use Rattle.std.specs.List.{range_with_len}
 use Rattle.std.specs.Option.{ForSome}
 use Rattle.page_layout.specs.declared.geometry.Geometry.{Geometry}
 use Rattle.page_layout.specs.declared.record.Key.TheVariants.{Sector}
 use Rattle.page_layout.specs.Page.{Image}
-use Rattle.page_layout.specs.Geometry.{translation_pages, entries, vmax}
+use Rattle.page_layout.specs.Geometry.{translation_pages, entries, vmax_at}
 use Rattle.page_layout.specs.Live.{is_in_block}
 use Rattle.allocation.specs.State.{live_at, is_closed}
 use Rattle.collection.specs.declared.engine.Pinned.{Pinned}
@@ -19,7 +20,7 @@ use Rattle.collection.specs.Live.{HoldsNoneIn}
 use Rattle.collection.specs.Safe.{IsRam, IsIdle}
 use Rattle.collection.specs.Truth.{IsTrue}
 use Rattle.collection.specs.Results.{Goes, LeavesNewest, IsSame}
-use Rattle.collection.specs.Collect.{is_due, due_count, has_moved, HasCopied, HasWritten, HasErased}
+use Rattle.collection.specs.Collect.{has_moved, is_owed, waiting, OwesNone, HasCopied, HasWritten, HasErased}
 
 -- ---- how much is left
 
@@ -31,46 +32,59 @@ sectors_in g image block = filter (λ n. is_in_block g.pages block (newest_row i
 abbrev pub is_of_some : ℕ → List ℕ → ℕ → Bool
 is_of_some per_page sectors t = not (count_by (λ n. n / per_page == t) sectors == 0)
 
--- a sector of translation page t is on the moved list or has its newest page in the block; in a flush also: the page is marked
+-- translation page t is owed, or a sector of it has its newest page in the block
 abbrev pub is_touched : Bool → Ram → Image → ℕ → ℕ → Bool
-is_touched flushing r image block t = is_due flushing r t || is_of_some (entries r.geometry) (sectors_in r.geometry image block) t
+is_touched flushing r image block t = is_owed flushing r t || is_of_some (entries r.geometry) (sectors_in r.geometry image block) t
 
 abbrev pub touched_count : Bool → Ram → Image → ℕ → ℕ
 touched_count flushing r image block = count_by (is_touched flushing r image block) (range_with_len 0 (translation_pages r.geometry))
 
--- THE PAGES THAT ARE LEFT TO PROGRAM before the block is erased, at most: its newest pages, and the different translation pages of their sectors
--- and of the moved ones
-abbrev pub left_in : Bool → Ram → Image → ℕ → ℕ
-left_in flushing r image block = live_at r.blocks block + touched_count flushing r image block
+-- so many of n moved sectors have to be off the list, each translation page with more than the share of them, before no more are moved than may wait
+abbrev pub batches : (share may_wait n : ℕ) → ℕ
+batches share may_wait n = div_ceil (n - may_wait) (share + 1)
 
--- the number left of a device: one less than a block has pages where none is pinned
+-- the sectors that are moved, or will be once the block is copied out
+abbrev pub moves_in : Ram → Image → ℕ → ℕ
+moves_in r image block = length r.mapping.moved + length (sectors_in r.geometry image block)
+
+-- THE TRANSLATION PAGES THAT ARE LEFT TO WRITE BACK before the block is erased, at most: those that are touched and, unless flushing, no more than
+-- so many batches
+abbrev pub write_backs_in : Bool → Ram → Image → ℕ → ℕ
+write_backs_in true r image block = touched_count true r image block
+write_backs_in false r image block = min (touched_count false r image block) (batches r.mapping.share (waiting r) (moves_in r image block))
+
+-- THE PAGES THAT ARE LEFT TO PROGRAM, at most: with its newest pages
+abbrev pub left_in : Bool → Ram → Image → ℕ → ℕ
+left_in flushing r image block = live_at r.blocks block + write_backs_in flushing r image block
+
+-- the number left of a device: one less than a block has pages where none is pinned, and never more
 abbrev pub left_of : Option Pinned → Ram → Image → ℕ
 left_of None r image = r.geometry.pages - 1
-left_of (Some p) r image = left_in false r image p.block
+left_of (Some p) r image = min (left_in false r image p.block) (r.geometry.pages - 1)
 
 abbrev pub left : Ram → Image → ℕ
 left r image = left_of r.pin.block r image
 
 -- ---- what holds between calls
 
--- whatever the die does: the pinned block is closed, and no more sectors are moved than pages of it were passed
+-- whatever the die does: the pinned block is closed, and no more sectors are moved than may wait, and one for each page of it that was passed
 pub record IsHalfDone (r : Ram) (p : Pinned) : Type 0 where
   pub within : p.block < r.geometry.blocks
   pub closed : is_closed r.blocks p.block ≡ true
-  pub passed : length r.mapping.moved ≤ p.first
+  pub passed : length r.mapping.moved ≤ waiting r + p.first
   pub on_die : p.first ≤ r.geometry.pages
 
--- No translation page is marked, and with no block pinned no sector is moved. It is so between calls, unless a fault stands.
+-- No translation page is marked, and with no block pinned no more sectors are moved than may wait. It is so between calls, unless a fault stands.
 pub record IsCalm (r : Ram) : Type 0 where
   pub unmarked : r.pin.marks ≡ replicate (translation_pages r.geometry) false
-  pub pinned : MatchOption r.pin.block (r.mapping.moved ≡ []) (IsHalfDone r)
+  pub pinned : MatchOption r.pin.block (length r.mapping.moved ≤ waiting r) (IsHalfDone r)
 
 -- of a block with few newest pages: those that it still has and the sectors that are moved are no more than the pages of a victim worth
--- collecting, but for so many
+-- collecting and the sectors that may wait, but for so many
 pub record IsFew (extra : ℕ) (r : Ram) (p : Pinned) : Type 0 where
   pub within : p.block < r.geometry.blocks
-  pub small : live_at r.blocks p.block ≤ vmax r.geometry
-  pub moved : live_at r.blocks p.block + length r.mapping.moved ≤ vmax r.geometry + extra
+  pub small : live_at r.blocks p.block ≤ vmax_at r.geometry r.mapping.share
+  pub moved : live_at r.blocks p.block + length r.mapping.moved ≤ vmax_at r.geometry r.mapping.share + waiting r + extra
 
 -- where the die is honest: none of the pages that were passed is a newest page
 abbrev pub HasPassed : Ram → Image → Pinned → Type 0
@@ -89,12 +103,16 @@ PinIsFew extra r = ForSome r.pin.block (IsFew extra r)
 pub record LeavesPin (old new : Ram) : Type 0 where
   pub pin : new.pin ≡ old.pin
   pub goes : Goes old new
+  pub share : new.mapping.share ≡ old.mapping.share
   pub fewer : length new.mapping.moved ≤ length old.mapping.moved
   pub moved : (t : ℕ) → has_moved new.mapping t ≡ true → has_moved old.mapping t ≡ true
 
--- after it no translation page has to be written that didn't have to be, but for those of sectors whose newest page was in the block
-abbrev pub TouchesNoMore : Bool → ℕ → Ram → Image → Ram → Type 0
-TouchesNoMore flushing block old before new = (t : ℕ) → is_due flushing new t ≡ true → is_touched flushing old before block t ≡ true
+-- after it no translation page is owed that was not, but for those of sectors whose newest page was in the block; and as many sectors are moved, or
+-- have their newest page in it, as before, or fewer
+pub record TouchesNoMore (flushing : Bool) (block : ℕ) (old : Ram) (before : Image) (new : Ram) (after : Image) : Type 0 where
+  pub pages : (t : ℕ) → is_owed flushing new t ≡ true → is_touched flushing old before block t ≡ true
+  pub share : new.mapping.share ≡ old.mapping.share
+  pub moves : moves_in new after block ≤ moves_in old before block
 
 -- ---- a step of the pinned block
 
@@ -143,17 +161,25 @@ pub record StepsOn (flushing : Bool) (p : Pinned) (old : Ram) (before : Image) (
 
 -- ---- laws
 
--- an idle memory has no translation page that has to be written
+-- an idle memory has no translation page that has to be written back
 abbrev pub IdleLaw : Type 0
-IdleLaw = (flushing : Bool) (r : Ram) → IsIdle r → due_count flushing r ≡ 0
+IdleLaw = (flushing : Bool) (r : Ram) → IsIdle r → OwesNone flushing r
 
--- THE NUMBER LEFT IS BELOW THE PAGES OF A BLOCK, also where a rescue has moved one sector more and then found no sequence
+-- THE NUMBER LEFT IS BELOW THE PAGES OF A BLOCK of a victim that was worth collecting
 abbrev pub LeftLaw : Type 0
-LeftLaw = (r : Ram) (image : Image) (p : Pinned) → IsRam r → IsTrue None r image → IsFew 1 r p → left_in false r image p.block < r.geometry.pages
+LeftLaw = (r : Ram) (image : Image) (p : Pinned) → IsRam r → IsTrue None r image → IsFew 0 r p → left_in false r image p.block < r.geometry.pages
 
--- as few as of a victim worth collecting, where nothing is moved yet
+-- with share 0 also where a rescue has moved one sector more and then found no sequence
+abbrev pub UnsharedLeftLaw : Type 0
+UnsharedLeftLaw = (r : Ram) (image : Image) (p : Pinned) → IsRam r → IsTrue None r image → r.mapping.share ≡ 0 → IsFew 1 r p → left_in false r image p.block < r.geometry.pages
+
+-- WITH SHARE 0 each touched translation page is left to write back
+abbrev pub TouchedLaw : Type 0
+TouchedLaw = (r : Ram) (image : Image) (block : ℕ) → IsRam r → r.mapping.share ≡ 0 → write_backs_in false r image block ≡ touched_count false r image block
+
+-- as few as of a victim worth collecting, where no more are moved yet than may wait
 abbrev pub PinLaw : Type 0
-PinLaw = (r : Ram) (p : Pinned) → p.block < r.geometry.blocks → r.mapping.moved ≡ [] → live_at r.blocks p.block ≤ vmax r.geometry → IsFew 0 r p
+PinLaw = (r : Ram) (p : Pinned) → p.block < r.geometry.blocks → length r.mapping.moved ≤ waiting r → live_at r.blocks p.block ≤ vmax_at r.geometry r.mapping.share → IsFew 0 r p
 
 -- ANOTHER CALL NEVER RAISES IT
 abbrev pub KeptLaw : Type 0
@@ -177,7 +203,7 @@ FewLaw = (extra : ℕ) (old new : Ram) (before after : Image) → IsRam old → 
 -- EACH PAGE THAT IS COPIED LOWERS IT: where another sector is moved, its newest page was in the block
 abbrev pub CopyLaw : Type 0
 CopyLaw = (flushing : Bool) (old new : Ram) (before after : Image) (block : ℕ) → block < old.geometry.blocks → is_closed old.blocks block ≡ true
-    → new.geometry ≡ old.geometry → LeavesNewest old before after → TouchesNoMore flushing block old before new
+    → new.geometry ≡ old.geometry → LeavesNewest old before after → TouchesNoMore flushing block old before new after
     → live_at new.blocks block + 1 ≡ live_at old.blocks block → left_in flushing new after block + 1 ≤ left_in flushing old before block
 
 -- EACH TRANSLATION PAGE THAT IS WRITTEN LOWERS IT, where no newest page is left then

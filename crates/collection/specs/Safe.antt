@@ -1,7 +1,7 @@
 -- What holds of an engine whatever its die does.
-use Rattle.std.specs.Prelude.{◌≡◌, ℕ, ◌+◌, ◌/◌, ◌<◌, ◌^◌, ◌||◌, Bool, false, not, [], length, replicate, slice_get, Some}
+use Rattle.std.specs.Prelude.{◌≡◌, ℕ, ◌+◌, ◌/◌, ◌<◌, ◌≤◌, ◌^◌, ◌||◌, Bool, false, not, length, replicate, slice_get, Some}
 use Rattle.page_layout.specs.declared.geometry.Geometry.{Geometry}
-use Rattle.page_layout.specs.Geometry.{translation_pages, table_pages, row_count}
+use Rattle.page_layout.specs.Geometry.{translation_pages, table_pages, row_count, waiting_at}
 use Rattle.page_layout.specs.Page.{Image, Page, page}
 use Rattle.page_layout.specs.Flash.{Flash}
 use Rattle.bad_blocks.specs.Table.{is_good_at}
@@ -39,9 +39,9 @@ pub record IsRam (r : Ram) : Type 0 where
   pub next : r.next < 2 ^ 64
   pub marks : length r.pin.marks ≡ translation_pages r.geometry
 
--- No sector is on the moved list, and no translation page is marked. It is so between calls, unless a fault stands.
+-- No more sectors are moved than may wait for their translation pages, and none of these is marked. It is so between calls, unless a fault stands.
 pub record IsIdle (r : Ram) : Type 0 where
-  pub moved : r.mapping.moved ≡ []
+  pub moved : length r.mapping.moved ≤ waiting_at r.geometry r.mapping.share
   pub unmarked : r.pin.marks ≡ replicate (translation_pages r.geometry) false
 
 -- a page buffer of the die's sizes

@@ -15,10 +15,11 @@ use Rattle.collection.specs.declared.engine.Engine.{Engine}
 use Rattle.collection.specs.State.{Ram}
 use Rattle.collection.specs.Safe.{ram, image_in}
 use Rattle.collection.specs.Results.{array_after}
+use Rattle.collection.specs.Collect.{waiting}
 
 -- for how many stale sectors an image mounts that this memory's device leaves: those that are cached and those that may be moved
 abbrev pub room_of : Ram → ℕ
-room_of r = r.mapping.capacity + r.geometry.pages
+room_of r = r.mapping.capacity + (waiting r + r.geometry.pages)
 
 -- AN IMAGE THAT A STOP IN A CALL MAY LEAVE: its array is the one before the call or the one after it, and it mounts
 pub record IsLeftByStop (r : Ram) (before after left : Image) : Type 0 where

@@ -11,7 +11,7 @@ use Rattle.collection.specs.declared.fault.EngineFault.{EngineFault}
 use Rattle.collection.specs.Safe.{IsIdle, ram, image_in}
 use Rattle.collection.specs.Truth.{IsTrue}
 use Rattle.collection.specs.Results.{Goes, Refused}
-use Rattle.collection.specs.Collect.{due_count, GoesBut, KeepsKeys, Refreshes, IsReleased, FaultCosts}
+use Rattle.collection.specs.Collect.{excess, GoesBut, KeepsKeys, Refreshes, IsReleased, FaultCosts}
 use Rattle.collection.specs.Left.{IsHalfDone, IsCalm, HasPassed, HasStepped, StepsOn}
 
 -- the count of erases after a step
@@ -34,7 +34,7 @@ pub record Advances {N : Type 0} (view : View N) (flushing : Bool) (p : Pinned) 
   pub idle : result ≡ Ok Erased → IsIdle (ram new)
   pub released : result ≡ Ok Erased → IsReleased p.block (ram old).blocks (ram new).blocks
   -- each page from the cursor on is read once at most, and so is the translation page that tells of it; and one that is written back
-  pub few_reads : view.reads new.nand ≤ view.reads old.nand + (2 * (old.geometry.pages - p.first) + min (due_count flushing (ram old)) 1)
+  pub few_reads : view.reads new.nand ≤ view.reads old.nand + (2 * (old.geometry.pages - p.first) + min (excess flushing (ram old)) 1)
   -- a copy reads on from the cursor, up to the page that it copies
   pub copied_reads : result ≡ Ok Copied → (page : ℕ) × (new.pinned ≡ Some (record { block = p.block; first = page + 1 })) × (view.reads new.nand ≤ view.reads old.nand + 2 * (page + 1 - p.first))
   pub erases_are : IfOk result (λ step. view.erases new.nand ≡ erases_told step (view.erases old.nand))

@@ -1,8 +1,9 @@
 -- A collection while it is under way.
-use Rattle.std.specs.Prelude.{◌≡◌, ◌⊎◌, ℕ, ◌+◌, ◌-◌, ◌*◌, ◌<◌, ◌≤◌, ◌^◌, min, Bool, length, Option, Some, None}
+use Rattle.std.specs.Prelude.{◌≡◌, ◌⊎◌, ℕ, ◌+◌, ◌-◌, ◌*◌, ◌<◌, ◌≤◌, ◌^◌, min, Bool, true, false, length, Option, Some, None}
 use Rattle.page_layout.specs.Page.{Image}
 use Rattle.page_layout.specs.Counter.{counted}
 use Rattle.page_layout.specs.Geometry.{translation_pages}
+use Rattle.budget.specs.Laws.{Accounts}
 use Rattle.allocation.specs.State.{live_at}
 use Rattle.allocation.specs.Counts.{counts_of}
 use Rattle.collection.specs.declared.engine.collect_steps.Progress.{Progress}
@@ -10,7 +11,7 @@ use Rattle.collection.specs.declared.engine.collect_steps.Progress.TheVariants.{
 use Rattle.collection.specs.State.{Ram}
 use Rattle.collection.specs.Live.{HoldsNoneIn}
 use Rattle.collection.specs.Results.{IsSame}
-use Rattle.collection.specs.Collect.{due_count, Ledger}
+use Rattle.collection.specs.Collect.{due_count, waiting, Ledger}
 
 -- the page from which the next step goes on, unless the block was erased
 abbrev pub next_of : ℕ → Progress → Option ℕ
@@ -47,11 +48,15 @@ pub record IsSoFar (block first copies : ℕ) (old : Ram) (before : Image) (now 
   pub none : HoldsNoneIn old.geometry.pages block 0 first after
 
 -- WHATEVER THE DIE DOES A COLLECTION READS FEW PAGES: so far two for each page that it is past, and one for each translation page that it has
--- written back. Those, and the ones that are due, are no more than the pages that it is past, and no more than there are.
+-- written back. Of these there were no more than the pages that it is past: in a flush with those that are due, and else each was written for more
+-- than the share of the moved sectors, and only while more were moved than may wait. And no more than there are.
 pub record HasRead (flushing : Bool) (start first : ℕ) (old now : Ram) (before after : ℕ) : Type 0 where
   pub written : ℕ
-  pub for_copies : written + due_count flushing now ≤ first
-  pub for_pages : written + due_count flushing now ≤ translation_pages old.geometry
+  pub flushed : flushing ≡ true → written + due_count flushing now ≤ first
+  pub share : now.mapping.share ≡ old.mapping.share
+  pub moved : flushing ≡ false → Accounts old.mapping.share (waiting old) first written (length now.mapping.moved)
+  pub last : flushing ≡ false → (written ≡ 0) ⊎ ((old.mapping.share + 1) * written ≤ first + old.mapping.share)
+  pub once : written + due_count flushing now ≤ translation_pages old.geometry
   pub order : (written ≡ 0) ⊎ (old.geometry.pages ≤ first)
   pub on : start ≤ first
   pub within : first ≤ old.geometry.pages

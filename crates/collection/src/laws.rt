@@ -1,15 +1,18 @@
 //! What calls of the engine come to, each as one statement.
-ghost use Rattle.collection.specs.Left.{IdleLaw, PinLaw, LeftLaw, KeptLaw, CalmLaw, PassedLaw, FewLaw, CopyLaw, WriteLaw};
+ghost use Rattle.collection.specs.Left.{IdleLaw, PinLaw, LeftLaw, UnsharedLeftLaw, TouchedLaw, KeptLaw, CalmLaw, PassedLaw, FewLaw, CopyLaw, WriteLaw};
 ghost use Rattle.collection.specs.Stops.{OneGainLaw};
 ghost use Rattle.collection.specs.Rescued.{LazyLaw, FollowedLaw, AloneLaw, OneLowestLaw, OneAnswerLaw};
 
 /// How much is left of a collection that goes from turn to turn: less than a block's pages where a
 /// victim worth collecting was pinned; each copy and each translation page that is written lowers it,
-/// and no other call raises it, or ends what holds between calls. (This project.)
+/// and no other call raises it, or ends what holds between calls. With share 0 it counts each translation
+/// page of a newest page or of a moved sector. (This project.)
 pub fn left_laws()
     ensures idle { IdleLaw }
     ensures pinned { PinLaw }
     ensures below { LeftLaw }
+    ensures unshared { UnsharedLeftLaw }
+    ensures touched { TouchedLaw }
     ensures kept { KeptLaw }
     ensures calm { CalmLaw }
     ensures passed { PassedLaw }

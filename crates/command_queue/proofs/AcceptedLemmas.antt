@@ -42,19 +42,19 @@ use Rattle.ftl_device.proofs.WearLemmas.{begun_wear}
 use Rattle.ftl_device.proofs.BlockLemmas.{given, good_same, bad_same, count_same}
 
 -- nothing is pinned yet
-begun_pinned : (r : Ram) (g : Geometry) (c : Claim) (stale : List ℕ) (image : Image) → r ≡ begun_ram g c stale → PinIsTrue r.fault r image
-begun_pinned r g c stale image is = (let P : Ram → Type 0 = λ q. PinIsTrue q.fault q image in subst P (sym is) ((λ p at. (let no : ⊥ = cc in absurd no)), (λ p at. (let no : ⊥ = cc in absurd no))))
+begun_pinned : (r : Ram) (g : Geometry) (share : ℕ) (c : Claim) (stale : List ℕ) (image : Image) → r ≡ begun_ram g share c stale → PinIsTrue r.fault r image
+begun_pinned r g share c stale image is = (let P : Ram → Type 0 = λ q. PinIsTrue q.fault q image in subst P (sym is) ((λ p at. (let no : ⊥ = cc in absurd no)), (λ p at. (let no : ⊥ = cc in absurd no))))
 
 -- a device as it was started knows its image
-pub started_well : {N : Type 0} (flash : N → Flash) (d : Device N) (g : Geometry) (c : Claim) (stale : List ℕ) → ram d.engine ≡ begun_ram g c stale → IsTrue None (ram d.engine) (image_in flash d.engine) → IsWell flash d
-started_well flash d g c stale is truth = record { going = ap (λ (r : Ram). stop_of r.fault) is; truth = truth; pinned = begun_pinned (ram d.engine) g c stale (image_in flash d.engine) is }
+pub started_well : {N : Type 0} (flash : N → Flash) (d : Device N) (g : Geometry) (share : ℕ) (c : Claim) (stale : List ℕ) → ram d.engine ≡ begun_ram g share c stale → IsTrue None (ram d.engine) (image_in flash d.engine) → IsWell flash d
+started_well flash d g share c stale is truth = record { going = ap (λ (r : Ram). stop_of r.fault) is; truth = truth; pinned = begun_pinned (ram d.engine) g share c stale (image_in flash d.engine) is }
 
 -- ---- the same bad blocks
 
-abbrev first_by : Geometry → (ℕ → Bool) → (ℕ → ℕ) → ℕ → ℕ → First
-first_by g bad wear capacity next = record { geometry = g; capacity = capacity; bad = bad; wear = wear; next = next }
+abbrev first_by : Geometry → (share : ℕ) → (ℕ → Bool) → (ℕ → ℕ) → ℕ → ℕ → First
+first_by g share bad wear capacity next = record { geometry = g; capacity = capacity; share = share; bad = bad; wear = wear; next = next }
 
-module _ (g : Geometry) (p q : ℕ → Bool) (u v : ℕ → ℕ) (same : (b : ℕ) → b < g.blocks → p b ≡ q b) (worn : (b : ℕ) → b < g.blocks → u b ≡ min (v b) most_wear) where
+module _ (g : Geometry) (share : ℕ) (p q : ℕ → Bool) (u v : ℕ → ℕ) (same : (b : ℕ) → b < g.blocks → p b ≡ q b) (worn : (b : ℕ) → b < g.blocks → u b ≡ min (v b) most_wear) where
   good_so : (log : List Operation) (b : ℕ) → b < g.blocks → logs.good_of g.pages p log b ≡ logs.good_of g.pages q log b
   good_so log b lt = ap (λ x. not (x || failed_in g.pages log b)) (same b lt)
 
@@ -64,7 +64,7 @@ module _ (g : Geometry) (p q : ℕ → Bool) (u v : ℕ → ℕ) (same : (b : �
   free_as : (log : List Operation) (image : Image) → logs.free_count g p log image ≡ logs.free_count g q log image
   free_as log image = count_same (logs.free_of g p log image) (logs.free_of g q log image) 0 g.blocks (λ b low high. ap (λ x. x && list_all is_erased_page (block_pages g image b)) (good_so log b (omega arith)))
 
-  short_as : (log call : List Operation) (image : Image) (good wanted failed : ℕ) → IsShortIn g p log call image good wanted failed → IsShortIn g q log call image good wanted failed
+  short_as : (log call : List Operation) (image : Image) (good wanted failed : ℕ) → IsShortIn g share p log call image good wanted failed → IsShortIn g share q log call image good wanted failed
   short_as log call image good wanted failed short = record {
     scarce = subst (λ n. n < 5) (free_as log image) short.scarce;
     good_is = short.good_is ∙ good_as log;
@@ -72,11 +72,11 @@ module _ (g : Geometry) (p q : ℕ → Bool) (u v : ℕ → ℕ) (same : (b : �
     failed_is = short.failed_is;
   }
 
-  scarce_as : (before call : List Operation) (ro : Bool) → IsShort g p before call ro → IsShort g q before call ro
+  scarce_as : (before call : List Operation) (ro : Bool) → IsShort g share p before call ro → IsShort g share q before call ro
   scarce_as before call ro (inl few) = inl (omega (arith, good_as (before ++ call)))
   scarce_as before call ro (inr more) = inr more
 
-  left_as : (command : Command) (before call : List Operation) (ro : Bool) (result : Result (Unit {0}) DeviceFault) → IsLeftReadOnly command g p before call ro result → IsLeftReadOnly command g q before call ro result
+  left_as : (command : Command) (before call : List Operation) (ro : Bool) (result : Result (Unit {0}) DeviceFault) → IsLeftReadOnly command g share p before call ro result → IsLeftReadOnly command g share q before call ro result
   left_as command before call ro (Ok done) left = elim left [ inl short ↦ inl (scarce_as before call ro short) | inr flushes ↦ inr flushes ]
   left_as command before call ro (Err OutOfRange) left = tt
   left_as command before call ro (Err (ReadOnly good wanted failed)) left = tt
@@ -85,7 +85,7 @@ module _ (g : Geometry) (p q : ℕ → Bool) (u v : ℕ → ℕ) (same : (b : �
   left_as command before call ro (Err Damaged) left = tt
   left_as command before call ro (Err BusFault) left = tt
 
-  shown_as : (next : ℕ) (before call : List Operation) (ro : Bool) (image : Image) (fault : DeviceFault) → IsShown g p next before call ro image fault → IsShown g q next before call ro image fault
+  shown_as : (next : ℕ) (before call : List Operation) (ro : Bool) (image : Image) (fault : DeviceFault) → IsShown g share p next before call ro image fault → IsShown g share q next before call ro image fault
   shown_as next before call ro image OutOfRange shown = tt
   shown_as next before call ro image (ReadOnly good wanted failed) shown = (short_as (before ++ call) call image good wanted failed shown.0, scarce_as before call ro shown.1)
   shown_as next before call ro image SequenceSpent shown = shown
@@ -93,7 +93,7 @@ module _ (g : Geometry) (p q : ℕ → Bool) (u v : ℕ → ℕ) (same : (b : �
   shown_as next before call ro image Damaged shown = shown
   shown_as next before call ro image BusFault shown = shown
 
-  flushed_as : (capacity next : ℕ) (log : List Operation) (image : Image) → IsFlushedOut (first_by g p u capacity next) log image → IsFlushedOut (first_by g q v capacity next) log image
+  flushed_as : (capacity next : ℕ) (log : List Operation) (image : Image) → IsFlushedOut (first_by g share p u capacity next) log image → IsFlushedOut (first_by g share q v capacity next) log image
   flushed_as capacity next log image f = record {
     anywhere = f.anywhere;
     fresh = f.fresh;
@@ -102,7 +102,7 @@ module _ (g : Geometry) (p q : ℕ → Bool) (u v : ℕ → ℕ) (same : (b : �
     renewed = f.renewed;
   }
 
-  fair_as : (capacity next : ℕ) (old : runs.DeviceView) (before : List Operation) (events : List Event) (calls : List Exchange) → AreFair (first_by g p u capacity next) old before events calls → AreFair (first_by g q v capacity next) old before events calls
+  fair_as : (capacity next : ℕ) (old : runs.DeviceView) (before : List Operation) (events : List Event) (calls : List Exchange) → AreFair (first_by g share p u capacity next) old before events calls → AreFair (first_by g share q v capacity next) old before events calls
   fair_as capacity next old before [] [] fair = tt
   fair_as capacity next old before [] (c ∷ calls) fair = fair
   fair_as capacity next old before (e ∷ events) [] fair = fair
@@ -119,15 +119,15 @@ module _ (g : Geometry) (p q : ℕ → Bool) (u v : ℕ → ℕ) (same : (b : �
           stopped = its.stopped;
           versions = its.versions;
           rescues = λ is done. rescues_as g (bad_of g.pages p before) (bad_of g.pages q before) (λ b lt. ap (λ x. x || failed_in g.pages before b) (same b lt)) e.piece old.flash.image e.left.flash.image (its.rescues is done);
-          quiet = λ is done. twelve_as g (bad_of g.pages p before) (bad_of g.pages q before) (λ b lt. ap (λ x. x || failed_in g.pages before b) (same b lt)) e.piece e.left.flash.image (its.quiet is done);
+          quiet = λ is done. twelve_as g (bad_of g.pages p before) (bad_of g.pages q before) (λ b lt. ap (λ x. x || failed_in g.pages before b) (same b lt)) share e.piece e.left.flash.image (its.quiet is done);
         },
         fair_as capacity next e.left (before ++ e.piece) events calls fair.1,
       )
 
 -- ---- the certificate's bad blocks
 
-bad_begun : (g : Geometry) (capacity : ℕ) (image : Image) (c : Claim) (stale : List ℕ) → Agrees g capacity image c → (b : ℕ) → b < g.blocks → is_bad_by (begun_ram g c stale) b ≡ is_bad_in c b
-bad_begun g capacity image c stale agrees b lt =
+bad_begun : (g : Geometry) (share capacity : ℕ) (image : Image) (c : Claim) (stale : List ℕ) → Agrees g capacity image c → (b : ℕ) → b < g.blocks → is_bad_by (begun_ram g share c stale) b ≡ is_bad_in c b
+bad_begun g share capacity image c stale agrees b lt =
     let here = given g capacity image c b agrees lt in
     ap not (good_same g image c b here) ∙ sym (bad_same g image c b here)
 
@@ -145,11 +145,11 @@ record RanWith {N : Type 0} (view : View N) (d : Device N) (r : Ram) (old : runs
   pub follows : Follows r.geometry.pages (log_of run.events) (ram d.engine).blocks (ram new.engine).blocks
   pub wears : Wears (log_of run.events) (ram d.engine).blocks (ram new.engine).blocks
 
-pub ran_accepted : {N : Type 0} (view : View N) (s : Flash)
+pub ran_accepted : {N : Type 0} (view : View N) (s : Flash) (share : ℕ)
     (a : Acceptance) (d new : Device N) (calls : List Exchange) → view.flash d.engine.nand ≡ s
-    → ram d.engine ≡ begun_ram s.geometry a.claim a.stale → IsAcceptedFor s a → d.read_only ≡ is_scarce (free_in s.geometry a.claim s.image)
-    → IsAccounted (accounts_of s.geometry s.image (is_bad_in a.claim)) (ram d.engine).blocks → Ran view d calls new → RanFrom view s a.claim calls new
-ran_accepted {N} view s a d new calls die is accepted scarce accounts ran =
+    → ram d.engine ≡ begun_ram s.geometry share a.claim a.stale → IsAcceptedFor s a → d.read_only ≡ is_scarce (free_in s.geometry a.claim s.image)
+    → IsAccounted (accounts_of s.geometry s.image (is_bad_in a.claim)) (ram d.engine).blocks → Ran view d calls new → RanFrom view s share a.claim calls new
+ran_accepted {N} view s share a d new calls die is accepted scarce accounts ran =
     let c = a.claim in
     let first : runs.DeviceView = accepted_device s c in
     let its = accounts_of s.geometry s.image (is_bad_in c) in
@@ -157,12 +157,12 @@ ran_accepted {N} view s a d new calls die is accepted scarce accounts ran =
     let unpinned : is_some d.engine.pinned ≡ false = ap (λ (r : Ram). is_some r.pin.block) is in
     let begins : die_in view.flash d ≡ first = ap (λ f. as_device f d.read_only (is_some d.engine.pinned)) die ∙ (ap (λ ro. as_device s ro (is_some d.engine.pinned)) scarce ∙ ap (as_device s (is_scarce (free_in s.geometry c s.image))) unpinned) in
     let whole : RanWith view d (ram d.engine) (die_in view.flash d) its calls new = record { run = ran.run; legal = ran.follows.legal its accounts; next = ran.next; each = ran.each; follows = ran.follows; wears = ran.wears } in
-    let there : RanWith view d (begun_ram s.geometry c a.stale) first its calls new =
+    let there : RanWith view d (begun_ram s.geometry share c a.stale) first its calls new =
     subst (λ r. RanWith view d r first its calls new) is (subst (λ o. RanWith view d (ram d.engine) o its calls new) begins whole) in
     record {
       first = d;
       held = die;
-      begun = is ∙ ap (begun_ram s.geometry c) accepted.accepted.stale_is;
+      begun = is ∙ ap (begun_ram s.geometry share c) accepted.accepted.stale_is;
       accounted = accounts;
       each = there.each;
       follows = there.follows;
@@ -172,8 +172,8 @@ ran_accepted {N} view s a d new calls die is accepted scarce accounts ran =
         commands = there.run.commands;
         replies = there.run.replies;
         run = there.run.run;
-        fair = fair_as s.geometry (is_bad_by (begun_ram s.geometry c a.stale)) (is_bad_in c) (wear_at (begun s.geometry c.blocks).table) (wear_in c)
-            (bad_begun s.geometry c.capacity s.image c a.stale accepted.accepted.agrees)
+        fair = fair_as s.geometry share (is_bad_by (begun_ram s.geometry share c a.stale)) (is_bad_in c) (wear_at (begun s.geometry c.blocks).table) (wear_in c)
+            (bad_begun s.geometry share c.capacity s.image c a.stale accepted.accepted.agrees)
             (wear_begun s.geometry c.capacity s.image c accepted.accepted.agrees) c.capacity c.next first [] there.run.events calls there.run.fair;
       };
       legal = there.legal;
@@ -181,9 +181,9 @@ ran_accepted {N} view s a d new calls die is accepted scarce accounts ran =
     }
 
 -- and its events are the calls from that device
-pub ran_each : {N : Type 0} (view : View N) (s : Flash) (a : Acceptance) (d new : Device N) (calls : List Exchange)
-    (die : view.flash d.engine.nand ≡ s) (is : ram d.engine ≡ begun_ram s.geometry a.claim a.stale) (accepted : IsAcceptedFor s a)
+pub ran_each : {N : Type 0} (view : View N) (s : Flash) (share : ℕ) (a : Acceptance) (d new : Device N) (calls : List Exchange)
+    (die : view.flash d.engine.nand ≡ s) (is : ram d.engine ≡ begun_ram s.geometry share a.claim a.stale) (accepted : IsAcceptedFor s a)
     (scarce : d.read_only ≡ is_scarce (free_in s.geometry a.claim s.image)) (accounts : IsAccounted (accounts_of s.geometry s.image (is_bad_in a.claim)) (ram d.engine).blocks) (ran : Ran view d calls new)
-    → HappensEach view d (ran_accepted view s a d new calls die is accepted scarce accounts ran).run.events calls new
+    → HappensEach view d (ran_accepted view s share a d new calls die is accepted scarce accounts ran).run.events calls new
 unfolding ran_accepted
-ran_each view s a d new calls die is accepted scarce accounts ran = (ran_accepted view s a d new calls die is accepted scarce accounts ran).each
+ran_each view s share a d new calls die is accepted scarce accounts ran = (ran_accepted view s share a d new calls die is accepted scarce accounts ran).each

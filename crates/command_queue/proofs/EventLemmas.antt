@@ -1,5 +1,5 @@
 -- What the events of a run say of the calls that they are.
-use Rattle.std.proofs.Common.{◌≡◌, ◌⊎◌, ℕ, Bool, true, false, not, ◌&&◌, List, [], ◌∷◌, ◌++◌, Some, None, Ok, Err, inl, inr, sym, ap, subst, ◌∙◌, refl}
+use Rattle.std.proofs.Common.{◌≡◌, ◌⊎◌, ℕ, ◌==◌, Bool, true, false, not, ◌&&◌, List, [], ◌∷◌, ◌++◌, Some, None, Ok, Err, inl, inr, sym, ap, subst, ◌∙◌, refl}
 use Rattle.std.specs.Prelude.{IsSome}
 use Rattle.page_layout.specs.View.{View}
 use Rattle.page_layout.specs.declared.geometry.Geometry.{Geometry}
@@ -67,27 +67,27 @@ module _ {N : Type 0} (view : View N) where
 
 -- ---- memory
 
-no_memory_write : (pinned : Bool) (g : Geometry) (image : Image) (sector : ℕ) (body : List ℕ) → pinned ≡ false → is_stale g image sector ≡ true → needs_no_memory pinned g image (step.Write sector body) ≡ true
-no_memory_write pinned g image sector body off stale = ap (λ p. not p && is_stale g image sector) off ∙ stale
+no_memory_write : (share : ℕ) (pinned : Bool) (g : Geometry) (image : Image) (sector : ℕ) (body : List ℕ) → share ≡ 0 → pinned ≡ false → is_stale g image sector ≡ true → needs_no_memory share pinned g image (step.Write sector body) ≡ true
+no_memory_write share pinned g image sector body none off stale = ap (λ n. n == 0 && not pinned && is_stale g image sector) none ∙ (ap (λ p. not p && is_stale g image sector) off ∙ stale)
 
-no_memory_trim : (pinned : Bool) (g : Geometry) (image : Image) (sector : ℕ) → pinned ≡ false → is_stale g image sector ≡ true → needs_no_memory pinned g image (step.Trim sector) ≡ true
-no_memory_trim pinned g image sector off stale = ap (λ p. not p && is_stale g image sector) off ∙ stale
+no_memory_trim : (share : ℕ) (pinned : Bool) (g : Geometry) (image : Image) (sector : ℕ) → share ≡ 0 → pinned ≡ false → is_stale g image sector ≡ true → needs_no_memory share pinned g image (step.Trim sector) ≡ true
+no_memory_trim share pinned g image sector none off stale = ap (λ n. n == 0 && not pinned && is_stale g image sector) none ∙ (ap (λ p. not p && is_stale g image sector) off ∙ stale)
 
-no_memory_quiet : (pinned : Bool) (g : Geometry) (image : Image) (command : step.Command) → changes_sector command ≡ false → needs_no_memory pinned g image command ≡ true
-no_memory_quiet pinned g image (step.Read sector) quiet = refl
-no_memory_quiet pinned g image (step.Write sector body) quiet = absurd (cc)
-no_memory_quiet pinned g image (step.Trim sector) quiet = absurd (cc)
-no_memory_quiet pinned g image step.Flush quiet = refl
-no_memory_quiet pinned g image step.Turn quiet = refl
+no_memory_quiet : (share : ℕ) (pinned : Bool) (g : Geometry) (image : Image) (command : step.Command) → changes_sector command ≡ false → needs_no_memory share pinned g image command ≡ true
+no_memory_quiet share pinned g image (step.Read sector) quiet = refl
+no_memory_quiet share pinned g image (step.Write sector body) quiet = absurd (cc)
+no_memory_quiet share pinned g image (step.Trim sector) quiet = absurd (cc)
+no_memory_quiet share pinned g image step.Flush quiet = refl
+no_memory_quiet share pinned g image step.Turn quiet = refl
 
 pub stale_memory : StaleMemoryLaw
-stale_memory first old before event x sector body fair off stale (inl writes) =
-    fair.stale (ap (needs_no_memory old.pinned first.geometry old.flash.image) writes ∙ no_memory_write old.pinned first.geometry old.flash.image sector body off stale)
-stale_memory first old before event x sector body fair off stale (inr trims) =
-    fair.stale (ap (needs_no_memory old.pinned first.geometry old.flash.image) trims ∙ no_memory_trim old.pinned first.geometry old.flash.image sector off stale)
+stale_memory first old before event x sector body fair none off stale (inl writes) =
+    fair.stale (ap (needs_no_memory first.share old.pinned first.geometry old.flash.image) writes ∙ no_memory_write first.share old.pinned first.geometry old.flash.image sector body none off stale)
+stale_memory first old before event x sector body fair none off stale (inr trims) =
+    fair.stale (ap (needs_no_memory first.share old.pinned first.geometry old.flash.image) trims ∙ no_memory_trim first.share old.pinned first.geometry old.flash.image sector none off stale)
 
 pub quiet_memory : QuietMemoryLaw
-quiet_memory first old before event x fair quiet = fair.stale (no_memory_quiet old.pinned first.geometry old.flash.image x.command quiet)
+quiet_memory first old before event x fair quiet = fair.stale (no_memory_quiet first.share old.pinned first.geometry old.flash.image x.command quiet)
 
 -- ---- what is fair
 
@@ -101,7 +101,7 @@ spent_event first old before event x fair = (fair.shown SequenceSpent, fair.show
 
 pub left_event : LeftEventLaw
 left_event first old before event x fair done on =
-    subst (IsLeftReadOnly x.command first.geometry first.bad before event.piece old.ro) done (fair.left on)
+    subst (IsLeftReadOnly x.command first.geometry first.share first.bad before event.piece old.ro) done (fair.left on)
 
 pub flush_event : FlushEventLaw
 flush_event first old before event x fair flushes done = (fair.flushed flushes done).fresh

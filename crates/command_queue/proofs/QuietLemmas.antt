@@ -6,7 +6,7 @@ use Rattle.page_layout.specs.Page.{Image}
 use Rattle.page_layout.specs.Array.{marks}
 use Rattle.page_layout.specs.Sound.{is_erased_page}
 use Rattle.page_layout.specs.Block.{block_pages}
-use Rattle.page_layout.specs.Geometry.{need}
+use Rattle.page_layout.specs.Geometry.{need_at, flush_blocks_at}
 use Rattle.page_layout.specs.Flash.{Operation}
 use Rattle.bad_blocks.specs.Table.{good_count}
 use Rattle.allocation.specs.State.{State, free_count, live_at}
@@ -65,10 +65,10 @@ collected flushing block a b h =
     )
 
 -- room was made without a sequence: nothing was done, or a block was erased
-roomed : (flushing : Bool) (a : Ram) (blocks : List ℕ) (b : Ram) → Collects flushing a blocks b → (a.next ≤ b.next) × (b.next ≡ a.next → (b ≡ a) ⊎ Erases a b)
-roomed flushing a [] b is = (omega (arith, ap (λ (r : Ram). r.next) is), λ same. inl is)
-roomed flushing a (block ∷ before) b (mid, so_far, which, one) =
-    let first = roomed flushing a before mid so_far in
+roomed : (many : ℕ) (flushing : Bool) (a : Ram) (blocks : List ℕ) (b : Ram) → Collects many flushing a blocks b → (a.next ≤ b.next) × (b.next ≡ a.next → (b ≡ a) ⊎ Erases a b)
+roomed many flushing a [] b is = (omega (arith, ap (λ (r : Ram). r.next) is), λ same. inl is)
+roomed many flushing a (block ∷ before) b (mid, so_far, which, one) =
+    let first = roomed many flushing a before mid so_far in
     let then = collected flushing block mid b one in (
       omega (arith, first.0, then.0),
       λ same. elim (first.1 (omega (arith, first.0, then.0, same))) [
@@ -98,7 +98,7 @@ turned_on a b (inr (inr (none, on))) = (let went = stepped a b on in (went.0, λ
 -- SO A TURN THAT TOOK NO SEQUENCE AND ERASED NOTHING has changed nothing, since there was nothing to do
 still_turned : (a b : Ram) → HasTurned a b → b.next ≡ a.next → free_in b ≡ free_in a → good_in b ≡ good_in a → (b ≡ a) × HasNothingToDo a
 still_turned a b t same free good =
-    let room = roomed false a t.room.collects.0 t.mid t.room.collects.1 in
+    let room = roomed 9 false a t.room.collects.0 t.mid t.room.collects.1 in
     let on = turned_on t.mid b t.on in
     let so_far : t.mid.next ≡ a.next = omega (arith, room.0, on.0, same) in
     let onward : b.next ≡ t.mid.next = omega (arith, room.0, on.0, same) in
@@ -137,8 +137,8 @@ module _ (g : Geometry) (p q : ℕ → Bool) (same : (b : ℕ) → b < g.blocks 
   free_as : (image : Image) → logs.free_count g p [] image ≡ logs.free_count g q [] image
   free_as image = count_same (logs.free_of g p [] image) (logs.free_of g q [] image) 0 g.blocks (λ b low high. ap (λ x. not (x || false) && list_all is_erased_page (block_pages g image b)) (same b (omega arith)))
 
-  pub twelve_as : (piece : List Operation) (image : Image) → LeavesTwelve g p piece image → LeavesTwelve g q piece image
-  twelve_as piece image h = λ none many. omega (arith, h none (omega (arith, many, good_as)), free_as image)
+  pub twelve_as : (share : ℕ) (piece : List Operation) (image : Image) → LeavesTwelve g share p piece image → LeavesTwelve g share q piece image
+  twelve_as share piece image h = λ none many. omega (arith, h none (omega (arith, many, good_as)), free_as image)
 
 module _ (old new : Ram) (log : List Operation) (safe : IsRam old) (safe' : IsRam new) (sized : new.geometry ≡ old.geometry) (follows : Follows old.geometry.pages log old.blocks new.blocks) (h : HasRescued old new)
     (next : new.next ≡ old.next + programs_in log) (before after : Image) (w : IsTrue None old before) (w' : IsTrue None new after) (still : log ≡ [] → after ≡ before) (t : HasTurned old new) (none : log ≡ []) where
@@ -161,13 +161,13 @@ module _ (old new : Ram) (log : List Operation) (safe : IsRam old) (safe' : IsRa
   rests : (new ≡ old) × HasNothingToDo old
   rests = still_turned old new t (next ∙ (ap (λ l. old.next + programs_in l) none ∙ omega arith)) free_same good_same
 
-  twelve : HasNothingToDo old → need old.geometry + 3 ≤ good_by old → 12 ≤ free_count old.blocks
+  twelve : HasNothingToDo old → need_at old.geometry old.mapping.share + 3 ≤ good_by old → 12 + flush_blocks_at old.geometry old.mapping.share ≤ free_count old.blocks
   twelve (inl some) many =
       let its = h.fewer (good_still old new log safe safe' sized follows h nowhere) some in
       absurd (omega (arith, its.2, ap (λ (r : Ram). live_at r.blocks its.0) rests.0))
   twelve (inr idle) many = idle.made.enough (marks before) w.live (omega (arith, many, good_now_law old safe))
 
-  pub leaves_twelve : need old.geometry + 3 ≤ logs.good_count old.geometry (is_bad_by old) [] → 12 ≤ logs.free_count old.geometry (is_bad_by old) [] after
+  pub leaves_twelve : need_at old.geometry old.mapping.share + 3 ≤ logs.good_count old.geometry (is_bad_by old) [] → 12 + flush_blocks_at old.geometry old.mapping.share ≤ logs.free_count old.geometry (is_bad_by old) [] after
   leaves_twelve many =
-      let here : 12 ≤ free_by old before = subst (λ n. 12 ≤ n) (free_now_law old before safe w) (twelve rests.1 many) in
-      subst (λ i. 12 ≤ logs.free_count old.geometry (is_bad_by old) [] i) (sym (still none)) here
+      let here : 12 + flush_blocks_at old.geometry old.mapping.share ≤ free_by old before = subst (λ n. 12 + flush_blocks_at old.geometry old.mapping.share ≤ n) (free_now_law old before safe w) (twelve rests.1 many) in
+      subst (λ i. 12 + flush_blocks_at old.geometry old.mapping.share ≤ logs.free_count old.geometry (is_bad_by old) [] i) (sym (still none)) here

@@ -1,7 +1,8 @@
 -- A run goes on by one call.
-use Rattle.std.proofs.Common.{◌≡◌, ◌≢◌, ◌↔◌, ℕ, ◌+◌, ◌<◌, ◌≤◌, min, inl, inr, Bool, true, false, not, ◌&&◌, List, [], ◌∷◌, ◌++◌, Option, Some, Result, Ok, Err, refl, sym, ap, subst}
+use Rattle.std.proofs.Common.{◌≡◌, ◌≢◌, ◌↔◌, ℕ, ◌==◌, ◌+◌, ◌<◌, ◌≤◌, min, inl, inr, Bool, true, false, not, ◌&&◌, List, [], ◌∷◌, ◌++◌, Option, Some, Result, Ok, Err, refl, sym, ap, subst}
 use Rattle.std.proofs.Common.{◌∙◌, None, arith, append_assoc}
 use Rattle.std.specs.Prelude.{◌⊎◌, IfErr, OnOk, IsSome, is_some}
+use Rattle.std.proofs.lemmas.Bool.{eqb-true}
 use Rattle.std.proofs.lemmas.List.{map-append, append-nil}
 use Rattle.page_layout.specs.View.{View}
 use Rattle.page_layout.specs.declared.geometry.Geometry.{Geometry}
@@ -31,6 +32,7 @@ use Rattle.promises.proofs.LegalLemmas.{accounts_join, legal_append}
 use Rattle.promises.proofs.RunLemmas.{one_more_event, last, logs}
 use Rattle.collection.specs.State.{Ram}
 use Rattle.collection.specs.Safe.{IsRam, ram, image_in}
+use Rattle.collection.specs.Stops.{room_of}
 use Rattle.collection.specs.Log.{IsAccounted, Follows, Wears, Went}
 use Rattle.ftl_device.specs.declared.device.Device.{Device}
 use Rattle.ftl_device.specs.declared.fault.DeviceFault.{DeviceFault}
@@ -103,34 +105,41 @@ went_none old new s t told told' same kept still = record {
   numbers = tt;
 }
 
-read_shown : (g : Geometry) (bad : ℕ → Bool) (next : ℕ) (before call : List Operation) (ro : Bool) (image : Image) (n : ℕ) (bytes : List ℕ)
+read_shown : (g : Geometry) (share : ℕ) (bad : ℕ → Bool) (next : ℕ) (before call : List Operation) (ro : Bool) (image : Image) (n : ℕ) (bytes : List ℕ)
     (s t : step.State) (result : Result (Unit {0}) DeviceFault) → IfErr result IsReadRefusal → ReadStep g s n (read_reply_of bytes result) t
-    → result ≢ Err BusFault → IfErr result (IsShown g bad next before call ro image)
-read_shown g bad next before call ro image n bytes s t (Ok done) of_read is ne = tt
-read_shown g bad next before call ro image n bytes s t (Err OutOfRange) of_read is ne = tt
-read_shown g bad next before call ro image n bytes s t (Err (ReadOnly good wanted failed)) of_read is ne = absurd of_read
-read_shown g bad next before call ro image n bytes s t (Err SequenceSpent) of_read is ne = absurd of_read
-read_shown g bad next before call ro image n bytes s t (Err OutOfMemory) of_read is ne = tt
-read_shown g bad next before call ro image n bytes s t (Err Damaged) of_read is ne = is
-read_shown g bad next before call ro image n bytes s t (Err BusFault) of_read is ne = ne refl
+    → result ≢ Err BusFault → IfErr result (IsShown g share bad next before call ro image)
+read_shown g share bad next before call ro image n bytes s t (Ok done) of_read is ne = tt
+read_shown g share bad next before call ro image n bytes s t (Err OutOfRange) of_read is ne = tt
+read_shown g share bad next before call ro image n bytes s t (Err (ReadOnly good wanted failed)) of_read is ne = absurd of_read
+read_shown g share bad next before call ro image n bytes s t (Err SequenceSpent) of_read is ne = absurd of_read
+read_shown g share bad next before call ro image n bytes s t (Err OutOfMemory) of_read is ne = tt
+read_shown g share bad next before call ro image n bytes s t (Err Damaged) of_read is ne = is
+read_shown g share bad next before call ro image n bytes s t (Err BusFault) of_read is ne = ne refl
 
-read_left : (g : Geometry) (bad : ℕ → Bool) (before call : List Operation) (ro : Bool) (n : ℕ) (result : Result (Unit {0}) DeviceFault) → ro ≡ true → IsLeftReadOnly (step.Read n) g bad before call ro result
-read_left g bad before call ro n (Ok done) on = inl (inr (inr on))
-read_left g bad before call ro n (Err OutOfRange) on = tt
-read_left g bad before call ro n (Err (ReadOnly good wanted failed)) on = tt
-read_left g bad before call ro n (Err SequenceSpent) on = tt
-read_left g bad before call ro n (Err OutOfMemory) on = inr (inr on)
-read_left g bad before call ro n (Err Damaged) on = tt
-read_left g bad before call ro n (Err BusFault) on = tt
+read_left : (g : Geometry) (share : ℕ) (bad : ℕ → Bool) (before call : List Operation) (ro : Bool) (n : ℕ) (result : Result (Unit {0}) DeviceFault) → ro ≡ true → IsLeftReadOnly (step.Read n) g share bad before call ro result
+read_left g share bad before call ro n (Ok done) on = inl (inr (inr on))
+read_left g share bad before call ro n (Err OutOfRange) on = tt
+read_left g share bad before call ro n (Err (ReadOnly good wanted failed)) on = tt
+read_left g share bad before call ro n (Err SequenceSpent) on = tt
+read_left g share bad before call ro n (Err OutOfMemory) on = inr (inr on)
+read_left g share bad before call ro n (Err Damaged) on = tt
+read_left g share bad before call ro n (Err BusFault) on = tt
 
 no_memory : (result : Result (Unit {0}) DeviceFault) → IfErr result IsReadRefusal → result ≢ Err OutOfMemory
 no_memory (Ok done) of_read e = (let no : ⊥ = cc in no)
 no_memory (Err fault) of_read e = (let same : fault ≡ OutOfMemory = cc in subst IsReadRefusal same of_read)
 
 -- no block was pinned, and the sector was stale
-pub unpinned_stale : {A : Type 0} (pinned : Option A) (stale : Bool) → (not (is_some pinned) && stale) ≡ true → (pinned ≡ None) × (stale ≡ true)
-unpinned_stale None stale is = (refl, is)
-unpinned_stale (Some p) stale is = (let no : ⊥ = cc in absurd no)
+unpinned_here : {A : Type 0} (pinned : Option A) (stale : Bool) → (not (is_some pinned) && stale) ≡ true → (pinned ≡ None) × (stale ≡ true)
+unpinned_here None stale is = (refl, is)
+unpinned_here (Some p) stale is = (let no : ⊥ = cc in absurd no)
+
+pub unpinned_stale : {A : Type 0} (share : ℕ) (pinned : Option A) (stale : Bool) → (share == 0 && not (is_some pinned) && stale) ≡ true → (share ≡ 0) × (pinned ≡ None) × (stale ≡ true)
+unpinned_stale {A} share pinned stale is = by (share == 0) refl is
+  where
+    by : (b : Bool) → (share == 0) ≡ b → (b && not (is_some pinned) && stale) ≡ true → (share ≡ 0) × (pinned ≡ None) × (stale ≡ true)
+    by false e h = (let no : ⊥ = cc in absurd no)
+    by true e h = (let here = unpinned_here pinned stale h in (eqb-true share 0 e, here.0, here.1))
 
 -- a step isn't answered `Damaged`
 pub write_sound : (g : Geometry) (s t : step.State) (n : ℕ) (bytes : List ℕ) (result : Result (Unit {0}) DeviceFault) → WriteStep g s n bytes (reply_of result) t → NoDamage result
@@ -161,7 +170,7 @@ module _ {N : Type 0} (view : View N) (old new : Device N) (result : Result (Uni
       → ReadStep old.engine.geometry (state_in view.flash old) n (read_reply_of bytes result) (state_in view.flash new)
       → view.flash new.engine.nand ≡ view.flash old.engine.nand → view.recorded new.engine.nand ≡ view.recorded old.engine.nand
       → LeavesRead n result (ram old.engine) (ram new.engine) p q bytes → new.read_only ≡ old.read_only → IfErr result IsReadRefusal
-      → SurvivesStops old.engine.geometry old.engine.mapping.capacity (step.Read n) result (image_in view.flash old.engine) (image_in view.flash new.engine) (view.recorded new.engine.nand) [] → Happened view old (record { command = step.Read n; result = result; bytes = bytes }) new
+      → SurvivesStops old.engine.geometry (room_of (ram old.engine)) (step.Read n) result (image_in view.flash old.engine) (image_in view.flash new.engine) (view.recorded new.engine.nand) [] → Happened view old (record { command = step.Read n; result = result; bytes = bytes }) new
   unfolding went_none
   read_happened n bytes p q is kept still leaves flag of_read survives = record {
     step = is;
@@ -169,19 +178,19 @@ module _ {N : Type 0} (view : View N) (old new : Device N) (result : Result (Uni
     stopped = survives;
     versions = subst (λ (f : Flash). AddsNoOld old.engine.geometry (image_in view.flash old.engine) f.image) (sym kept) (λ two key row at. at);
     stale = λ any. no_memory result of_read;
-    shown = λ bad next before bads spent. read_shown old.engine.geometry bad next before [] old.read_only (image_in view.flash new.engine) n bytes (state_in view.flash old) (state_in view.flash new) result of_read is ne;
+    shown = λ bad next before bads spent. read_shown old.engine.geometry old.engine.mapping.share bad next before [] old.read_only (image_in view.flash new.engine) n bytes (state_in view.flash old) (state_in view.flash new) result of_read is ne;
     flushed = λ is. (let no : ⊥ = cc in absurd no);
     reads = λ is. (refl, read_view kept flag (ap (λ (r : Ram). is_some r.pin.block) (leaves_mapping n result (ram old.engine) (ram new.engine) p q bytes leaves ne)));
     rescues = λ is. (let no : ⊥ = cc in absurd no);
     quiet = λ is. (let no : ⊥ = cc in absurd no);
-    left = λ bad before bads on. read_left old.engine.geometry bad before [] old.read_only n result (sym flag ∙ on);
+    left = λ bad before bads on. read_left old.engine.geometry old.engine.mapping.share bad before [] old.read_only n result (sym flag ∙ on);
   }
 
-  module _ (safe : IsRam (ram old.engine)) (safe' : IsRam (ram new.engine)) (sized : new.engine.geometry ≡ old.engine.geometry)
+  module _ (safe : IsRam (ram old.engine)) (safe' : IsRam (ram new.engine)) (shared : new.engine.mapping.share ≡ old.engine.mapping.share) (sized : new.engine.geometry ≡ old.engine.geometry)
       (was : IsWell view.flash old) (well : IsWell view.flash new)
       (w : Went (ram old.engine) (view.flash old.engine.nand) (view.recorded old.engine.nand) (ram new.engine) (view.flash new.engine.nand)
       (view.recorded new.engine.nand)) (says : IfErr result (Says (ram old.engine) (ram new.engine)))
-      (shown : IfErr result (IsShown old.engine.geometry (is_bad_by (ram old.engine)) old.engine.next [] w.log old.read_only (image_in view.flash new.engine))) where
+      (shown : IfErr result (IsShown old.engine.geometry old.engine.mapping.share (is_bad_by (ram old.engine)) old.engine.next [] w.log old.read_only (image_in view.flash new.engine))) where
     -- with no operation the image is as it was
     unwritten : w.log ≡ [] → image_in view.flash new.engine ≡ image_in view.flash old.engine
     unwritten none = (let same : view.flash new.engine.nand ≡ view.flash old.engine.nand = subst (λ l. Leads (view.flash old.engine.nand) l (view.flash new.engine.nand)) none w.leads in ap (λ (f : Flash). f.image) same)
@@ -189,7 +198,7 @@ module _ {N : Type 0} (view : View N) (old new : Device N) (result : Result (Uni
     rescued_so : HasRescued (ram old.engine) (ram new.engine) → Rescues old.engine.geometry (is_bad_by (ram old.engine)) w.log (image_in view.flash old.engine) (image_in view.flash new.engine)
     rescued_so h = rescues (ram old.engine) (ram new.engine) w.log safe safe' sized w.follows h (image_in view.flash old.engine) (image_in view.flash new.engine) was.truth well.truth unwritten
 
-    twelve_so : HasRescued (ram old.engine) (ram new.engine) → HasTurned (ram old.engine) (ram new.engine) → LeavesTwelve old.engine.geometry (is_bad_by (ram old.engine)) w.log (image_in view.flash new.engine)
+    twelve_so : HasRescued (ram old.engine) (ram new.engine) → HasTurned (ram old.engine) (ram new.engine) → LeavesTwelve old.engine.geometry old.engine.mapping.share (is_bad_by (ram old.engine)) w.log (image_in view.flash new.engine)
     twelve_so h t = leaves_twelve (ram old.engine) (ram new.engine) w.log safe safe' sized w.follows h w.next (image_in view.flash old.engine) (image_in view.flash new.engine) was.truth well.truth unwritten t
 
     -- a call that may change sectors
@@ -197,11 +206,11 @@ module _ {N : Type 0} (view : View N) (old new : Device N) (result : Result (Uni
         → (is_turn command ≡ true → OnOk result (HasRescued (ram old.engine) (ram new.engine)))
         → (is_turn command ≡ true → OnOk result (HasTurned (ram old.engine) (ram new.engine)))
         → (is_flush command ≡ true → result ≡ Ok tt → IsFlushedOut (first_of (ram old.engine)) w.log (image_in view.flash new.engine))
-        → (new.read_only ≡ true → IsLeftReadOnly command old.engine.geometry (is_bad_by (ram old.engine)) [] w.log old.read_only result)
+        → (new.read_only ≡ true → IsLeftReadOnly command old.engine.geometry old.engine.mapping.share (is_bad_by (ram old.engine)) [] w.log old.read_only result)
         → NoDamage result
-        → (needs_no_memory (is_some old.engine.pinned) old.engine.geometry (image_in view.flash old.engine) command ≡ true → result ≢ Err OutOfMemory)
+        → (needs_no_memory old.engine.mapping.share (is_some old.engine.pinned) old.engine.geometry (image_in view.flash old.engine) command ≡ true → result ≢ Err OutOfMemory)
         → ArrayStep old.engine.geometry (state_in view.flash old) command (answer_to command bytes result) (state_in view.flash new)
-        → SurvivesStops old.engine.geometry old.engine.mapping.capacity command result (image_in view.flash old.engine) (image_in view.flash new.engine)
+        → SurvivesStops old.engine.geometry (room_of (ram old.engine)) command result (image_in view.flash old.engine) (image_in view.flash new.engine)
         (view.recorded new.engine.nand) w.log → AddsNoOld old.engine.geometry (image_in view.flash old.engine) (image_in view.flash new.engine)
         → Happened view old (record { command = command; result = result; bytes = bytes }) new
     changed command bytes no_read rescued turned flushed left is stale whole survives versions = record {
@@ -214,8 +223,8 @@ module _ {N : Type 0} (view : View N) (old new : Device N) (result : Result (Uni
       step = whole;
       went = w;
       stale = stale;
-      shown = λ bad next before also spent. shown_on (ram old.engine) (ram new.engine) w.log safe safe' sized w.follows bad before also next old.read_only (image_in view.flash new.engine) result well.truth spent says shown is ne;
-      left = λ bad before also on. left_on (ram old.engine) (ram new.engine) w.log safe safe' sized w.follows bad before also command old.read_only result (left on);
+      shown = λ bad next before also spent. shown_on (ram old.engine) (ram new.engine) w.log safe safe' sized shared w.follows bad before also next old.read_only (image_in view.flash new.engine) result well.truth spent says shown is ne;
+      left = λ bad before also on. left_on (ram old.engine) (ram new.engine) w.log safe safe' sized shared w.follows bad before also command old.read_only result (left on);
     }
 
 -- ---- one more event
@@ -310,36 +319,41 @@ module _ {N : Type 0} (view : View N) (old mid new : Device N) (done : List Exch
       let here : Q old.engine.geometry = λ b lt. bad_now_law (ram old.engine) (ram new.engine) (log_of ran.run.events ++ h.went.log) b safe.blocks_of follows lt in
       subst Q (sym same) here
 
+  -- what is so of the sizes of the device before this event is so of those of the first
+  by_size : (P : Geometry → ℕ → Type 0) → P mid.engine.geometry mid.engine.mapping.share → P old.engine.geometry old.engine.mapping.share
+  by_size P here = subst (λ n. P old.engine.geometry n) mid_limits.share (subst (λ g. P g mid.engine.mapping.share) sized here)
+
   fair : IsFair (first_of (ram old.engine)) (die_in view.flash mid) (log_of ran.run.events) event x
   unfolding event
   fair = record {
     shown = λ fault e.
         let here = h.shown (is_bad_by (ram old.engine)) old.engine.next (log_of ran.run.events) (bads_then mid.engine.geometry sized) next in
-        let there = subst (λ (g : Geometry). IfErr x.result (IsShown g (is_bad_by (ram old.engine)) old.engine.next (log_of ran.run.events) h.went.log mid.read_only (image_in view.flash new.engine))) sized here in
-        subst (λ r. IfErr r (IsShown old.engine.geometry (is_bad_by (ram old.engine)) old.engine.next (log_of ran.run.events) h.went.log mid.read_only (image_in view.flash new.engine))) e there;
-    left = λ on. subst (λ (g : Geometry). IsLeftReadOnly x.command g (is_bad_by (ram old.engine)) (log_of ran.run.events) h.went.log mid.read_only x.result) sized (h.left (is_bad_by (ram old.engine)) (log_of ran.run.events) (bads_then mid.engine.geometry sized) on);
+        let there = by_size (λ g n. IfErr x.result (IsShown g n (is_bad_by (ram old.engine)) old.engine.next (log_of ran.run.events) h.went.log mid.read_only (image_in view.flash new.engine))) here in
+        subst (λ r. IfErr r (IsShown old.engine.geometry old.engine.mapping.share (is_bad_by (ram old.engine)) old.engine.next (log_of ran.run.events) h.went.log mid.read_only (image_in view.flash new.engine))) e there;
+    left = λ on. by_size (λ g n. IsLeftReadOnly x.command g n (is_bad_by (ram old.engine)) (log_of ran.run.events) h.went.log mid.read_only x.result) (h.left (is_bad_by (ram old.engine)) (log_of ran.run.events) (bads_then mid.engine.geometry sized) on);
     flushed = λ is done.
         let its = h.flushed is done in
         let mid_bad : (b : ℕ) → b < mid.engine.geometry.blocks → is_bad_by (ram new.engine) b ≡ bad_of mid.engine.geometry.pages (is_bad_by (ram mid.engine)) h.went.log b = λ b lt. bad_now_law (ram mid.engine) (ram new.engine) h.went.log b mid_safe.blocks_of h.went.follows lt in
         flushed_then (ram old.engine) (ram mid.engine) (ram new.engine) (log_of ran.run.events) h.went.log (image_in view.flash new.engine) sized most ran.wears mid_bad (bads_then mid.engine.geometry sized) its;
-    stale = λ need e. h.stale (subst (λ (g : Geometry). needs_no_memory (is_some mid.engine.pinned) g (image_in view.flash mid.engine) x.command ≡ true) (sym sized) need) e;
+    stale = λ need e. h.stale (subst (λ (g : Geometry). needs_no_memory mid.engine.mapping.share (is_some mid.engine.pinned) g (image_in view.flash mid.engine) x.command ≡ true) (sym sized) (subst (λ n. needs_no_memory n (is_some mid.engine.pinned) old.engine.geometry (image_in view.flash mid.engine) x.command ≡ true) (sym mid_limits.share) need)) e;
     mountable = λ most. mountable_after view.flash old.engine new new.engine refl (sized' ∙ sized) limits safe' well most;
     reads = h.reads;
     versions = subst (λ (g : Geometry). AddsNoOld g (image_in view.flash mid.engine) (image_in view.flash new.engine)) sized h.versions;
     pins = λ none some. pins_so mid.engine.pinned new.engine.pinned (is_turn x.command) (MayPin x.result) tells.pins none some;
     stopped =
-        let P : Geometry → ℕ → Type 0 = λ g c. SurvivesStops g c x.command x.result (image_in view.flash mid.engine) (image_in view.flash new.engine) (view.recorded new.engine.nand) h.went.log in
-        subst (λ g. P g old.engine.mapping.capacity) sized (subst (P mid.engine.geometry) mid_limits.capacity h.stopped);
+        let room : room_of (ram mid.engine) ≡ room_of (ram old.engine) = rw (mid_limits.capacity, mid_limits.share, sized) refl in
+        subst (λ n. SurvivesStops old.engine.geometry n x.command x.result (image_in view.flash mid.engine) (image_in view.flash new.engine) (view.recorded new.engine.nand) h.went.log) room
+        (subst (λ g. SurvivesStops g (room_of (ram mid.engine)) x.command x.result (image_in view.flash mid.engine) (image_in view.flash new.engine) (view.recorded new.engine.nand) h.went.log) sized h.stopped);
     rescues = λ is done.
         let here : Rescues old.engine.geometry (is_bad_by (ram mid.engine)) h.went.log (image_in view.flash mid.engine) (image_in view.flash new.engine) = subst
         (λ (g : Geometry). Rescues g (is_bad_by (ram mid.engine)) h.went.log (image_in view.flash mid.engine) (image_in view.flash new.engine)) sized
         (h.rescues is done) in
         rescues_as old.engine.geometry (is_bad_by (ram mid.engine)) (bad_of old.engine.geometry.pages (is_bad_by (ram old.engine)) (log_of ran.run.events)) (λ b lt. bad_now_law (ram old.engine) (ram mid.engine) (log_of ran.run.events) b safe.blocks_of ran.follows lt) h.went.log (image_in view.flash mid.engine) (image_in view.flash new.engine) here;
     quiet = λ is done.
-        let here : LeavesTwelve old.engine.geometry (is_bad_by (ram mid.engine)) h.went.log (image_in view.flash new.engine) = subst (λ (g : Geometry). LeavesTwelve g (is_bad_by (ram mid.engine)) h.went.log (image_in view.flash new.engine)) sized (h.quiet is done) in
+        let here : LeavesTwelve old.engine.geometry old.engine.mapping.share (is_bad_by (ram mid.engine)) h.went.log (image_in view.flash new.engine) = by_size (λ g n. LeavesTwelve g n (is_bad_by (ram mid.engine)) h.went.log (image_in view.flash new.engine)) (h.quiet is done) in
         twelve_as old.engine.geometry (is_bad_by (ram mid.engine))
         (bad_of old.engine.geometry.pages (is_bad_by (ram old.engine)) (log_of ran.run.events))
-        (λ b lt. bad_now_law (ram old.engine) (ram mid.engine) (log_of ran.run.events) b safe.blocks_of ran.follows lt) h.went.log
+        (λ b lt. bad_now_law (ram old.engine) (ram mid.engine) (log_of ran.run.events) b safe.blocks_of ran.follows lt) old.engine.mapping.share h.went.log
         (image_in view.flash new.engine) here;
   }
 

@@ -34,7 +34,7 @@ module _ {X : Type 0} (P : X → Type 0) where
   all_less (y ∷ ys) x all = (let rest = all_less ys x all.1 in ((all.0, rest.0), rest.1))
 
 limits_then : (a b c : MappingState) → HasLimitsOf a b → HasLimitsOf b c → HasLimitsOf a c
-limits_then a b c first second = record { geometry = second.geometry ∙ first.geometry; capacity = second.capacity ∙ first.capacity }
+limits_then a b c first second = record { geometry = second.geometry ∙ first.geometry; capacity = second.capacity ∙ first.capacity; share = second.share ∙ first.share }
 
 -- ---- a device that is stopped
 
@@ -134,7 +134,7 @@ calls_none : {N : Type 0} (view : View N) (old : Device N) → IsDevice view.fla
 calls_none view old device = record {
   device = device;
   sized = refl;
-  limits = record { geometry = refl; capacity = refl };
+  limits = record { geometry = refl; capacity = refl; share = refl };
   honest_is = refl;
   failed_is = omega arith;
   stopped = λ fault is. (tt, refl);

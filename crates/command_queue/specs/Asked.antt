@@ -11,6 +11,7 @@ use Rattle.promises.specs.Step.{Reply, ArrayStep, ArrayRun}
 use Rattle.promises.specs.Log.{programs_in}
 use Rattle.collection.specs.Safe.{ram, image_in}
 use Rattle.collection.specs.Log.{Follows, Wears, Went}
+use Rattle.collection.specs.Stops.{room_of}
 use Rattle.ftl_device.specs.declared.device.Device.{Device}
 use Rattle.ftl_device.specs.declared.fault.DeviceFault.{DeviceFault}
 use Rattle.ftl_device.specs.declared.fault.DeviceFault.TheVariants.{BusFault}
@@ -85,7 +86,7 @@ pub record DoesCall {N : Type 0} (view : View N) (old : Device N) (call : Asked)
   pub sized : new.engine.geometry ≡ old.engine.geometry
   pub step : ArrayStep old.engine.geometry (state_in view.flash old) (command_asked call) (reply_asked call) (state_in view.flash new)
   pub went : Went (ram old.engine) (view.flash old.engine.nand) (view.recorded old.engine.nand) (ram new.engine) (view.flash new.engine.nand) (view.recorded new.engine.nand)
-  pub stopped : SurvivesStops old.engine.geometry old.engine.mapping.capacity (command_asked call) (result_asked call) (image_in view.flash old.engine) (image_in view.flash new.engine) (view.recorded new.engine.nand) went.log
+  pub stopped : SurvivesStops old.engine.geometry (room_of (ram old.engine)) (command_asked call) (result_asked call) (image_in view.flash old.engine) (image_in view.flash new.engine) (view.recorded new.engine.nand) went.log
   pub versions : AddsNoOld old.engine.geometry (image_in view.flash old.engine) (image_in view.flash new.engine)
   pub well : IsWell view.flash new
 

@@ -1,5 +1,5 @@
 -- COMMANDS, and what a list of them needs and keeps.
-use Rattle.std.specs.Prelude.{◌≡◌, ℕ, Bool, true, false, not, ◌&&◌, List, [], length, replicate}
+use Rattle.std.specs.Prelude.{◌≡◌, ℕ, ◌==◌, Bool, true, false, not, ◌&&◌, List, [], length, replicate}
 use Rattle.std.specs.Prelude.{IsSome, Result, OnErr}
 use Rattle.std.specs.Option.{ForSome}
 use Rattle.std.specs.List.{AllByRecursion, AllZip}
@@ -20,14 +20,14 @@ command_of (Trim sector) = step.Trim sector
 command_of Flush = step.Flush
 command_of Turn = step.Turn
 
--- the command asks for no memory, where a block is pinned or not: it changes no sector, or one that is stale in the image, which is cached where no
--- block is pinned
-abbrev pub needs_no_memory : (pinned : Bool) → Geometry → Image → step.Command → Bool
-needs_no_memory pinned g image (step.Read sector) = true
-needs_no_memory pinned g image (step.Write sector body) = not pinned && is_stale g image sector
-needs_no_memory pinned g image (step.Trim sector) = not pinned && is_stale g image sector
-needs_no_memory pinned g image step.Flush = true
-needs_no_memory pinned g image step.Turn = true
+-- the command asks for no memory, where a block is pinned or not: it changes no sector, or one that is stale in the image, which with share 0 is cached
+-- where no block is pinned
+abbrev pub needs_no_memory : (share : ℕ) (pinned : Bool) → Geometry → Image → step.Command → Bool
+needs_no_memory share pinned g image (step.Read sector) = true
+needs_no_memory share pinned g image (step.Write sector body) = share == 0 && not pinned && is_stale g image sector
+needs_no_memory share pinned g image (step.Trim sector) = share == 0 && not pinned && is_stale g image sector
+needs_no_memory share pinned g image step.Flush = true
+needs_no_memory share pinned g image step.Turn = true
 
 -- the command is a read; it is a turn
 abbrev pub is_read : step.Command → Bool

@@ -4,7 +4,7 @@ use Rattle.page_layout.specs.View.{View}
 use Rattle.page_layout.specs.declared.geometry.Geometry.{Geometry}
 use Rattle.page_layout.specs.Page.{Image}
 use Rattle.page_layout.specs.Array.{array_of}
-use Rattle.page_layout.specs.Geometry.{need}
+use Rattle.page_layout.specs.Geometry.{need_at}
 use Rattle.page_layout.specs.Sound.{version_for}
 use Rattle.page_layout.specs.Version.{old_pages}
 use Rattle.page_layout.specs.Flash.{Operation}
@@ -20,7 +20,7 @@ use Rattle.collection.specs.Safe.{image_in}
 use Rattle.ftl_device.specs.declared.device.Device.{Device}
 use Rattle.ftl_device.specs.declared.fault.DeviceFault.TheVariants.{ReadOnly, SequenceSpent, OutOfMemory, Damaged}
 use Rattle.ftl_device.specs.Counts.{is_flush}
-use Rattle.ftl_device.specs.Flush.{First}
+use Rattle.ftl_device.specs.Flush.{First, room_in}
 use Rattle.ftl_device.specs.Stopped.{changes_sector}
 use Rattle.command_queue.specs.Commands.{is_read, is_turn}
 use Rattle.command_queue.specs.Exchanges.{Exchange}
@@ -59,10 +59,10 @@ abbrev pub RunRecordsLaw : {N : Type 0} → (view : View N) → Type 0
 RunRecordsLaw {N} view = (old new : Device N) (events : List Event) (xs : List Exchange)
     → HappensEach view old events xs new → Records (view.recorded old.engine.nand) (log_of events) (view.recorded new.engine.nand)
 
--- A WRITE OR A TRIM OF A SECTOR THAT IS STALE, while no block is pinned, is never answered `OutOfMemory`
+-- WITH SHARE 0 A WRITE OR A TRIM OF A SECTOR THAT IS STALE, while no block is pinned, is never answered `OutOfMemory`
 abbrev pub StaleMemoryLaw : Type 0
 StaleMemoryLaw = (first : First) (old : runs.DeviceView) (before : List Operation) (event : Event) (x : Exchange) (sector : ℕ) (body : List ℕ) → IsFair first old before event x
-    → old.pinned ≡ false → is_stale first.geometry old.flash.image sector ≡ true → (x.command ≡ step.Write sector body) ⊎ (x.command ≡ step.Trim sector)
+    → first.share ≡ 0 → old.pinned ≡ false → is_stale first.geometry old.flash.image sector ≡ true → (x.command ≡ step.Write sector body) ⊎ (x.command ≡ step.Trim sector)
     → x.result ≢ Err OutOfMemory
 
 -- nor is a command that changes no sector, pinned or not
@@ -77,8 +77,8 @@ QuietMemoryLaw = (first : First) (old : runs.DeviceView) (before : List Operatio
 abbrev pub ReadOnlyEventLaw : Type 0
 ReadOnlyEventLaw = (first : First) (old : runs.DeviceView) (before : List Operation) (event : Event) (x : Exchange) (good wanted failed : ℕ) → IsFair first old before event x
     → x.result ≡ Err (ReadOnly good wanted failed) → (free_count first.geometry first.bad (before ++ event.piece) event.left.flash.image < 5)
-    × (good ≡ good_count first.geometry first.bad (before ++ event.piece)) × (wanted ≡ need first.geometry) × (failed ≡ failed_count first.geometry event.piece)
-    × IsShort first.geometry first.bad before event.piece old.ro
+    × (good ≡ good_count first.geometry first.bad (before ++ event.piece)) × (wanted ≡ need_at first.geometry first.share) × (failed ≡ failed_count first.geometry event.piece)
+    × IsShort first.geometry first.share first.bad before event.piece old.ro
 
 -- `SequenceSpent` comes with the last sequence given out, and `Damaged` never
 abbrev pub SpentEventLaw : Type 0
@@ -89,7 +89,7 @@ SpentEventLaw = (first : First) (old : runs.DeviceView) (before : List Operation
 abbrev pub LeftEventLaw : Type 0
 LeftEventLaw = (first : First) (old : runs.DeviceView) (before : List Operation) (event : Event) (x : Exchange) → IsFair first old before event x
     → x.result ≡ Ok tt → event.left.ro ≡ true
-    → IsShort first.geometry first.bad before event.piece old.ro ⊎ ((is_flush x.command ≡ true) × (1 < failed_count first.geometry event.piece))
+    → IsShort first.geometry first.share first.bad before event.piece old.ro ⊎ ((is_flush x.command ≡ true) × (1 < failed_count first.geometry event.piece))
 
 -- a flush that is done leaves no sector stale
 abbrev pub FlushEventLaw : Type 0
@@ -109,5 +109,5 @@ PinEventLaw = (first : First) (old : runs.DeviceView) (before : List Operation) 
 -- after each call the image has a certificate, and where the die has version 2 it has no more newest pages of version 1 than before
 abbrev pub ImageEventLaw : Type 0
 ImageEventLaw = (first : First) (old : runs.DeviceView) (before : List Operation) (event : Event) (x : Exchange) → IsFair first old before event x
-    → (first.capacity + first.geometry.pages ≤ 65536 → IsMountable first.geometry (first.capacity + first.geometry.pages) event.left.flash.image)
+    → (room_in first ≤ 65536 → IsMountable first.geometry (room_in first) event.left.flash.image)
     × (version_for first.geometry ≡ 2 → old_pages first.geometry event.left.flash.image ≤ old_pages first.geometry old.flash.image)

@@ -2,7 +2,7 @@
 use Rattle.std.specs.Prelude.{◌≡◌, ◌≢◌, ℕ, ◌+◌, ◌<◌, ◌≤◌, Bool, true, false, List, []}
 use Rattle.page_layout.specs.declared.geometry.Geometry.{Geometry}
 use Rattle.page_layout.specs.Page.{Image}
-use Rattle.page_layout.specs.Geometry.{need}
+use Rattle.page_layout.specs.Geometry.{need_at, flush_blocks_at}
 use Rattle.page_layout.specs.Array.{marks}
 use Rattle.page_layout.specs.Live.{live}
 use Rattle.page_layout.specs.Flash.{Operation}
@@ -30,6 +30,7 @@ pub record Rescues (g : Geometry) (bad : ℕ → Bool) (piece : List Operation) 
   pub works : (b : ℕ) → IsAilingIn g bad old b → piece ≢ []
   pub fewer : (b : ℕ) → IsAilingIn g bad old b → FailsNowhere g piece → (block : ℕ) × IsAilingIn g bad old block × (newest_in g new block < newest_in g old block)
 
--- A TURN THAT IS DONE AND QUIET, that programs and erases nothing, leaves twelve free blocks, where three more are good than the geometry asks for
-abbrev pub LeavesTwelve : Geometry → (ℕ → Bool) → List Operation → Image → Type 0
-LeavesTwelve g bad piece new = piece ≡ [] → need g + 3 ≤ good_count g bad [] → 12 ≤ free_count g bad [] new
+-- A TURN THAT IS DONE AND QUIET, that programs and erases nothing, leaves twelve free blocks, and those of a flush, where three more are good than the
+-- geometry asks for
+abbrev pub LeavesTwelve : Geometry → (share : ℕ) → (ℕ → Bool) → List Operation → Image → Type 0
+LeavesTwelve g share bad piece new = piece ≡ [] → need_at g share + 3 ≤ good_count g bad [] → 12 + flush_blocks_at g share ≤ free_count g bad [] new

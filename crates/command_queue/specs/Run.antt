@@ -18,7 +18,7 @@ use Rattle.ftl_device.specs.declared.device.Device.{Device}
 use Rattle.ftl_device.specs.declared.fault.DeviceFault.{DeviceFault}
 use Rattle.ftl_device.specs.declared.fault.DeviceFault.TheVariants.{OutOfMemory}
 use Rattle.ftl_device.specs.Begin.{begun_ram, is_bad_in, wear_in, free_in, is_scarce}
-use Rattle.ftl_device.specs.Flush.{First, first_of, IsFlushedOut}
+use Rattle.ftl_device.specs.Flush.{First, first_of, room_in, IsFlushedOut}
 use Rattle.ftl_device.specs.Counts.{is_flush, IsShown, IsLeftReadOnly}
 use Rattle.ftl_device.specs.Changes.{MayPin}
 use Rattle.ftl_device.specs.Stopped.{SurvivesStops}
@@ -29,22 +29,22 @@ use Rattle.command_queue.specs.Tells.{die_in, Happened, Tells}
 
 -- What is so of each event, where `before` is the log up to it. `ReadOnly` comes in a shortage, with fewer than five free blocks, and has its
 -- counts, and `SequenceSpent` the last sequence, by the image and the one log; a call that leaves the device read-only does so in a shortage,
--- or is a flush in which two blocks failed; a command that changes no sector took no memory, and so did one whose sector was stale in the image while no block was pinned; and afterwards
+-- or is a flush in which two blocks failed; a command that changes no sector took no memory, and with share 0 so did one whose sector was stale in the image while no block was pinned; and afterwards
 -- the image has a certificate. A read programs and erases nothing and leaves the device as it was, and a turn that is done rescues pages from
--- bad blocks, and leaves twelve free where it does nothing and enough are good. A block is pinned afterwards only where one was before, by a turn, or by a call after which no sector is changed any more. And
+-- bad blocks, and leaves twelve free, and those of a flush, where it does nothing and enough are good. A block is pinned afterwards only where one was before, by a turn, or by a call after which no sector is changed any more. And
 -- where the die tells a record as the event ends, a stop at any moment in it leaves an image that mounts, with the array before it or, of a
 -- write or trim that is done, the one after it: so whatever was answered stays. Where the die has version 2 no newest page of version 1 is added.
 pub record IsFair (first : First) (old : runs.DeviceView) (before : List Operation) (event : Event) (x : Exchange) : Type 0 where
-  pub shown : (fault : DeviceFault) → x.result ≡ Err fault → IsShown first.geometry first.bad first.next before event.piece old.ro event.left.flash.image fault
-  pub left : event.left.ro ≡ true → IsLeftReadOnly x.command first.geometry first.bad before event.piece old.ro x.result
-  pub stale : needs_no_memory old.pinned first.geometry old.flash.image x.command ≡ true → x.result ≢ Err OutOfMemory
+  pub shown : (fault : DeviceFault) → x.result ≡ Err fault → IsShown first.geometry first.share first.bad first.next before event.piece old.ro event.left.flash.image fault
+  pub left : event.left.ro ≡ true → IsLeftReadOnly x.command first.geometry first.share first.bad before event.piece old.ro x.result
+  pub stale : needs_no_memory first.share old.pinned first.geometry old.flash.image x.command ≡ true → x.result ≢ Err OutOfMemory
   pub flushed : is_flush x.command ≡ true → x.result ≡ Ok tt → IsFlushedOut first (before ++ event.piece) event.left.flash.image
-  pub mountable : first.capacity + first.geometry.pages ≤ 65536 → IsMountable first.geometry (first.capacity + first.geometry.pages) event.left.flash.image
+  pub mountable : room_in first ≤ 65536 → IsMountable first.geometry (room_in first) event.left.flash.image
   pub reads : is_read x.command ≡ true → (event.piece ≡ []) × (event.left ≡ old)
   pub rescues : is_turn x.command ≡ true → x.result ≡ Ok tt → Rescues first.geometry (bad_of first.geometry.pages first.bad before) event.piece old.flash.image event.left.flash.image
-  pub quiet : is_turn x.command ≡ true → x.result ≡ Ok tt → LeavesTwelve first.geometry (bad_of first.geometry.pages first.bad before) event.piece event.left.flash.image
+  pub quiet : is_turn x.command ≡ true → x.result ≡ Ok tt → LeavesTwelve first.geometry first.share (bad_of first.geometry.pages first.bad before) event.piece event.left.flash.image
   pub pins : old.pinned ≡ false → event.left.pinned ≡ true → (is_turn x.command ≡ true) ⊎ MayPin x.result
-  pub stopped : SurvivesStops first.geometry first.capacity x.command x.result old.flash.image event.left.flash.image event.told event.piece
+  pub stopped : SurvivesStops first.geometry (room_in first) x.command x.result old.flash.image event.left.flash.image event.told event.piece
   pub versions : AddsNoOld first.geometry old.flash.image event.left.flash.image
 
 -- and so of all of them, each with the log up to it
@@ -90,20 +90,20 @@ pub record Ran {N : Type 0} (view : View N) (old : Device N) (xs : List Exchange
 
 -- a run from an accepted certificate: it begins with the image that was accepted, read-only just where fewer than five blocks are free in
 -- it; the log is legal for that image and the certificate's bad blocks
-abbrev pub accepted_first : Geometry → Claim → First
-accepted_first g c = record { geometry = g; capacity = c.capacity; bad = is_bad_in c; wear = wear_in c; next = c.next }
+abbrev pub accepted_first : Geometry → (share : ℕ) → Claim → First
+accepted_first g share c = record { geometry = g; capacity = c.capacity; share = share; bad = is_bad_in c; wear = wear_in c; next = c.next }
 
 abbrev pub accepted_device : Flash → Claim → runs.DeviceView
 accepted_device s c = record { flash = s; ro = is_scarce (free_in s.geometry c s.image); pinned = false }
 
--- It is a run from a device that `start` begins over this die: nothing is pinned. The accounts of the accepted image are those of its memory, and the log
+-- It is a run from a device that `start_at` begins over this die, at this share: nothing is pinned. The accounts of the accepted image are those of its memory, and the log
 -- leads them to those of the memory as it ends; so a later run of the same device (`Ran`) goes on with one legal log.
-pub record RanFrom {N : Type 0} (view : View N) (s : Flash)
+pub record RanFrom {N : Type 0} (view : View N) (s : Flash) (share : ℕ)
     (c : Claim) (xs : List Exchange) (new : Device N) : Type 0 where
   pub first : Device N
   pub held : view.flash first.engine.nand ≡ s
-  pub begun : ram first.engine ≡ begun_ram s.geometry c (stale_sectors s.geometry s.image)
-  pub run : HasRun (accepted_first s.geometry c) (accepted_device s c) (die_in view.flash new) xs
+  pub begun : ram first.engine ≡ begun_ram s.geometry share c (stale_sectors s.geometry s.image)
+  pub run : HasRun (accepted_first s.geometry share c) (accepted_device s c) (die_in view.flash new) xs
   pub each : HappensEach view first run.events xs new
   pub legal : IsLegal s.geometry s.image (is_bad_in c) (log_of run.events)
   pub accounted : IsAccounted (accounts_of s.geometry s.image (is_bad_in c)) (ram first.engine).blocks

@@ -14,6 +14,9 @@ use Rattle.promises.specs.Log.{programs_in, bad_of}
 use Rattle.promises.specs.Run.{DeviceView}
 use Rattle.collection.specs.Safe.{ram, image_in}
 use Rattle.collection.specs.Collect.{HasAiling, HasNoneAiling}
+use Rattle.collection.specs.declared.engine.room.Reserve.TheVariants as reserve
+use Rattle.collection.specs.Room.{wanted}
+use Rattle.collection.specs.Stops.{room_of}
 use Rattle.collection.specs.Log.{Went}
 use Rattle.ftl_device.specs.declared.device.Device.{Device}
 use Rattle.ftl_device.specs.declared.fault.DeviceFault.{DeviceFault}
@@ -43,20 +46,20 @@ die_in flash d = record { flash = flash d.engine.nand; ro = d.read_only; pinned 
 pub record Happened {N : Type 0} (view : View N) (old : Device N) (x : Exchange) (new : Device N) : Type 0 where
   pub step : ArrayStep old.engine.geometry (state_in view.flash old) x.command (reply_in x) (state_in view.flash new)
   pub went : Went (ram old.engine) (view.flash old.engine.nand) (view.recorded old.engine.nand) (ram new.engine) (view.flash new.engine.nand) (view.recorded new.engine.nand)
-  pub stale : needs_no_memory (is_some old.engine.pinned) old.engine.geometry (image_in view.flash old.engine) x.command ≡ true → x.result ≢ Err OutOfMemory
+  pub stale : needs_no_memory old.engine.mapping.share (is_some old.engine.pinned) old.engine.geometry (image_in view.flash old.engine) x.command ≡ true → x.result ≢ Err OutOfMemory
   pub shown : (bad : ℕ → Bool) (next : ℕ) (before : List Operation)
       → ((b : ℕ) → b < old.engine.geometry.blocks → is_bad_by (ram new.engine) b ≡ bad_of old.engine.geometry.pages bad (before ++ went.log) b)
       → new.engine.next ≡ next + programs_in (before ++ went.log)
-      → IfErr x.result (IsShown old.engine.geometry bad next before went.log old.read_only (image_in view.flash new.engine))
+      → IfErr x.result (IsShown old.engine.geometry old.engine.mapping.share bad next before went.log old.read_only (image_in view.flash new.engine))
   pub left : (bad : ℕ → Bool) (before : List Operation)
       → ((b : ℕ) → b < old.engine.geometry.blocks → is_bad_by (ram new.engine) b ≡ bad_of old.engine.geometry.pages bad (before ++ went.log) b)
       → new.read_only ≡ true
-      → IsLeftReadOnly x.command old.engine.geometry bad before went.log old.read_only x.result
+      → IsLeftReadOnly x.command old.engine.geometry old.engine.mapping.share bad before went.log old.read_only x.result
   pub flushed : is_flush x.command ≡ true → x.result ≡ Ok tt → IsFlushedOut (first_of (ram old.engine)) went.log (image_in view.flash new.engine)
   pub reads : is_read x.command ≡ true → (went.log ≡ []) × (die_in view.flash new ≡ die_in view.flash old)
   pub rescues : is_turn x.command ≡ true → x.result ≡ Ok tt → Rescues old.engine.geometry (is_bad_by (ram old.engine)) went.log (image_in view.flash old.engine) (image_in view.flash new.engine)
-  pub quiet : is_turn x.command ≡ true → x.result ≡ Ok tt → LeavesTwelve old.engine.geometry (is_bad_by (ram old.engine)) went.log (image_in view.flash new.engine)
-  pub stopped : SurvivesStops old.engine.geometry old.engine.mapping.capacity x.command x.result (image_in view.flash old.engine) (image_in view.flash new.engine) (view.recorded new.engine.nand) went.log
+  pub quiet : is_turn x.command ≡ true → x.result ≡ Ok tt → LeavesTwelve old.engine.geometry old.engine.mapping.share (is_bad_by (ram old.engine)) went.log (image_in view.flash new.engine)
+  pub stopped : SurvivesStops old.engine.geometry (room_of (ram old.engine)) x.command x.result (image_in view.flash old.engine) (image_in view.flash new.engine) (view.recorded new.engine.nand) went.log
   pub versions : AddsNoOld old.engine.geometry (image_in view.flash old.engine) (image_in view.flash new.engine)
 
 -- WHAT THE CONTRACT OF A TURN SAYS (`Device::turn`). It is refused by a device that is read-only or has no sequence. One that is done has made room,
@@ -68,7 +71,7 @@ pub record Happened {N : Type 0} (view : View N) (old : Device N) (x : Exchange)
 pub record TakesTurn {N : Type 0} (view : View N) (old : Device N) (result : Result (Unit {0}) DeviceFault) (new : Device N) : Type 0 where
   pub refuses : RefusesUpkeep old result new
   pub turned : OnOk result (HasTurned (ram old.engine) (ram new.engine))
-  pub rests : HasNoneAiling (ram old.engine).blocks → old.engine.pinned ≡ None → 12 ≤ free_count (ram old.engine).blocks → OnOk result (new.engine ≡ old.engine)
+  pub rests : HasNoneAiling (ram old.engine).blocks → old.engine.pinned ≡ None → wanted reserve.Turn (ram old.engine) ≤ free_count (ram old.engine).blocks → OnOk result (new.engine ≡ old.engine)
   pub quiet : view.honest old.engine.nand ≡ true → IsWell view.flash old → OnOk result (IsQuiet view.erases old.engine new.engine)
   pub falls : view.honest old.engine.nand ≡ true → IsWell view.flash old → HasNoneAiling (ram old.engine).blocks → OnOk result (HasFallen view old.engine new.engine)
   pub rescued : view.honest old.engine.nand ≡ true → IsWell view.flash old → OnOk result (HasRescued (ram old.engine) (ram new.engine))

@@ -70,15 +70,15 @@ pub record WasTold {N : Type 0} (view : View N) (old : Device N) (xs : List Exch
 
 -- ---- from an accepted certificate
 
--- the same of a device that `start` began over this die
-abbrev pub RunsFrom : {N : Type 0} → (view : View N) → N → Acceptance → List Exchange → Device N → Type 0
-RunsFrom view nand accepted xs mid = view.honest nand ≡ true → IsAcceptedFor (view.flash nand) accepted
-    → IsWell view.flash mid × RanFrom view (view.flash nand) accepted.claim xs mid
+-- the same of a device that `start_at` began over this die, at this share
+abbrev pub RunsFrom : {N : Type 0} → (view : View N) → N → (share : ℕ) → Acceptance → List Exchange → Device N → Type 0
+RunsFrom view nand share accepted xs mid = view.honest nand ≡ true → IsAcceptedFor (view.flash nand) accepted
+    → IsWell view.flash mid × RanFrom view (view.flash nand) share accepted.claim xs mid
 
--- `start` began a device over this die, and it was told these, one after another
-pub record ToldFrom {N : Type 0} (view : View N) (nand : N)
+-- `start_at` began a device over this die, at this share, and it was told these, one after another
+pub record ToldFrom {N : Type 0} (view : View N) (nand : N) (share : ℕ)
     (accepted : Acceptance) (xs : List Exchange) (new : Device N) : Type 0 where
   pub first : Device N
   pub nand_is : first.engine.nand ≡ nand
-  pub begun : ram first.engine ≡ begun_ram (view.flash nand).geometry accepted.claim accepted.stale
+  pub begun : ram first.engine ≡ begun_ram (view.flash nand).geometry share accepted.claim accepted.stale
   pub told : WasTold view first xs new

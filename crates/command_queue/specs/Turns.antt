@@ -5,7 +5,7 @@ use Rattle.page_layout.specs.View.{View}
 use Rattle.page_layout.specs.declared.geometry.Geometry.{Geometry}
 use Rattle.page_layout.specs.Counter.{HasRisen}
 use Rattle.page_layout.specs.Flash.{Operation}
-use Rattle.page_layout.specs.Geometry.{need}
+use Rattle.page_layout.specs.Geometry.{need_at, flush_blocks_at}
 use Rattle.promises.specs.Log.{programs_in, good_count, free_count}
 use Rattle.promises.specs.Run as runs
 use Rattle.promises.specs.Run.{Event}
@@ -49,16 +49,16 @@ TurnsInARowLaw {N} view = (old new : Device N) (events : List Event) (xs : List 
     → length xs ≡ old.engine.geometry.pages → AreTurnsDone xs → FailNowhere old.engine.geometry events
     → (each : HappensEach view old events xs new) → OneRests view old events xs new each
 
--- A TURN THAT IS DONE AND QUIET, that programs nothing and of which the die counts no erase, leaves twelve free blocks by the image, where three more are good
+-- A TURN THAT IS DONE AND QUIET, that programs nothing and of which the die counts no erase, leaves twelve free blocks by the image, and those of a flush, where three more are good
 -- than the geometry asks for
 abbrev pub QuietTurnLaw : {N : Type 0} → (view : View N) → Type 0
 QuietTurnLaw {N} view = (old new : Device N) (event : Event) (x : Exchange) → view.honest old.engine.nand ≡ true
     → IsWell view.flash old → is_turn x.command ≡ true → x.result ≡ Ok tt → IsEventOf view old event x new
-    → (0 < programs_in event.piece) ⊎ HasRisen (view.erases old.engine.nand) (view.erases new.engine.nand) ⊎ (need new.engine.geometry + 3 ≤ good_by (ram new.engine) → 12 ≤ free_by (ram new.engine) (image_in view.flash new.engine))
+    → (0 < programs_in event.piece) ⊎ HasRisen (view.erases old.engine.nand) (view.erases new.engine.nand) ⊎ (need_at new.engine.geometry new.engine.mapping.share + 3 ≤ good_by (ram new.engine) → 12 + flush_blocks_at new.engine.geometry new.engine.mapping.share ≤ free_by (ram new.engine) (image_in view.flash new.engine))
 
--- A TURN OF A RUN THAT IS DONE AND PROGRAMS AND ERASES NOTHING leaves twelve free blocks by the image and the log up to it, where three more are good by
+-- A TURN OF A RUN THAT IS DONE AND PROGRAMS AND ERASES NOTHING leaves twelve free blocks, and those of a flush, by the image and the log up to it, where three more are good by
 -- that log than the geometry asks for
 abbrev pub QuietEventLaw : Type 0
 QuietEventLaw = (first : First) (old : runs.DeviceView) (before : List Operation) (event : Event) (x : Exchange) → IsFair first old before event x
     → is_turn x.command ≡ true → x.result ≡ Ok tt → event.piece ≡ []
-    → need first.geometry + 3 ≤ good_count first.geometry first.bad before → 12 ≤ free_count first.geometry first.bad before event.left.flash.image
+    → need_at first.geometry first.share + 3 ≤ good_count first.geometry first.bad before → 12 + flush_blocks_at first.geometry first.share ≤ free_count first.geometry first.bad before event.left.flash.image

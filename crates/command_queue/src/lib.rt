@@ -7,4 +7,4 @@ mod queue;
 
 pub use command::{Call, Command};
 pub use laws::{asked_laws, event_laws, fair_laws, told_laws, turn_run_laws};
-pub use queue::{migrate, run, run_accepted, tell};
+pub use queue::{migrate, run, run_accepted, run_accepted_at, tell};

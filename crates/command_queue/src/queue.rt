@@ -3,6 +3,7 @@ ghost use Rattle.std.specs.Prelude.{◌≡◌, ◌≢◌, ◌≤◌, ◌⊎◌, 
 ghost use Rattle.std.specs.Option.{ForSome};
 ghost use Rattle.page_layout.specs.Counter.{HasRisen};
 ghost use Rattle.mapping_cache.specs.Mapping.{HasLimitsOf};
+ghost use Rattle.page_layout.specs.Geometry.{IsShare};
 ghost use Rattle.certificate.specs.Claim.{sizes_of};
 ghost use Rattle.ftl_device.specs.Device.{IsDevice};
 ghost use Rattle.ftl_device.specs.Calls.{stop_of, IsWell};
@@ -141,15 +142,49 @@ pub fn run_accepted<'a, N: Nand>(
     ensures calm { IfOk result (λ d. N.view.calm d.engine.nand ≡ N.view.calm nand) }
     ensures failed { IfOk result (λ d. N.view.failed nand ≤ N.view.failed d.engine.nand) }
     ensures stays { OnOk result (StaysStopped (exchanges_of calls.new)) }
-    ensures each { IfOk result (ToldFrom N.view nand accepted.entry (exchanges_of calls.new)) }
+    ensures each { IfOk result (ToldFrom N.view nand 0 accepted.entry (exchanges_of calls.new)) }
     ensures rose { IfOk result (λ d. AreKnown (exchanges_of calls.new) ⊎ HasRisen (N.view.failed nand) (N.view.failed d.engine.nand)) }
 
     // Up to the first fault of the bus.
-    ensures until { IfOk result (Until (RunsFrom N.view nand accepted.entry) (Tells N.view) (exchanges_of calls.new)) }
+    ensures until { IfOk result (Until (RunsFrom N.view nand 0 accepted.entry) (Tells N.view) (exchanges_of calls.new)) }
     ensures fault { IfErr result (λ fault. fault ≡ StartFault.OutOfMemory nand accepted.entry) }
     ensures untold { OnErr result (calls.new ≡ calls.old) }
 {
-    let mut device = Device::start(alloc, nand, accepted)?;
+    run_accepted_at(alloc, nand, 0, accepted, calls)
+}
+
+/// As `run_accepted`, with a device as `Device::start_at` begins it: up to `share` moved sectors, in the
+/// mean, wait for each translation page. `share` is one of the geometry: `Geometry::is_share`.
+///
+/// # Errors
+///
+/// `OutOfMemory` alone, as there. (This project.)
+pub fn run_accepted_at<'a, N: Nand>(
+    alloc: Global,
+    nand: N,
+    share: u32,
+    accepted: Accepted<'a>,
+    calls: &mut [Call<'_>],
+) -> Result<Device<N>, StartFault<'a, N>>
+    requires share { IsShare (N.view.flash nand).geometry share }
+    requires same_geometry { sizes_of (N.view.flash nand).geometry ≡ accepted.claim.sizes }
+    requires whole { AreWhole (N.view.flash nand).geometry calls.old }
+    ensures device { IfOk result (IsDevice N.view.flash) }
+    ensures commands { map told_command calls.new ≡ map told_command calls.old }
+    ensures answered { OnOk result (AreAnswered calls.new) }
+    ensures kept { OnOk result (HaveKept calls.old calls.new) }
+    ensures calm { IfOk result (λ d. N.view.calm d.engine.nand ≡ N.view.calm nand) }
+    ensures failed { IfOk result (λ d. N.view.failed nand ≤ N.view.failed d.engine.nand) }
+    ensures stays { OnOk result (StaysStopped (exchanges_of calls.new)) }
+    ensures each { IfOk result (ToldFrom N.view nand share accepted.entry (exchanges_of calls.new)) }
+    ensures rose { IfOk result (λ d. AreKnown (exchanges_of calls.new) ⊎ HasRisen (N.view.failed nand) (N.view.failed d.engine.nand)) }
+
+    // Up to the first fault of the bus.
+    ensures until { IfOk result (Until (RunsFrom N.view nand share accepted.entry) (Tells N.view) (exchanges_of calls.new)) }
+    ensures fault { IfErr result (λ fault. fault ≡ StartFault.OutOfMemory nand accepted.entry) }
+    ensures untold { OnErr result (calls.new ≡ calls.old) }
+{
+    let mut device = Device::start_at(alloc, nand, share, accepted)?;
     run(&mut device, calls);
     Ok(device)
 }

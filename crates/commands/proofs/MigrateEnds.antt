@@ -1,5 +1,5 @@
 -- From what the steps of `migrate` came to, to what the command came to.
-use Rattle.std.proofs.Common.{true, ◌≡◌, ◌≢◌, ◌⊎◌, inl, inr, ℕ, ◌+◌, ◌≤◌, List, Option, None, Result, Ok, Err, OnOk, IfErr, refl, sym, ap, subst, ◌∙◌}
+use Rattle.std.proofs.Common.{true, ◌≡◌, ◌≢◌, ◌⊎◌, inl, inr, ℕ, ◌+◌, ◌≤◌, List, Option, None, Result, Ok, Err, OnOk, IfErr, refl, sym, ap, subst, ◌∙◌, arith}
 use Rattle.std.specs.Io.KnownBytes.{Appends, Keeps}
 use Rattle.page_layout.specs.declared.geometry.Geometry.{Geometry}
 use Rattle.page_layout.specs.Array.{array_of}
@@ -34,6 +34,7 @@ use Rattle.commands.specs.Steady.{has_spared}
 use Rattle.commands.specs.Serve.{Driver, HasClaim, IsDieUnmade, bad_in, failures_of, flash_behind, recorded_of, driver_view}
 use Rattle.commands.specs.Migrate.{DoesMigrate, EndsShort, HasMigrated, IsSettled, IsUnbegun, IsUnmigratedDie, KeepsAll, MigratesDie, RenewsThenFlushes, StartsOver, migrated_line}
 use Rattle.ftl_device.proofs.CallLemmas.{mountable_kept}
+use Rattle.ftl_device.proofs.PinLemmas.{room_is}
 use Rattle.block_server.proofs.Checking.{accepted_for, closed_as, geometry_is, is_begun, well}
 use Rattle.commands.proofs.BadLemmas.{named_bad}
 use Rattle.commands.proofs.FormatLemmas.{not_risen}
@@ -101,7 +102,7 @@ accounts_over nand checked g capacity c a d sized same whole claim_is acceptance
 pub starts_over : (nand checked : Driver) (g : Geometry) (capacity : ℕ) (c : Claim) (a : Acceptance) (d : Device Driver) → 40 ≤ g.spare_bytes
     → (flash_behind nand).geometry ≡ g → OnlyReads driver_view nand checked
     → flash_behind checked ≡ flash_behind nand → recorded_of checked ≡ recorded_of nand → IsImage g (flash_behind nand).image → a.claim ≡ c → IsAcceptance g capacity (flash_behind nand).image c a
-    → IsDevice flash_behind d → d.engine.nand ≡ checked → ram d.engine ≡ begun_ram (flash_behind checked).geometry a.claim a.stale
+    → IsDevice flash_behind d → d.engine.nand ≡ checked → ram d.engine ≡ begun_ram (flash_behind checked).geometry 0 a.claim a.stale
     → (IsAcceptedFor (flash_behind checked) a → IsTrue None (ram d.engine) (image_in flash_behind d.engine))
     → (IsAcceptedFor (flash_behind checked) a → d.read_only ≡ is_scarce (free_in (flash_behind checked).geometry a.claim (flash_behind checked).image))
     → (IsAcceptedFor (flash_behind checked) a → IsAccounted (accounts_of (flash_behind checked).geometry (flash_behind checked).image (is_bad_in a.claim)) (state d.engine.blocks))
@@ -110,13 +111,13 @@ starts_over nand checked g capacity c a d roomy sized reads same told whole clai
   cursor = cursor;
   agrees = acceptance.agrees;
   roomy = roomy;
-  begun = is_begun driver_view nand checked checked g capacity c a d sized reads.geometry_is reads.honest_is reads.calm_is reads.failed_is
+  begun = is_begun driver_view nand checked checked g 0 capacity c a d sized reads.geometry_is reads.honest_is reads.calm_is reads.failed_is
       (λ _. same) (λ _. told) (λ _. whole) claim_is (λ _. acceptance) device nand_is begun (λ _. truth) (λ _. free) (λ _. accounts);
-  sized = geometry_is driver_view nand checked checked g capacity c a d sized reads.geometry_is reads.honest_is reads.calm_is reads.failed_is
+  sized = geometry_is driver_view nand checked checked g 0 capacity c a d sized reads.geometry_is reads.honest_is reads.calm_is reads.failed_is
       (λ _. same) (λ _. told) (λ _. whole) claim_is (λ _. acceptance) device nand_is begun (λ _. truth) (λ _. free) (λ _. accounts);
-  well = well driver_view nand checked checked g capacity c a d sized reads.geometry_is reads.honest_is reads.calm_is reads.failed_is
+  well = well driver_view nand checked checked g 0 capacity c a d sized reads.geometry_is reads.honest_is reads.calm_is reads.failed_is
       (λ _. same) (λ _. told) (λ _. whole) claim_is (λ _. acceptance) device nand_is begun (λ _. truth) (λ _. free) (λ _. accounts) refl;
-  free = closed_as driver_view nand checked checked g capacity c a d sized reads.geometry_is reads.honest_is reads.calm_is reads.failed_is
+  free = closed_as driver_view nand checked checked g 0 capacity c a d sized reads.geometry_is reads.honest_is reads.calm_is reads.failed_is
       (λ _. same) (λ _. told) (λ _. whole) claim_is (λ _. acceptance) device nand_is begun (λ _. truth) (λ _. free) (λ _. accounts) refl;
   accounts = accounts_over nand checked g capacity c a d sized same whole claim_is acceptance accounts;
 }
@@ -131,9 +132,11 @@ mounts_on : (g : Geometry) (capacity : ℕ) (c : Claim) (nand : Driver) (first l
 mounts_on g capacity c nand first last starts device sized kept =
     let held : last.engine.mapping.capacity ≡ capacity =
     kept.capacity ∙ (ap (λ (r : Ram). r.mapping.capacity) starts.begun.begun ∙ starts.agrees.asked.capacity_same) in
+    let none : last.engine.mapping.share ≡ 0 = kept.share ∙ ap (λ (r : Ram). r.mapping.share) starts.begun.begun in
     let P : Geometry → ℕ → Type 0 = λ k n. n + k.pages ≤ 65536 → IsMountable k (n + k.pages) (flash_behind last.engine.nand).image in
-    let here : P last.engine.geometry last.engine.mapping.capacity =
-    mountable_kept flash_behind last.engine last.engine refl device.engine.memory kept.well.truth in
+    let here : P last.engine.geometry last.engine.mapping.capacity = λ most.
+    let room = room_is (ram last.engine) none in
+    subst (λ n. IsMountable last.engine.geometry n (flash_behind last.engine.nand).image) room (mountable_kept flash_behind last.engine last.engine refl device.engine.memory kept.well.truth (omega (arith, most, room))) in
     subst (λ k. P k capacity) sized (subst (λ n. P last.engine.geometry n) held here)
 
 -- the log of the calls is legal by the accounts of the image

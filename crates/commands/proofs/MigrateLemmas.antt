@@ -56,19 +56,20 @@ module _ {N : Type 0} (view : View N) where
       → Upkeeps view Turn old result new → KeepsAll view old new
   turn_keeps old new result still well ne its =
       let means = its.means still well ne in
-      record { well = means.well; array = quiet_array (state_in view.flash old) (state_in view.flash new) (reply_of result) means.step; capacity = its.stays.limits.capacity; went = (its.logs still ne).went }
+      record { well = means.well; array = quiet_array (state_in view.flash old) (state_in view.flash new) (reply_of result) means.step; capacity = its.stays.limits.capacity; share = its.stays.limits.share; went = (its.logs still ne).went }
 
   pub flush_keeps : (old new : Device N) (result : Result (Unit {0}) DeviceFault) → view.honest old.engine.nand ≡ true → IsWell view.flash old → result ≢ Err BusFault
       → Upkeeps view Flush old result new → KeepsAll view old new
   flush_keeps old new result still well ne its =
       let means = its.means still well ne in
-      record { well = means.well; array = quiet_array (state_in view.flash old) (state_in view.flash new) (reply_of result) means.step; capacity = its.stays.limits.capacity; went = (its.logs still ne).went }
+      record { well = means.well; array = quiet_array (state_in view.flash old) (state_in view.flash new) (reply_of result) means.step; capacity = its.stays.limits.capacity; share = its.stays.limits.share; went = (its.logs still ne).went }
 
   pub keeps_then : (old mid new : Device N) → mid.engine.geometry ≡ old.engine.geometry → KeepsAll view old mid → KeepsAll view mid new → KeepsAll view old new
   keeps_then old mid new sized first next = record {
     well = next.well;
     array = next.array ∙ first.array;
     capacity = next.capacity ∙ first.capacity;
+    share = next.share ∙ first.share;
     went = went_then _ _ _ _ _ _ _ _ _ sized first.went next.went;
   }
 
@@ -99,7 +100,7 @@ module _ {N : Type 0} (view : View N) where
     still = still;
     le = omega arith;
     renews = refl;
-    keeps = record { well = well; array = refl; capacity = refl; went = went_same _ _ _ };
+    keeps = record { well = well; array = refl; capacity = refl; share = refl; went = went_same _ _ _ };
     left = omega (arith, few_old g (image_in view.flash old.engine));
   }
 

@@ -49,12 +49,12 @@ passed_in g before c s t ro pinned events first begins run legal loaded spared =
     (subst (λ (f : Flash). IsLegal g f.image (is_bad_in c) (log_of events)) loaded legal) (subst (λ (f : Flash). Leads f (log_of events) t) (begins ∙ loaded) leads)
 
 pub die_served : (nand given : Driver) (g : Geometry) (capacity : ℕ) (c : Claim) (u v b w : Option (List ℕ)) (result : Result Served ServeFault) (how : Option ServeStop) (after : List ℕ) (back : Flash) (most : ℕ)
-    → IsServed driver_view nand g capacity c u v b w result given → failures_of given ≤ most → most ≡ 0 → back ≡ flash_behind given → back.geometry ≡ g → has_spared back ≡ true
+    → IsServed driver_view nand g 0 capacity c u v b w result given → failures_of given ≤ most → most ≡ 0 → back ≡ flash_behind given → back.geometry ≡ g → has_spared back ≡ true
     → how ≡ stop_in result → raw_image back.geometry after ≡ back.image → after ≡ raw_bytes back.image → HasServed g capacity c (flash_behind nand) after u v b w how
 die_served nand given g capacity c u v b w result how after back most s le none same sized spared how_is pages bytes =
     let known : AreKnown s.exchanges = all_known s.exchanges (failures_of nand) (failures_of given) most s.rose le none in
     let there : back ≡ flash_behind s.last.engine.nand = same ∙ ap flash_behind s.given_is in
-    let holds = until_known (HoldsTo driver_view nand g capacity c s.first) (HasBusFailed driver_view) s.exchanges s.last s.headline known refl in
+    let holds = until_known (HoldsTo driver_view nand g 0 capacity c s.first) (HasBusFailed driver_view) s.exchanges s.last s.headline known refl in
     let passed : (before : List ℕ) → flash_behind nand ≡ loaded_flash g before (bad_in g c) → failures (log_of holds.headline.run.events) ≡ 0 = λ before loaded.
     passed_in g before c (flash_behind nand) (flash_behind s.last.engine.nand) holds.headline.ro holds.headline.pinned holds.headline.run.events (accepted_device (flash_behind nand) c) refl holds.headline.run.run holds.headline.legal loaded
     (subst (λ (f : Flash). has_spared f ≡ true) there spared) in

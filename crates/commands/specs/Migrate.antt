@@ -87,12 +87,13 @@ RenewsThenFlushes {N} view old (Err refused) new =
     ⊎ ((count : ℕ) × (mid : Device N) × RenewsAll view old (Ok count) mid
     × Upkeeps view Flush mid (Err refused) new)
 
--- WHAT STAYS, whether or not a call was refused: the array, and the capacity of the cache. The memory is true of the image; and one log, that of all
+-- WHAT STAYS, whether or not a call was refused: the array, the capacity of the cache, and the share. The memory is true of the image; and one log, that of all
 -- calls, leads from the one die to the other.
 pub record KeepsAll {N : Type 0} (view : View N) (old new : Device N) : Type 0 where
   pub well : IsWell view.flash new
   pub array : array_in view.flash new ≡ array_in view.flash old
   pub capacity : new.engine.mapping.capacity ≡ old.engine.mapping.capacity
+  pub share : new.engine.mapping.share ≡ old.engine.mapping.share
   pub went : Went (ram old.engine) (view.flash old.engine.nand) (view.recorded old.engine.nand) (ram new.engine) (view.flash new.engine.nand) (view.recorded new.engine.nand)
 
 -- WHERE THE CALLS BEGIN: a device that goes on, on an honest die of this geometry whose pages have room for version 2
@@ -138,7 +139,7 @@ pub record IsRenewedThenFlushed {N : Type 0} (view : View N) (g : Geometry) (old
 pub record StartsOver (g : Geometry) (capacity : ℕ) (c : Claim) (nand : Driver) (first : Device Driver) : Type 0 where
   pub agrees : Agrees g capacity (flash_behind nand).image c
   pub roomy : 40 ≤ g.spare_bytes
-  pub begun : IsBegun driver_view nand g c first
+  pub begun : IsBegun driver_view nand g 0 c first
   pub sized : first.engine.geometry ≡ g
   pub well : IsWell flash_behind first
   pub cursor : first.cursor ≡ 0

@@ -97,8 +97,8 @@ pub record ServesDie (g : Geometry) (capacity : ℕ) (c : Claim) (s : Flash) (af
   pub first : Device Driver
   pub last : Device Driver
   pub held : flash_behind nand ≡ s
-  pub begun : IsBegun driver_view nand g c first
-  pub holds : HeadlineHolds driver_view g capacity c s first exchanges last
+  pub begun : IsBegun driver_view nand g 0 c first
+  pub holds : HeadlineHolds driver_view g 0 capacity c s first exchanges last
   pub passed : (before : List ℕ) → s ≡ loaded_flash g before (bad_in g c) → failures (log_of holds.headline.run.events) ≡ 0
   pub pages : raw_image g after ≡ (flash_behind last.engine.nand).image
   pub bytes : after ≡ raw_bytes (flash_behind last.engine.nand).image

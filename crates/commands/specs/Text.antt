@@ -161,27 +161,7 @@ rest_of (Write path) = path.now
 
 -- the line, without its line feed; of two things that failed two lines
 abbrev pub line_of : CommandFault → List ℕ
-line_of NoSuchCommand = codes "usage: no such command"
-line_of (BadNumber word) = codes "usage: bad number " ++ word.now
-line_of (Geometry fault) = codes "refused geometry " ++ geometry_words fault
-line_of Capacity = codes "refused geometry 6 Capacity"
-line_of WrongLength = codes "refused image 1 WrongLength"
-line_of RowRange = codes "refused image 2 RowRange"
-line_of OutOfMemory = codes "refused image 3 OutOfMemory"
-line_of (Sector fault) = codes "refused sector " ++ sector_words fault
-line_of (Die fault) = codes "refused die " ++ die_words fault
-line_of (Format fault) = codes "refused format " ++ format_words fault
-line_of (Certificate fault) = codes "refused certificate " ++ certificate_words fault
-line_of (Check refused) = codes "refused check " ++ refusal_words refused
-line_of (Mount refused) = codes "refused mount " ++ refusal_words refused
-line_of Start = codes "refused start 1 OutOfMemory"
-line_of (Serve stopped) = stop_words stopped
-line_of (ServeUnstored stopped path) = stop_words stopped ++ (10 ∷ (codes "fault write " ++ path.now))
-line_of SpareSize = codes "refused migrate 8 SpareSize"
-line_of (Migrate refused) = codes "refused migrate " ++ device_words refused
-line_of (MigrateUnstored refused path) = codes "refused migrate " ++ (device_words refused ++ (10 ∷ (codes "fault write " ++ path.now)))
-line_of (Read path) = codes "fault read " ++ path.now
-line_of (Write path) = codes "fault write " ++ path.now
+line_of fault = area_of fault ++ rest_of fault
 
 -- the exit status: 1 refused, 2 usage, 3 input or output
 abbrev pub status_of : CommandFault → ℕ

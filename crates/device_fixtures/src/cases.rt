@@ -263,6 +263,9 @@ fn collect<N: Nand>(engine: &mut Engine<N>, block: u32, flushing: bool) -> Resul
     if block >= engine.geometry.blocks() || !engine.closed(block) || !engine.pinned.is_none() {
         return Err(Fail::new("a block that isn't to be collected"));
     }
+    if flushing && engine.mapping.share() != 0 {
+        return Err(Fail::new("a flush where sectors may wait"));
+    }
     engine.collect(block, flushing)?;
     Ok(())
 }

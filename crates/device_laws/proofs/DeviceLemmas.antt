@@ -2,7 +2,8 @@
 use Rattle.std.proofs.Common.{◌≡◌, Option, MatchOption, inl, inr, refl, sym, subst, arith}
 use Rattle.collection.specs.declared.engine.Pinned.{Pinned}
 use Rattle.collection.specs.Collect.{HasAiling, HasNoneAiling}
-use Rattle.collection.specs.Room.{IsWorth}
+use Rattle.collection.specs.declared.engine.room.Reserve.TheVariants as reserve
+use Rattle.collection.specs.Room.{IsWorth, wanted}
 use Rattle.allocation.specs.State.{State}
 use Rattle.ftl_device.specs.declared.fault.DeviceFault.TheVariants.{OutOfRange, ReadOnly, SequenceSpent, OutOfMemory, Damaged, BusFault}
 use Rattle.device_laws.specs.Turns.{GoesOnLaw, BeginsLaw, RescueFirstLaw}
@@ -11,13 +12,13 @@ use Rattle.device_laws.specs.Flushes.{NoneStaleLaw, NoTableOldLaw, OneFailureLaw
 
 pub goes_on : GoesOnLaw
 goes_on old new pinned on some =
-    let P : Option Pinned → Type 0 = λ o. MatchOption o (IsWorth 3 old on.block.block × (on.block.first ≡ 0)) (λ p. p ≡ on.block) in
+    let P : Option Pinned → Type 0 = λ o. MatchOption o (IsWorth (wanted reserve.Turn old) old on.block.block × (on.block.first ≡ 0)) (λ p. p ≡ on.block) in
     sym (subst P some on.which)
 
 pub begins : BeginsLaw
 begins old new on none =
-    let P : Option Pinned → Type 0 = λ o. MatchOption o (IsWorth 3 old on.block.block × (on.block.first ≡ 0)) (λ p. p ≡ on.block) in
-    let h : IsWorth 3 old on.block.block × (on.block.first ≡ 0) = subst P none on.which in
+    let P : Option Pinned → Type 0 = λ o. MatchOption o (IsWorth (wanted reserve.Turn old) old on.block.block × (on.block.first ≡ 0)) (λ p. p ≡ on.block) in
+    let h : IsWorth (wanted reserve.Turn old) old on.block.block × (on.block.first ≡ 0) = subst P none on.which in
     (h.0.scarce, h.1, h.0.victim.closed, h.0.small)
 
 none_ails : (s : State) → HasNoneAiling s → HasAiling s → ⊥
@@ -57,11 +58,11 @@ pub no_table_old : NoTableOldLaw
 no_table_old first log image u out two = out.renewed two u
 
 pub one_failure : OneFailureLaw
-one_failure command g bad before call ro few (inl short) = short
-one_failure command g bad before call ro few (inr flushed) = absurd (omega (arith, few, flushed.1))
+one_failure command g share bad before call ro few (inl short) = short
+one_failure command g share bad before call ro few (inr flushed) = absurd (omega (arith, few, flushed.1))
 
 pub shown_short : ShownShortLaw
-shown_short g bad next before call ro image good wanted failed shown = shown.1
+shown_short g share bad next before call ro image good wanted failed shown = shown.1
 
 pub call_failures : CallFailuresLaw
-call_failures g bad next before call ro image good wanted failed shown = shown.0.failed_is
+call_failures g share bad next before call ro image good wanted failed shown = shown.0.failed_is

@@ -1,6 +1,6 @@
 -- The order in which a flush programs translation pages.
 use Rattle.std.proofs.Common.{◌≡◌, ◌≢◌, inl, inr, ℕ, zero, suc, ◌+◌, ◌/◌, ◌≤◌, Bool, true, List, [], ◌∷◌, refl, sym, ◌∙◌, ap, subst, arith}
-use Rattle.std.proofs.lemmas.Bool.{cases_lt}
+use Rattle.std.proofs.lemmas.Bool.{cases_eq, cases_lt}
 use Rattle.page_layout.specs.View.{View}
 use Rattle.page_layout.specs.declared.geometry.Geometry.{Geometry}
 use Rattle.page_layout.specs.Geometry.{entries, table_pages}
@@ -20,7 +20,8 @@ use Rattle.collection.specs.Cost.{HasPut}
 use Rattle.collection.specs.Collect.{LeadTo}
 use Rattle.collection.specs.Room.{Collects}
 use Rattle.ftl_device.specs.Flush.{IsClean}
-use Rattle.ftl_device.specs.FlushSteps.{BringsUp, FlushesPage, FlushesPages, WritesFirst}
+use Rattle.ftl_device.proofs.FlushStepLemmas.{cleared_rests}
+use Rattle.ftl_device.specs.FlushSteps.{BringsUp, HasCleared, FlushesPage, FlushesPages, WritesFirst}
 use Rattle.device_laws.specs.FlushOrder.{HighestLastLaw, LastTableLaw, SpelledTableLaw}
 
 abbrev good_in : Ram → ℕ
@@ -43,11 +44,11 @@ good_lead flushing (steps.WroteBack ∷ before) a b h =
     omega (arith, less, put)
 good_lead flushing (steps.Erased ∷ before) a b h = absurd h
 
-good_collects : (flushing : Bool) (blocks : List ℕ) (a b : Ram) → Collects flushing a blocks b → good_in b ≤ good_in a
-good_collects flushing [] a b h = (let same : good_in b ≡ good_in a = ap good_in h in omega (arith, same))
-good_collects flushing (block ∷ before) a b h =
+good_collects : (many : ℕ) (flushing : Bool) (blocks : List ℕ) (a b : Ram) → Collects many flushing a blocks b → good_in b ≤ good_in a
+good_collects many flushing [] a b h = (let same : good_in b ≡ good_in a = ap good_in h in omega (arith, same))
+good_collects many flushing (block ∷ before) a b h =
     let its = h.3 in
-    let less = good_collects flushing before a h.0 h.1 in
+    let less = good_collects many flushing before a h.0 h.1 in
     let led = good_lead flushing its.ledger.steps_taken h.0 its.mid its.ledger.lead in
     let erase : good_in its.mid ≡ good_in b + its.erase.failures = its.erase.counts.good in
     omega (arith, less, led, erase)
@@ -63,10 +64,15 @@ put_takes a b put = elim put.put.put.cases [
 ]
 
 module _ {N : Type 0} (view : View N) where
+  cleared_falls : (a b : Engine N) → HasCleared view a b → good_in (ram b) ≤ good_in (ram a)
+  cleared_falls a b cleared = elim (cases_eq a.mapping.share 0) [
+    | inl none ↦ (let room = (cleared.room none).collects in good_collects 9 true room.0 (ram a) (ram b) room.1)
+    | inr some ↦ (let same : good_in (ram b) ≡ good_in (ram a) = ap (λ (e : Engine N). good_in (ram e)) (cleared.still (omega (arith, some))).0 in omega (arith, same))
+  ]
+
   brought_falls : (t : ℕ) (a b : Engine N) → BringsUp view t a b → good_in (ram b) ≤ good_in (ram a)
   brought_falls t a b its =
-      let room = its.cleared.room.collects in
-      let less = good_collects true room.0 (ram a) (ram its.mid) room.1 in
+      let less = cleared_falls a its.mid its.cleared in
       let put : good_in (ram its.mid) ≡ good_in (ram b) + its.back.put.failures = its.back.put.put.good in
       omega (arith, less, put)
 
@@ -117,7 +123,7 @@ module _ {N : Type 0} (view : View N) where
   }
     where
       rests : ram its.mid ≡ ram mid
-      rests = its.cleared.room.rests nine
+      rests = cleared_rests view mid its.mid nine its.cleared
 
       cleans : now.mapping ≡ cleaned mid.mapping k
       cleans = its.back.mapping ∙ ap (λ (r : Ram). cleaned r.mapping k) rests

@@ -1,6 +1,6 @@
 -- Which block is collected, and what is done before it is erased.
-use Rattle.std.specs.Prelude.{◌≡◌, ◌≢◌, ℕ, ◌<◌, ◌≤◌, Bool, true, false, Some, None}
-use Rattle.page_layout.specs.Geometry.{translation_pages, vmax}
+use Rattle.std.specs.Prelude.{◌≡◌, ◌≢◌, ℕ, ◌<◌, ◌≤◌, Bool, true, false, length, Some, None}
+use Rattle.page_layout.specs.Geometry.{vmax_at}
 use Rattle.page_layout.specs.Page.{Image}
 use Rattle.bad_blocks.specs.Table.{is_good_at}
 use Rattle.allocation.specs.State.{State, live_at, is_closed, free_count}
@@ -8,34 +8,35 @@ use Rattle.collection.specs.declared.engine.Pinned.{Pinned}
 use Rattle.collection.specs.declared.engine.collect_in_turns.Step.{Step}
 use Rattle.collection.specs.declared.engine.collect_in_turns.Step.TheVariants.{Erased}
 use Rattle.collection.specs.State.{Ram}
-use Rattle.collection.specs.Collect.{has_moved, is_due, HasWritten, HasCollected, HasRoom, IsAiling}
+use Rattle.collection.specs.Collect.{has_moved, is_over, is_due, waiting, HasWritten, HasCollected, HasRoom, IsAiling}
 use Rattle.collection.specs.Room.{IsNextFor}
 use Rattle.collection.specs.Left.{StepsOn, left_in}
 
--- THE BLOCK THAT IS COLLECTED FOR A CALL, where none is pinned: fewer than nine are free, and it is a closed one, with newest pages so few that it
+-- THE BLOCK THAT IS COLLECTED NEXT, where none is pinned: fewer are free than are wanted, and it is a closed one, with newest pages so few that it
 -- pays, and no other closed one has fewer
 abbrev pub VictimLaw : Type 0
-VictimLaw = (r : Ram) (block other : ℕ) → IsNextFor r block → r.pin.block ≡ None
-    → (free_count r.blocks < 9) × (is_closed r.blocks block ≡ true) × (live_at r.blocks block ≤ vmax r.geometry)
+VictimLaw = (many : ℕ) (r : Ram) (block other : ℕ) → IsNextFor many r block → r.pin.block ≡ None
+    → (free_count r.blocks < many) × (is_closed r.blocks block ≡ true) × (live_at r.blocks block ≤ vmax_at r.geometry r.mapping.share)
     × (other < r.blocks.geometry.blocks → is_closed r.blocks other ≡ true → live_at r.blocks block ≤ live_at r.blocks other)
 
 -- THE PINNED BLOCK COMES FIRST
 abbrev pub PinnedFirstLaw : Type 0
-PinnedFirstLaw = (r : Ram) (pinned : Pinned) (block : ℕ) → IsNextFor r block → r.pin.block ≡ Some pinned → (free_count r.blocks < 9) × (pinned.block ≡ block)
+PinnedFirstLaw = (many : ℕ) (r : Ram) (pinned : Pinned) (block : ℕ) → IsNextFor many r block → r.pin.block ≡ Some pinned → (free_count r.blocks < many) × (pinned.block ≡ block)
 
--- NO SECTOR IS MOVED once the block is erased
+-- NO MORE SECTORS ARE MOVED THAN MAY WAIT once the block is erased, and where none may, none is
 abbrev pub NoneWaitsLaw : Type 0
-NoneWaitsLaw = (flushing : Bool) (block t : ℕ) (old new : Ram) → HasCollected flushing block old new → t < translation_pages new.geometry → has_moved new.mapping t ≡ false
+NoneWaitsLaw = (flushing : Bool) (block t : ℕ) (old new : Ram) → HasCollected flushing block old new
+    → (length new.mapping.moved ≤ waiting new) × (new.mapping.share ≡ 0 → has_moved new.mapping t ≡ false)
 
--- A TRANSLATION PAGE IS WRITTEN that has to be, and before it all lower ones; unless flushing, a sector of it was moved
+-- A TRANSLATION PAGE IS WRITTEN that has to be, and before it all lower ones; unless flushing, more of its sectors than the share were moved
 abbrev pub LowestPageLaw : Type 0
 LowestPageLaw = (flushing : Bool) (old new : Ram) (w : HasWritten flushing old new) (t : ℕ)
-    → (is_due flushing old w.page ≡ true) × (t < w.page → is_due flushing old t ≡ false) × (flushing ≡ false → has_moved old.mapping w.page ≡ true)
+    → (is_due flushing old w.page ≡ true) × (t < w.page → is_due flushing old t ≡ false) × (flushing ≡ false → is_over old.mapping w.page ≡ true)
 
--- ROOM IS FIVE FREE BLOCKS, and nine where a closed block pays
+-- ROOM IS FIVE FREE BLOCKS, and as many as are wanted where a closed block pays
 abbrev pub RoomLaw : Type 0
-RoomLaw = (r : Ram) (block : ℕ) → HasRoom r → (5 ≤ free_count r.blocks)
-    × (free_count r.blocks < 9 → block < r.geometry.blocks → is_closed r.blocks block ≡ true → vmax r.geometry < live_at r.blocks block)
+RoomLaw = (many : ℕ) (r : Ram) (block : ℕ) → HasRoom many r → (5 ≤ free_count r.blocks)
+    × (free_count r.blocks < many → block < r.geometry.blocks → is_closed r.blocks block ≡ true → vmax_at r.geometry r.mapping.share < live_at r.blocks block)
 
 -- A PAGE IS RESCUED from a bad block alone
 abbrev pub AilingLaw : Type 0

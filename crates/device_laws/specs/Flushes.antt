@@ -23,15 +23,15 @@ NoTableOldLaw = (first : First) (log : List Operation) (image : Image) (u : ℕ)
 
 -- ONE FAILURE LEAVES NO DEVICE READ-ONLY, in a flush that is done as in any other call, unless there is a shortage
 abbrev pub OneFailureLaw : Type 0
-OneFailureLaw = (command : Command) (g : Geometry) (bad : ℕ → Bool) (before call : List Operation) (ro : Bool) → failed_count g call ≤ 1
-    → IsLeftReadOnly command g bad before call ro (Ok tt) → IsShort g bad before call ro
+OneFailureLaw = (command : Command) (g : Geometry) (share : ℕ) (bad : ℕ → Bool) (before call : List Operation) (ro : Bool) → failed_count g call ≤ 1
+    → IsLeftReadOnly command g share bad before call ro (Ok tt) → IsShort g share bad before call ro
 
 -- READ-ONLY IS ANSWERED IN A SHORTAGE alone
 abbrev pub ShownShortLaw : Type 0
-ShownShortLaw = (g : Geometry) (bad : ℕ → Bool) (next : ℕ) (before call : List Operation) (ro : Bool) (image : Image) (good wanted failed : ℕ)
-    → IsShown g bad next before call ro image (ReadOnly good wanted failed) → IsShort g bad before call ro
+ShownShortLaw = (g : Geometry) (share : ℕ) (bad : ℕ → Bool) (next : ℕ) (before call : List Operation) (ro : Bool) (image : Image) (good wanted failed : ℕ)
+    → IsShown g share bad next before call ro image (ReadOnly good wanted failed) → IsShort g share bad before call ro
 
 -- AND TELLS THE FAILURES OF ITS OWN CALL, not those of the calls before it
 abbrev pub CallFailuresLaw : Type 0
-CallFailuresLaw = (g : Geometry) (bad : ℕ → Bool) (next : ℕ) (before call : List Operation) (ro : Bool) (image : Image) (good wanted failed : ℕ)
-    → IsShown g bad next before call ro image (ReadOnly good wanted failed) → failed ≡ failed_count g call
+CallFailuresLaw = (g : Geometry) (share : ℕ) (bad : ℕ → Bool) (next : ℕ) (before call : List Operation) (ro : Bool) (image : Image) (good wanted failed : ℕ)
+    → IsShown g share bad next before call ro image (ReadOnly good wanted failed) → failed ≡ failed_count g call

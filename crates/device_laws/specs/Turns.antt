@@ -1,6 +1,6 @@
 -- Which block a turn goes on with, and what it does first.
-use Rattle.std.specs.Prelude.{◌≡◌, ◌⊎◌, ◌<◌, ◌≤◌, true, Some, None}
-use Rattle.page_layout.specs.Geometry.{vmax}
+use Rattle.std.specs.Prelude.{◌≡◌, ◌⊎◌, ◌+◌, ◌<◌, ◌≤◌, true, Some, None}
+use Rattle.page_layout.specs.Geometry.{vmax_at, flush_blocks_at}
 use Rattle.allocation.specs.State.{live_at, is_closed, free_count}
 use Rattle.collection.specs.declared.engine.Pinned.{Pinned}
 use Rattle.collection.specs.State.{Ram}
@@ -11,10 +11,10 @@ use Rattle.ftl_device.specs.Turn.{HasGoneOn, TurnsOn}
 abbrev pub GoesOnLaw : Type 0
 GoesOnLaw = (old new : Ram) (pinned : Pinned) (on : HasGoneOn old new) → old.pin.block ≡ Some pinned → on.block ≡ pinned
 
--- IT BEGINS A COLLECTION with fewer than twelve blocks free alone, of a closed block that pays, from page 0
+-- IT BEGINS A COLLECTION with fewer than twelve blocks free beside those of a flush alone, of a closed block that pays, from page 0
 abbrev pub BeginsLaw : Type 0
 BeginsLaw = (old new : Ram) (on : HasGoneOn old new) → old.pin.block ≡ None
-    → (free_count old.blocks < 12) × (on.block.first ≡ 0) × (is_closed old.blocks on.block.block ≡ true) × (live_at old.blocks on.block.block ≤ vmax old.geometry)
+    → (free_count old.blocks < 12 + flush_blocks_at old.geometry old.mapping.share) × (on.block.first ≡ 0) × (is_closed old.blocks on.block.block ≡ true) × (live_at old.blocks on.block.block ≤ vmax_at old.geometry old.mapping.share)
 
 -- BAD BLOCKS COME FIRST: while one holds a newest page a turn rescues a page or does nothing
 abbrev pub RescueFirstLaw : Type 0

@@ -117,7 +117,7 @@ module _ {N : Type 0} (view : View N) where
       until_so (λ d. d) (RunsTo view first) (RunsFromBegun view first begun)
       (Tells view) (Tells view) (exchanges_in calls) new
       (λ before mid runs h.
-      let well = started_well view.flash first s.geometry begun.accepted.claim begun.accepted.stale begun.begun (begun.truth h) in
+      let well = started_well view.flash first s.geometry 0 begun.accepted.claim begun.accepted.stale begun.begun (begun.truth h) in
       let both = runs.1 h well in
-      (both.0, ran_accepted view s begun.accepted first mid before refl begun.begun (begun.its h) (begun.free h) (begun.accounts h) both.1))
+      (both.0, ran_accepted view s 0 begun.accepted first mid before refl begun.begun (begun.its h) (begun.free h) (begun.accounts h) both.1))
       (λ before mid x known runs bus fails. fails) told.until

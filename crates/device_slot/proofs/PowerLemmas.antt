@@ -37,7 +37,7 @@ use Rattle.device_slot.specs.Begun.{IsDeviceBegun}
 use Rattle.device_slot.specs.Power.{nand_of, entries_for, HasCertificate, HoldsSame, IsBrought, IsDieHandedBack, IsPastEachCache, IsTooStale, IsUnbrought, ArePagesUnmounted, IsUnsettled, IsUnsettledWith, StopsFlush, WantsCache, WantsMore}
 
 pub begun_so : {N : Type 0} (view : View N) (d : Device N) (nand : N) (a : Acceptance) → IsDevice view.flash d → d.engine.nand ≡ nand
-    → ram d.engine ≡ begun_ram (view.flash nand).geometry a.claim a.stale
+    → ram d.engine ≡ begun_ram (view.flash nand).geometry 0 a.claim a.stale
     → (view.honest nand ≡ true → IsAcceptedFor (view.flash nand) a → IsTrue None (ram d.engine) (image_in view.flash d.engine))
     → (view.honest nand ≡ true → IsAcceptedFor (view.flash nand) a → d.read_only ≡ is_scarce (free_in (view.flash nand).geometry a.claim (view.flash nand).image))
     → (view.honest nand ≡ true → IsAcceptedFor (view.flash nand) a → IsAccounted (accounts_of (view.flash nand).geometry (view.flash nand).image (is_bad_in a.claim)) (state d.engine.blocks))
@@ -47,8 +47,8 @@ begun_so {N} view d nand a device is begun truth free accounts its =
     let so : view.honest d.engine.nand ≡ true → IsTrue None (ram d.engine) (image_in view.flash d.engine) = λ h. truth (here h) (its (here h)) in
     record {
       accepted = a;
-      kept = record { device = device; well = λ h going. started_well view.flash d (view.flash nand).geometry a.claim a.stale begun (so h) };
-      begun = begun ∙ ap (λ (n : N). begun_ram (view.flash n).geometry a.claim a.stale) (sym is);
+      kept = record { device = device; well = λ h going. started_well view.flash d (view.flash nand).geometry 0 a.claim a.stale begun (so h) };
+      begun = begun ∙ ap (λ (n : N). begun_ram (view.flash n).geometry 0 a.claim a.stale) (sym is);
       its = λ h. subst (λ (n : N). IsAcceptedFor (view.flash n) a) (sym is) (its (here h));
       truth = so;
       free = λ h. free (here h) (its (here h)) ∙ ap (λ (n : N). is_scarce (free_in (view.flash n).geometry a.claim (view.flash n).image)) (sym is);

@@ -22,7 +22,7 @@ pub record IsDeviceKept {N : Type 0} (view : View N) (d : Device N) : Type 0 whe
 pub record IsDeviceBegun {N : Type 0} (view : View N) (d : Device N) : Type 0 where
   pub accepted : Acceptance
   pub kept : IsDeviceKept view d
-  pub begun : ram d.engine ≡ begun_ram (view.flash d.engine.nand).geometry accepted.claim accepted.stale
+  pub begun : ram d.engine ≡ begun_ram (view.flash d.engine.nand).geometry 0 accepted.claim accepted.stale
   pub its : view.honest d.engine.nand ≡ true → IsAcceptedFor (view.flash d.engine.nand) accepted
   pub truth : view.honest d.engine.nand ≡ true → IsTrue None (ram d.engine) (image_in view.flash d.engine)
   pub free : view.honest d.engine.nand ≡ true → d.read_only ≡ is_scarce (free_in (view.flash d.engine.nand).geometry accepted.claim (view.flash d.engine.nand).image)

@@ -25,7 +25,7 @@ CallsToldLaw {N} view = (old new : Device N) (calls : List Call) → IsDevice vi
 -- of an honest die, the device is well, and these are a run of the array that the image of this die holds
 abbrev pub RunsFromBegun : {N : Type 0} → (view : View N) → (first : Device N) → IsDeviceBegun view first → List Exchange → Device N → Type 0
 RunsFromBegun view first begun xs mid = view.honest first.engine.nand ≡ true
-    → IsWell view.flash mid × RanFrom view (view.flash first.engine.nand) begun.accepted.claim xs mid
+    → IsWell view.flash mid × RanFrom view (view.flash first.engine.nand) 0 begun.accepted.claim xs mid
 
 -- AND FROM A DEVICE THAT POWER BROUGHT they are the headline's run: those before the first fault of the bus
 abbrev pub CallsRunLaw : {N : Type 0} → (view : View N) → Type 0

@@ -11,6 +11,7 @@ use Rattle.promises.specs.Step.{Command, Flush, Turn}
 use Rattle.promises.specs.Stop.{LeftBy, MayLeave}
 use Rattle.promises.proofs.CutLemmas.{cut_looked}
 use Rattle.promises.proofs.StopLemmas.{stops_join}
+use Rattle.collection.specs.Stops.{room_of}
 use Rattle.collection.specs.Safe.{ram}
 use Rattle.file_die.specs.Die.{FileState}
 use Rattle.file_die.specs.Store.{AreImages, Held}
@@ -40,7 +41,7 @@ module _ {N : Type 0} (die : View N) where
       let its = parts die.honest old f.held in
       upkeeps.cut its.0 (f.disk.well f.held) its.1 refl
   ended old new command f (inr (inr (sector, is, ends, asked))) =
-      cut_looked (die.flash old.engine.nand) (die.recorded old.engine.nand) (die.recorded new.engine.nand) (SurvivesCut old.engine.geometry old.engine.mapping.capacity command (image_on die old)) ends (record {
+      cut_looked (die.flash old.engine.nand) (die.recorded old.engine.nand) (die.recorded new.engine.nand) (SurvivesCut old.engine.geometry (room_of (ram old.engine)) command (image_on die old)) ends (record {
         array = inl refl;
         mountable = λ few. restart_law (ram old.engine) (image_on die old) f.disk.device.engine.memory (f.disk.well f.held).truth few;
       })
@@ -61,13 +62,13 @@ module _ {N : Type 0} (die : View N) where
   )
 
   -- what it may leave, behind calls of a device
-  pub in_last : (old last new : Device N) (command : Command) (found : Image) → last.engine.geometry ≡ old.engine.geometry → last.engine.mapping.capacity ≡ old.engine.mapping.capacity → Faults die command last new
+  pub in_last : (old last new : Device N) (command : Command) (found : Image) → last.engine.geometry ≡ old.engine.geometry → room_of (ram last.engine) ≡ room_of (ram old.engine) → Faults die command last new
       → (cut : IsCut die command last new) → MayLeave old.engine.geometry (image_on die last) (cut.log ++ cut.at_hand) found → CutInLast die old last command (cut.log ++ cut.at_hand) found
   in_last old last new command found sized room f cut m =
       let here : (die.flash last.engine.nand).geometry ≡ old.engine.geometry = f.disk.device.engine.geometry ∙ sized in
       record {
         cut = m;
-        survives = subst (λ g. SurvivesCut g old.engine.mapping.capacity command (image_on die last) found) sized
+        survives = subst (λ g. SurvivesCut g (room_of (ram old.engine)) command (image_on die last) found) sized
             (subst (λ c. SurvivesCut last.engine.geometry c command (image_on die last) found) room
             (cut.left found (subst (λ g. MayLeave g (image_on die last) (cut.log ++ cut.at_hand) found) (sym here) m)));
       }

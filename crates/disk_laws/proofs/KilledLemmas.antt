@@ -9,6 +9,7 @@ use Rattle.page_layout.proofs.FlashLemmas.{geometry-Leads}
 use Rattle.promises.specs.Step.{Command, Flush, Turn}
 use Rattle.promises.specs.Stop.{MayLeave}
 use Rattle.promises.proofs.StopLemmas.{between, torn_in_one_law}
+use Rattle.collection.specs.Stops.{room_of}
 use Rattle.collection.specs.Safe.{ram}
 use Rattle.collection.proofs.Stops.{one_gain}
 use Rattle.file_die.specs.Store.{Held}
@@ -27,7 +28,7 @@ use Rattle.disk_server.proofs.Holding.{parts, held}
 module _ {N : Type 0} (view : View N) (old new : Device N) (found : Image) (call : HoldsThrough view old new) (at : AreFoundIn view old new found) where
   -- what the call may leave by its own log is what it may leave by its record
   survives : (command : Command) (answer : Result (Unit {0}) DeviceFault) → Logs view command old answer new
-      → Survives old.engine.geometry old.engine.mapping.capacity command answer (view.flash old.engine.nand).image (view.flash new.engine.nand).image found
+      → Survives old.engine.geometry (room_of (ram old.engine)) command answer (view.flash old.engine.nand).image (view.flash new.engine.nand).image found
   survives command answer logs =
       let one : at.log ≡ logs.went.log = one_gain (view.recorded old.engine.nand) (view.recorded new.engine.nand) at.log logs.went.log at.told at.records logs.went.records in
       logs.stopped (call.was.well call.held) at.told found (subst (λ l. MayLeave old.engine.geometry (view.flash old.engine.nand).image l found) one at.left)

@@ -11,6 +11,7 @@ use Rattle.file_die.specs.Store.{Held, AreImages}
 use Rattle.crash_recovery.specs.Torn.{IsDeadRow}
 use Rattle.crash_recovery.specs.Taken.{RecoversSome, lasting}
 use Rattle.crash_recovery.proofs.TakenLemmas.{dead_spare}
+use Rattle.collection.specs.Stops.{room_of}
 use Rattle.collection.specs.Safe.{ram}
 use Rattle.ftl_device.specs.declared.device.Device.{Device}
 use Rattle.disk_server.specs.Disk.{IsDisk, holds}
@@ -34,12 +35,12 @@ found_for die old log new run found left stands one f = record {
   sectors = λ n within. subst (HasOnTheWay die old log new run n) (sym (same_sector old.engine.geometry left found n within stands.array)) (f.sectors n within);
 }
 
-module _ {N : Type 0} (die : View N) (old : Device N) (few : old.engine.mapping.capacity + old.engine.geometry.pages ≤ 65536) (is : IsDisk die old) (held : holds die.honest old ≡ true) where
+module _ {N : Type 0} (die : View N) (old : Device N) (few : room_of (ram old.engine) ≤ 65536) (is : IsDisk die old) (held : holds die.honest old ≡ true) where
   abbrev g : Geometry
   g = old.engine.geometry
 
   abbrev most : ℕ
-  most = old.engine.mapping.capacity + old.engine.geometry.pages
+  most = room_of (ram old.engine)
 
   -- where no call was made since, too
   found_after : (log : List Operation) (new : Device N) (run : DeviceCalls die old log new) (found : Image) → MayLose g (image_on die old) log found → IsFoundAfterLoss die old log new run found

@@ -21,6 +21,9 @@ use Rattle.promises.specs.Legal.{Account, account_at, no_account, LegalFrom}
 use Rattle.promises.proofs.LegalLemmas.{in_range}
 use Rattle.promises.proofs.StopLemmas.{between, image_law, no_operation, stops_join}
 use Rattle.image_check.specs.Mountable.{IsMountable}
+use Rattle.mapping_cache.specs.Mapping.{HasLimitsOf}
+use Rattle.collection.specs.State.{Ram}
+use Rattle.collection.specs.Stops.{room_of}
 use Rattle.collection.specs.Log.{IsAccounted, NumbersFrom}
 use Rattle.collection.specs.Safe.{ram}
 use Rattle.collection.specs.Truth.{IsTrue}
@@ -114,10 +117,14 @@ module _ {N : Type 0} (flash : N → Flash) (d : Device N) where
 
 -- ---- one call
 
--- WHAT ONE CALL COMES TO, by the state of its die before it, of a device with this geometry and so many entries
-pub record Called {N : Type 0} (g : Geometry) (capacity : ℕ) (die : View N) (before : Flash) (log : List Operation) (new : Device N) : Type 0 where
+-- a device of the same sizes leaves as many stale entries
+room_kept : (old new : Ram) → new.geometry ≡ old.geometry → HasLimitsOf old.mapping new.mapping → room_of new ≡ room_of old
+room_kept old new sized limits = rw (limits.capacity, limits.share, sized) refl
+
+-- WHAT ONE CALL COMES TO, by the state of its die before it, of a device with this geometry that leaves so many stale entries
+pub record Called {N : Type 0} (g : Geometry) (most : ℕ) (die : View N) (before : Flash) (log : List Operation) (new : Device N) : Type 0 where
   pub sized : new.engine.geometry ≡ g
-  pub room : new.engine.mapping.capacity ≡ capacity
+  pub room : room_of (ram new.engine) ≡ most
   pub die_sized : before.geometry ≡ g
   pub whole : IsImage g before.image
   pub accounts : List Account
@@ -128,7 +135,7 @@ pub record Called {N : Type 0} (g : Geometry) (capacity : ℕ) (die : View N) (b
   pub legal : LegalFrom g.pages accounts log
   pub numbers : NumbersFrom next log
   pub dead : ErasesDead g.pages before.image log
-  pub survives : (left : Image) → MayLeave g before.image log left → (capacity + g.pages ≤ 65536 → IsMountable g (capacity + g.pages) left)
+  pub survives : (left : Image) → MayLeave g before.image log left → (most ≤ 65536 → IsMountable g most left)
       × ((array_of g left ≡ array_of g before.image) ⊎ (array_of g left ≡ array_of g (image_on die new)))
 
 module _ {N : Type 0} (die : View N) (old : Device N) (log : List Operation) (new : Device N) (does : Does die old log new) where
@@ -144,15 +151,16 @@ module _ {N : Type 0} (die : View N) (old : Device N) (log : List Operation) (ne
   starts : Begun old.engine.geometry.pages (ram old.engine).next (image_on die old) (ram old.engine).blocks
   starts = begun die.flash old truth does.through.was.device.engine.memory.blocks_of
 
-  logged : (command : Command) (answer : Result (Unit {0}) DeviceFault) → new.engine.mapping.capacity ≡ old.engine.mapping.capacity → Logs die command old answer new
-      → Called old.engine.geometry old.engine.mapping.capacity die (die.flash old.engine.nand) log new
-  logged command answer room logs =
+  logged : (command : Command) (answer : Result (Unit {0}) DeviceFault) → HasLimitsOf old.engine.mapping new.engine.mapping → Logs die command old answer new
+      → Called old.engine.geometry (room_of (ram old.engine)) die (die.flash old.engine.nand) log new
+  logged command answer limits logs =
       let one : logs.went.log ≡ log = sym (one_gain (die.recorded old.engine.nand) (die.recorded new.engine.nand) log logs.went.log does.told does.records logs.went.records) in
       let was = does.through.was.well does.through.held in
       let begins = starts in
-      subst (λ l. Called old.engine.geometry old.engine.mapping.capacity die (die.flash old.engine.nand) l new) one (record {
-        sized = sym does.through.is.device.engine.geometry ∙ (geometry-Leads (die.flash old.engine.nand) (die.flash new.engine.nand) logs.went.log logs.went.leads ∙ does.through.was.device.engine.geometry);
-        room = room;
+      let sized : new.engine.geometry ≡ old.engine.geometry = sym does.through.is.device.engine.geometry ∙ (geometry-Leads (die.flash old.engine.nand) (die.flash new.engine.nand) logs.went.log logs.went.leads ∙ does.through.was.device.engine.geometry) in
+      subst (λ l. Called old.engine.geometry (room_of (ram old.engine)) die (die.flash old.engine.nand) l new) one (record {
+        sized = sized;
+        room = room_kept (ram old.engine) (ram new.engine) sized limits;
         die_sized = does.through.was.device.engine.geometry;
         whole = truth.whole;
         accounts = begins.accounts;
@@ -167,11 +175,11 @@ module _ {N : Type 0} (die : View N) (old : Device N) (log : List Operation) (ne
       })
 
   changed : (n : ℕ) (command : Command) (result : Result (Unit {0}) DiskFault) → AsksChange die n command old result new
-      → Called old.engine.geometry old.engine.mapping.capacity die (die.flash old.engine.nand) log new
-  changed n command result asks = logged command asks.answer asks.changes.stays.limits.capacity (asks.changes.logs its_die (went_on asks.answer asks.changes.refuses))
+      → Called old.engine.geometry (room_of (ram old.engine)) die (die.flash old.engine.nand) log new
+  changed n command result asks = logged command asks.answer asks.changes.stays.limits (asks.changes.logs its_die (went_on asks.answer asks.changes.refuses))
 
   read : AsksRead die old new
-      → Called old.engine.geometry old.engine.mapping.capacity die (die.flash old.engine.nand) log new
+      → Called old.engine.geometry (room_of (ram old.engine)) die (die.flash old.engine.nand) log new
   read asks =
       let leaves = asks.leaves does.through.held does.through.holds_on in
       let same : die.flash new.engine.nand ≡ die.flash old.engine.nand = leaves.die_same in
@@ -180,9 +188,10 @@ module _ {N : Type 0} (die : View N) (old : Device N) (log : List Operation) (ne
       one_gain (die.recorded old.engine.nand) (die.recorded new.engine.nand) log [] does.told does.records
       (subst (λ x. Records (die.recorded old.engine.nand) [] x) (sym leaves.told_same) (records_none (die.recorded old.engine.nand))) in
       let begins = starts in
-      subst (λ l. Called old.engine.geometry old.engine.mapping.capacity die (die.flash old.engine.nand) l new) (sym nothing) (record {
-        sized = sym does.through.is.device.engine.geometry ∙ (ap (λ (s : Flash). s.geometry) same ∙ does.through.was.device.engine.geometry);
-        room = asks.limits.capacity;
+      let sized : new.engine.geometry ≡ old.engine.geometry = sym does.through.is.device.engine.geometry ∙ (ap (λ (s : Flash). s.geometry) same ∙ does.through.was.device.engine.geometry) in
+      subst (λ l. Called old.engine.geometry (room_of (ram old.engine)) die (die.flash old.engine.nand) l new) (sym nothing) (record {
+        sized = sized;
+        room = room_kept (ram old.engine) (ram new.engine) sized asks.limits;
         die_sized = does.through.was.device.engine.geometry;
         whole = truth.whole;
         accounts = begins.accounts;
@@ -195,7 +204,7 @@ module _ {N : Type 0} (die : View N) (old : Device N) (log : List Operation) (ne
         dead = tt;
         survives = λ left m.
             let here : left ≡ image_on die old = no_operation old.engine.geometry (image_on die old) left m in (
-              λ few. subst (IsMountable old.engine.geometry (old.engine.mapping.capacity + old.engine.geometry.pages)) (image_same ∙ sym here) (leaves.mountable few),
+              λ few. subst (IsMountable old.engine.geometry (room_of (ram old.engine))) (image_same ∙ sym here) (leaves.mountable few),
               inl (ap (array_of old.engine.geometry) here),
             );
       })
@@ -203,7 +212,7 @@ module _ {N : Type 0} (die : View N) (old : Device N) (log : List Operation) (ne
 -- a sector that is cleared: a read, which leaves the die as it was, and then a trim, where that did not give zeros
 module _ {N : Type 0} (die : View N) (old : Device N) (log : List Operation) (new : Device N) (does : Does die old log new) where
   trimmed : (mid : Device N) (n : ℕ) (result : Result (Unit {0}) DiskFault) → AsksRead die old mid
-      → AsksChange die n (Trim n) mid result new → Called old.engine.geometry old.engine.mapping.capacity die (die.flash old.engine.nand) log new
+      → AsksChange die n (Trim n) mid result new → Called old.engine.geometry (room_of (ram old.engine)) die (die.flash old.engine.nand) log new
   unfolding AsksCall ChangesOne
   trimmed mid n result reads trims =
       let held : holds die.honest mid ≡ true =
@@ -217,44 +226,44 @@ module _ {N : Type 0} (die : View N) (old : Device N) (log : List Operation) (ne
         told = does.told;
         records = subst (λ r. Records r log (die.recorded new.engine.nand)) (sym leaves.told_same) does.records;
       } in
-      subst (λ (s : Flash). Called old.engine.geometry old.engine.mapping.capacity die s log new) leaves.die_same
-      (subst (λ g. Called g old.engine.mapping.capacity die (die.flash mid.engine.nand) log new) sized
-      (subst (λ c. Called mid.engine.geometry c die (die.flash mid.engine.nand) log new) reads.limits.capacity (changed die mid log new second n (Trim n) result trims)))
+      subst (λ (s : Flash). Called old.engine.geometry (room_of (ram old.engine)) die s log new) leaves.die_same
+      (subst (λ g. Called g (room_of (ram old.engine)) die (die.flash mid.engine.nand) log new) sized
+      (subst (λ c. Called mid.engine.geometry c die (die.flash mid.engine.nand) log new) (room_kept (ram old.engine) (ram mid.engine) sized reads.limits) (changed die mid log new second n (Trim n) result trims)))
 
   cleared : (n : ℕ) (result : Result (Unit {0}) DiskFault) → AsksClear die n old result new
-      → Called old.engine.geometry old.engine.mapping.capacity die (die.flash old.engine.nand) log new
+      → Called old.engine.geometry (room_of (ram old.engine)) die (die.flash old.engine.nand) log new
   cleared n result asks = elim asks.trims [
     | inl zeros ↦ read die old log new does (subst (λ d. AsksRead die old d) (sym zeros.3) asks.asks)
     | inr trims ↦ trimmed asks.mid n result asks.asks trims.1
   ]
 
-  called_by : IsDiskCall die old new → Called old.engine.geometry old.engine.mapping.capacity die (die.flash old.engine.nand) log new
+  called_by : IsDiskCall die old new → Called old.engine.geometry (room_of (ram old.engine)) die (die.flash old.engine.nand) log new
   unfolding AsksCall ChangesOne
   called_by (inl (inl asks)) = read die old log new does asks
   called_by (inl (inr (inl (n, result, inl (command, asks))))) = changed die old log new does n command result asks
   called_by (inl (inr (inl (n, result, inr asks)))) = cleared n result asks
   called_by (inl (inr (inr (result, asks)))) =
-      logged die old log new does _ asks.answer asks.upkeeps.stays.limits.capacity (asks.upkeeps.logs (its_die die old log new does) (went_on die old log new does asks.answer asks.upkeeps.refuses))
+      logged die old log new does _ asks.answer asks.upkeeps.stays.limits (asks.upkeeps.logs (its_die die old log new does) (went_on die old log new does asks.answer asks.upkeeps.refuses))
   called_by (inr (result, asks)) =
-      logged die old log new does _ asks.answer asks.upkeeps.stays.limits.capacity (asks.upkeeps.logs (its_die die old log new does) (went_on die old log new does asks.answer asks.upkeeps.refuses))
+      logged die old log new does _ asks.answer asks.upkeeps.stays.limits (asks.upkeeps.logs (its_die die old log new does) (went_on die old log new does asks.answer asks.upkeeps.refuses))
 
-  called : (g : Geometry) (capacity : ℕ) → old.engine.geometry ≡ g → old.engine.mapping.capacity ≡ capacity → Called g capacity die (die.flash old.engine.nand) log new
-  called g capacity sized room =
-      subst (λ h. Called h capacity die (die.flash old.engine.nand) log new) sized (subst (λ c. Called old.engine.geometry c die (die.flash old.engine.nand) log new) room (called_by does.asks))
+  called : (g : Geometry) (most : ℕ) → old.engine.geometry ≡ g → room_of (ram old.engine) ≡ most → Called g most die (die.flash old.engine.nand) log new
+  called g most sized room =
+      subst (λ h. Called h most die (die.flash old.engine.nand) log new) sized (subst (λ c. Called old.engine.geometry c die (die.flash old.engine.nand) log new) room (called_by does.asks))
 
 -- ---- calls one after another
 
 module _ {N : Type 0} (die : View N) (old : Device N) where
-  pub run_sized : (log : List Operation) (new : Device N) → DeviceCalls die old log new → (new.engine.geometry ≡ old.engine.geometry) × (new.engine.mapping.capacity ≡ old.engine.mapping.capacity)
+  pub run_sized : (log : List Operation) (new : Device N) → DeviceCalls die old log new → (new.engine.geometry ≡ old.engine.geometry) × (room_of (ram new.engine) ≡ room_of (ram old.engine))
   run_sized log new NoCall = (refl, refl)
   run_sized log new (OneMore before mid more last run does) =
       let at = run_sized before mid run in
-      let its = called die mid more last does old.engine.geometry old.engine.mapping.capacity at.0 at.1 in
+      let its = called die mid more last does old.engine.geometry (room_of (ram old.engine)) at.0 at.1 in
       (its.sized, its.room)
 
   pub called_on : (before : List Operation) (mid : Device N) (log : List Operation) (new : Device N) → DeviceCalls die old before mid → Does die mid log new
-      → Called old.engine.geometry old.engine.mapping.capacity die (die.flash mid.engine.nand) log new
-  called_on before mid log new run does = (let at = run_sized before mid run in called die mid log new does old.engine.geometry old.engine.mapping.capacity at.0 at.1)
+      → Called old.engine.geometry (room_of (ram old.engine)) die (die.flash mid.engine.nand) log new
+  called_on before mid log new run does = (let at = run_sized before mid run in called die mid log new does old.engine.geometry (room_of (ram old.engine)) at.0 at.1)
 
   pub run_image : (log : List Operation) (new : Device N) → DeviceCalls die old log new → image_after_all old.engine.geometry.pages (image_on die old) log ≡ image_on die new
   run_image log new NoCall = refl
@@ -303,7 +312,7 @@ module _ {N : Type 0} (die : View N) (old : Device N) where
   way_end log new n (OneMore before mid more last run does) = inr refl
 
   module _ (before : List Operation) (mid : Device N) (log : List Operation) (new : Device N) (run : DeviceCalls die old before mid) (does : Does die mid log new) where
-    abbrev pub its : Called old.engine.geometry old.engine.mapping.capacity die (die.flash mid.engine.nand) log new
+    abbrev pub its : Called old.engine.geometry (room_of (ram old.engine)) die (die.flash mid.engine.nand) log new
     its = called_on before mid log new run does
 
     abbrev pub OnTheWay : ℕ → List ℕ → Type 0
@@ -320,9 +329,9 @@ module _ {N : Type 0} (die : View N) (old : Device N) where
       pages = λ n row within page. inl (w.pages n row within page);
     }
 
-    module _ (few : old.engine.mapping.capacity + old.engine.geometry.pages ≤ 65536) where
+    module _ (few : room_of (ram old.engine) ≤ 65536) where
       -- each image that a stop inside the call may leave stands
-      stands_in : (left : Image) → MayLeave old.engine.geometry (image_on die mid) log left → Stands old.engine.geometry (old.engine.mapping.capacity + old.engine.geometry.pages) OnTheWay left
+      stands_in : (left : Image) → MayLeave old.engine.geometry (image_on die mid) log left → Stands old.engine.geometry (room_of (ram old.engine)) OnTheWay left
       stands_in left m =
           let s = its.survives left m in
           record {
@@ -333,14 +342,14 @@ module _ {N : Type 0} (die : View N) (old : Device N) where
             ];
           }
 
-      pub stands_before : Stands old.engine.geometry (old.engine.mapping.capacity + old.engine.geometry.pages) Before (image_on die mid)
+      pub stands_before : Stands old.engine.geometry (room_of (ram old.engine)) Before (image_on die mid)
       stands_before = record {
         mounts = (its.survives (image_on die mid) (record { whole = its.whole; by = between old.engine.geometry.pages (image_on die mid) [] log })).0 few;
         sectors = λ n within. way_end before mid n run;
       }
 
       pub goes : (stored : Image) → GrewSince old.engine.geometry Before stored (image_on die mid)
-          → Goes old.engine.geometry (old.engine.mapping.capacity + old.engine.geometry.pages) OnTheWay (die.flash mid.engine.nand) its.accounts its.next log stored
+          → Goes old.engine.geometry (room_of (ram old.engine)) OnTheWay (die.flash mid.engine.nand) its.accounts its.next log stored
       goes stored since = record {
         sized = its.die_sized;
         fits = its.fits;
@@ -358,15 +367,15 @@ module _ {N : Type 0} (die : View N) (old : Device N) where
   abbrev pub lasting : List Operation → Image
   lasting before = lasts_after old.engine.geometry.pages (image_on die old) (image_on die old) before
 
-  module _ (few : old.engine.mapping.capacity + old.engine.geometry.pages ≤ 65536) where
-    grew_run : (log : List Operation) (new : Device N) (run : DeviceCalls die old log new) → Stands old.engine.geometry (old.engine.mapping.capacity + old.engine.geometry.pages) (HasOnTheWay die old log new run) (image_on die new)
+  module _ (few : room_of (ram old.engine) ≤ 65536) where
+    grew_run : (log : List Operation) (new : Device N) (run : DeviceCalls die old log new) → Stands old.engine.geometry (room_of (ram old.engine)) (HasOnTheWay die old log new run) (image_on die new)
         → GrewSince old.engine.geometry (HasOnTheWay die old log new run) (lasting log) (image_on die new)
-    grew_run log new NoCall stands = since_begin old.engine.geometry (old.engine.mapping.capacity + old.engine.geometry.pages) (HasOnTheWay die old [] old NoCall) (image_on die old) stands
+    grew_run log new NoCall stands = since_begin old.engine.geometry (room_of (ram old.engine)) (HasOnTheWay die old [] old NoCall) (image_on die old) stands
     grew_run log new (OneMore before mid more last run does) stands =
         let pages : ℕ = old.engine.geometry.pages in
         let c = called_on before mid more last run does in
         let so_far = grew_run before mid run (stands_before before mid more last run does few) in
-        let now = grew old.engine.geometry (old.engine.mapping.capacity + pages) (OnTheWay before mid more last run does) more (die.flash mid.engine.nand) (die.flash last.engine.nand) c.accounts
+        let now = grew old.engine.geometry (room_of (ram old.engine)) (OnTheWay before mid more last run does) more (die.flash mid.engine.nand) (die.flash last.engine.nand) c.accounts
         c.next (lasting before) (goes before mid more last run does few (lasting before) so_far) c.leads c.legal c.numbers in
         subst (λ i. GrewSince old.engine.geometry (OnTheWay before mid more last run does) i (image_on die last))
         (ap (λ i. lasts_after pages (lasting before) i more) (sym (run_image before mid run)) ∙ sym (lasts_join pages (image_on die old) (image_on die old) before more)) now
@@ -377,7 +386,7 @@ module _ {N : Type 0} (die : View N) (old : Device N) where
     lost_in before mid log new found run does whole by =
         let c = called_on before mid log new run does in
         let so_far = grew_run before mid run (stands_before before mid log new run does few) in
-        let f = lost old.engine.geometry (old.engine.mapping.capacity + old.engine.geometry.pages) (OnTheWay before mid log new run does) log (die.flash mid.engine.nand) (die.flash new.engine.nand) c.accounts
+        let f = lost old.engine.geometry (room_of (ram old.engine)) (OnTheWay before mid log new run does) log (die.flash mid.engine.nand) (die.flash new.engine.nand) c.accounts
         c.next (lasting before) found (goes before mid log new run does few (lasting before) so_far) c.leads c.legal c.numbers whole by in
         record { one = f.one; mounts = f.mounts; sectors = f.sectors }
 

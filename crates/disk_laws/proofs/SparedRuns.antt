@@ -15,6 +15,8 @@ use Rattle.promises.specs.Legal.{Account, accounted, IsDueProgram, LegalFrom}
 use Rattle.promises.specs.Stop.{ErasesDead, LeftBy, MayLeave}
 use Rattle.promises.proofs.StopLemmas.{between, image_law, torn_in_one_law}
 use Rattle.image_check.specs.Torn.{StandsFor}
+use Rattle.collection.specs.Safe.{ram}
+use Rattle.collection.specs.Stops.{room_of}
 use Rattle.collection.specs.Log.{NumbersFrom}
 use Rattle.ftl_device.specs.declared.device.Device.{Device}
 use Rattle.disk_server.specs.Flat.{flat}
@@ -92,7 +94,7 @@ module _ (g : Geometry) (mark : ℕ) where
 
 -- ---- calls one after another
 
-module _ {N : Type 0} (die : View N) (old : Device N) (mark : ℕ) (few : old.engine.mapping.capacity + old.engine.geometry.pages ≤ 65536) where
+module _ {N : Type 0} (die : View N) (old : Device N) (mark : ℕ) (few : room_of (ram old.engine) ≤ 65536) where
   abbrev g : Geometry
   g = old.engine.geometry
 
@@ -106,7 +108,7 @@ module _ {N : Type 0} (die : View N) (old : Device N) (mark : ℕ) (few : old.en
         fits = c.fits;
         filled = c.filled;
         whole = c.whole;
-        ones = λ left may. one_of g (old.engine.mapping.capacity + g.pages) left ((c.survives left may).0 few);
+        ones = λ left may. one_of g (room_of (ram old.engine)) left ((c.survives left may).0 few);
         dead = c.dead;
         spare = cuts;
       })
@@ -136,7 +138,7 @@ module _ {N : Type 0} (die : View N) (old : Device N) (mark : ℕ) (few : old.en
   cut_one : (log : List Operation) (new : Device N) (found : Image) (run : DeviceCalls die old log new) → IsCutIn die old log new run found → HasOneArray g found
   cut_one log new found NoCall c = absurd c
   cut_one log new found (OneMore before mid more last run does) (inl c) = cut_one before mid found run c
-  cut_one log new found (OneMore before mid more last run does) (inr c) = one_of g (old.engine.mapping.capacity + g.pages) found (c.mounts few)
+  cut_one log new found (OneMore before mid more last run does) (inr c) = one_of g (room_of (ram old.engine)) found (c.mounts few)
 
   pub spare_found : (log : List Operation) (new : Device N) (found : Image) (run : DeviceCalls die old log new) → CutsSpare g (image_on die old) mark → MayLeave g (image_on die old) log found → CutsSpare g found mark
   spare_found log new found run cuts m = elim (killed_run die old new log found run m) [
@@ -157,7 +159,7 @@ whole_after die old log new NoCall found pages stands c = c
 whole_after die old log new (OneMore before mid more last run does) found pages stands (inl c) = inl (whole_after die old before mid run found pages stands c)
 whole_after die old log new (OneMore before mid more last run does) found pages stands (inr c) = inr (record {
   whole = elim c.whole [ inl was ↦ inl (ap flat stands.array ∙ was) | inr now ↦ inr (ap flat stands.array ∙ now) ];
-  mounts = λ few. stands.mountable (old.engine.mapping.capacity + old.engine.geometry.pages) (c.mounts few);
+  mounts = λ few. stands.mountable (room_of (ram old.engine)) (c.mounts few);
 })
 
 pub killed_spares : {N : Type 0} (die : View N) → KilledSparesLaw die

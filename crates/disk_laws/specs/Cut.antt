@@ -11,6 +11,8 @@ use Rattle.promises.specs.Stop.{MayLeave}
 use Rattle.file_die.specs.Die.{FileState}
 use Rattle.file_die.specs.Store.{Held}
 use Rattle.nbd_stream.specs.declared.fault.DiskFault.{DiskFault}
+use Rattle.collection.specs.Safe.{ram}
+use Rattle.collection.specs.Stops.{room_of}
 use Rattle.ftl_device.specs.declared.device.Device.{Device}
 use Rattle.ftl_device.specs.declared.fault.DeviceFault.TheVariants.{BusFault}
 use Rattle.ftl_device.specs.Changes.{Changes, IsCut, Upkeeps}
@@ -37,7 +39,7 @@ pub record Faults {N : Type 0} (die : View N) (command : Command) (old new : Dev
 -- would have left
 pub record CutInLast {N : Type 0} (die : View N) (old last : Device N) (command : Command) (log : List Operation) (found : Image) : Type 0 where
   pub cut : MayLeave old.engine.geometry (image_on die last) log found
-  pub survives : SurvivesCut old.engine.geometry old.engine.mapping.capacity command (image_on die last) found
+  pub survives : SurvivesCut old.engine.geometry (room_of (ram old.engine)) command (image_on die last) found
 
 -- ONE CALL OF A DRIVER THAT THE FILE REFUSED, by what is at hand; or none, where nothing is
 abbrev pub RefusesHand : {S : Type 0} → (S → Held) → (honest : S → Bool) → (failed : S → ℕ) → (old : DriverState (FileState S)) → List Operation → (new : DriverState (FileState S)) → Type 0

@@ -12,6 +12,8 @@ use Rattle.onfi_cycles.specs.Driver.{DriverState}
 use Rattle.file_die.specs.Die.{FileState}
 use Rattle.file_die.specs.Store.{Held}
 use Rattle.nbd_stream.specs.declared.fault.DiskFault.{DiskFault}
+use Rattle.collection.specs.Safe.{ram}
+use Rattle.collection.specs.Stops.{room_of}
 use Rattle.ftl_device.specs.declared.device.Device.{Device}
 use Rattle.disk_server.specs.Flat.{flat}
 use Rattle.disk_server.specs.Disk.{AsksChange, AsksFlush, AsksTurn, IsDisk, contents_of, holds}
@@ -26,7 +28,7 @@ pub record AreFoundIn {N : Type 0} (view : View N) (old new : Device N) (found :
 
 -- they mount, with as many entries as the device's cache has and a block has pages, where that is as many as a cache may have
 abbrev pub MountsFor : {N : Type 0} → Device N → Image → Type 0
-MountsFor d found = d.engine.mapping.capacity + d.engine.geometry.pages ≤ 65536 → IsMountable d.engine.geometry (d.engine.mapping.capacity + d.engine.geometry.pages) found
+MountsFor d found = room_of (ram d.engine) ≤ 65536 → IsMountable d.engine.geometry (room_of (ram d.engine)) found
 
 -- the bytes of the disk that is found
 abbrev pub bytes_found : {N : Type 0} → Device N → Image → List ℕ

@@ -11,6 +11,8 @@ use Rattle.image_check.specs.Stale.{stale_count}
 use Rattle.image_laws.specs.Power.{LosesSince}
 use Rattle.nbd_stream.specs.declared.fault.DiskFault.{DiskFault}
 use Rattle.nbd_stream.specs.Through.{Through, Times}
+use Rattle.collection.specs.Safe.{ram}
+use Rattle.collection.specs.Stops.{room_of}
 use Rattle.ftl_device.specs.declared.device.Device.{Device}
 use Rattle.disk_server.specs.Asked.{AsksCall}
 use Rattle.disk_server.specs.Disk.{AsksFlush, AsksRead, AsksTurn, ChangesOne, IsDisk, holds}
@@ -99,5 +101,5 @@ CutLeavesLaw {N} die = (old new : Device N) (log : List Operation) (found : Imag
 
 -- A LOSS OF POWER AT ANY MOMENT SINCE ALL PAGES LASTED, as since a sync, of a device whose cache and a block have no more entries and pages than a cache may have: nothing from before is lost. Where no call was made since, what is found has the records that there were
 abbrev pub LostRunLaw : {N : Type 0} → View N → Type 0
-LostRunLaw {N} die = (old new : Device N) (log : List Operation) (found : Image) (run : DeviceCalls die old log new) → old.engine.mapping.capacity + old.engine.geometry.pages ≤ 65536
+LostRunLaw {N} die = (old new : Device N) (log : List Operation) (found : Image) (run : DeviceCalls die old log new) → room_of (ram old.engine) ≤ 65536
     → MayLose old.engine.geometry (image_on die old) log found → (HasNoCall die old log new run × LosesSince (image_on die old) (image_on die old) found) ⊎ IsFoundAfterLoss die old log new run found

@@ -16,6 +16,8 @@ use Rattle.file_die.specs.Store.{Held, AreImages}
 use Rattle.crash_recovery.specs.Torn.{IsCut, row_in}
 use Rattle.crash_recovery.specs.Taken.{Recovers, RecoversSome, Takes}
 use Rattle.crash_recovery.specs.Laws.{TakesNoNewest}
+use Rattle.collection.specs.Safe.{ram}
+use Rattle.collection.specs.Stops.{room_of}
 use Rattle.ftl_device.specs.declared.device.Device.{Device}
 use Rattle.disk_server.specs.Disk.{IsDisk, holds}
 use Rattle.disk_laws.specs.Killed.{MountsFor, bytes_found}
@@ -87,12 +89,12 @@ OwnMarkLaw {N} die = (d : Device N) (mark : ℕ) → IsDisk die d → holds die.
 
 -- CALLS KEEP IT SO, and a kill at any moment of them: each block takes its pages in order, and one that is erased holds no newest page
 abbrev pub KilledSparesLaw : {N : Type 0} → View N → Type 0
-KilledSparesLaw {N} die = (old new : Device N) (log : List Operation) (run : DeviceCalls die old log new) (found : Image) (mark : ℕ) → old.engine.mapping.capacity + old.engine.geometry.pages ≤ 65536
+KilledSparesLaw {N} die = (old new : Device N) (log : List Operation) (run : DeviceCalls die old log new) (found : Image) (mark : ℕ) → room_of (ram old.engine) ≤ 65536
     → CutsSpare old.engine.geometry (image_on die old) mark → MayLeave old.engine.geometry (image_on die old) log found → CutsSpare old.engine.geometry found mark
 
 -- KILLED AT ANY MOMENT OF THE CALLS, AND OPENED AGAIN, however often that is killed too: the pages that are left stand for those that were found. So they mount, each call that had ended is in them, and the one at hand whole or not at all
 abbrev pub KilledOpenedLaw : {N : Type 0} → View N → Type 0
-KilledOpenedLaw {N} die = (old new : Device N) (log : List Operation) (run : DeviceCalls die old log new) (s t : Held) (mark : ℕ) → old.engine.mapping.capacity + old.engine.geometry.pages ≤ 65536
+KilledOpenedLaw {N} die = (old new : Device N) (log : List Operation) (run : DeviceCalls die old log new) (s t : Held) (mark : ℕ) → room_of (ram old.engine) ≤ 65536
     → IsDisk die old → holds die.honest old ≡ true → CutsSpare old.engine.geometry (image_on die old) mark
     → s.geometry ≡ old.engine.geometry → MayLeave old.engine.geometry (image_on die old) log s.pages → IsRecoveredOften mark s t
     → StandsFor old.engine.geometry s.pages t.pages × ((HasNoCall die old log new run × StandsFor old.engine.geometry (image_on die old) t.pages) ⊎ IsWholeAfter die old log new run t.pages)
@@ -107,7 +109,7 @@ LostCutLaw {N} die = (old new : Device N) (log : List Operation) (run : DeviceCa
 
 -- SO AFTER A LOSS OF POWER AND AN OPENING, whole or as far as that came, the disk is what `LostRunLaw` says of what was found
 abbrev pub LostOpenedLaw : {N : Type 0} → View N → Type 0
-LostOpenedLaw {N} die = (old new : Device N) (log : List Operation) (run : DeviceCalls die old log new) (s t : Held) (mark : ℕ) → old.engine.mapping.capacity + old.engine.geometry.pages ≤ 65536
+LostOpenedLaw {N} die = (old new : Device N) (log : List Operation) (run : DeviceCalls die old log new) (s t : Held) (mark : ℕ) → room_of (ram old.engine) ≤ 65536
     → IsDisk die old → holds die.honest old ≡ true → ((block : ℕ) → IsMarkedBehind old.engine.geometry (image_on die old) mark block) → ErasesPass log
     → s.geometry ≡ old.engine.geometry → MayLose old.engine.geometry (image_on die old) log s.pages → IsRecoveredOnce mark s t
     → IsFoundAfterLoss die old log new run t.pages

@@ -5,6 +5,8 @@ use Rattle.onfi_cycles.specs.Driver.{DriverState}
 use Rattle.file_die.specs.Die.{FileState}
 use Rattle.file_die.specs.Store.{Held, AreImages}
 use Rattle.image_laws.specs.Power.{LosesSince}
+use Rattle.collection.specs.Safe.{ram}
+use Rattle.collection.specs.Stops.{room_of}
 use Rattle.ftl_device.specs.declared.device.Device.{Device}
 use Rattle.disk_server.specs.Disk.{IsDisk}
 use Rattle.disk_server.specs.Opened.{view_in}
@@ -36,6 +38,6 @@ pub record StandsSynced {S : Type 0} (held : S → Held) (honest : S → Bool) (
 -- THE POWER GOES between two calls of the driver, in calls of the device one after another since all pages lasted, of which no erase failed: what lasts of the store then is what `LostRunLaw` says of the disk
 abbrev pub StoreRunLaw : {S : Type 0} → (S → Held) → (honest : S → Bool) → (failed : S → ℕ) → Type 0
 StoreRunLaw {S} held honest failed = (old new : Device (DriverState (FileState S))) (log : List Operation) (run : DeviceCalls (view_in held honest failed) old log new) (mid : DriverState (FileState S))
-    → old.engine.mapping.capacity + old.engine.geometry.pages ≤ 65536 → StandsSynced held honest failed old → ErasesPass log → IsInRun (view_in held honest failed) old log new run mid
+    → room_of (ram old.engine) ≤ 65536 → StandsSynced held honest failed old → ErasesPass log → IsInRun (view_in held honest failed) old log new run mid
     → (HasNoCall (view_in held honest failed) old log new run × LosesSince (image_on (view_in held honest failed) old) (image_on (view_in held honest failed) old) (store_behind held mid).durable)
     ⊎ IsFoundAfterLoss (view_in held honest failed) old log new run (store_behind held mid).durable

@@ -14,6 +14,7 @@ use Rattle.promises.specs.Step.{State, ReadStep, ArrayStep}
 use Rattle.promises.proofs.StepLemmas as steps
 use Rattle.nbd_stream.specs.declared.task.Task.TheVariants.{Read}
 use Rattle.nbd_stream.specs.Disk.{MayAnswer, PerformsTask, answer_from}
+use Rattle.collection.specs.Stops.{room_of}
 use Rattle.disk_server.specs.Flat.{AreSectors, flat}
 use Rattle.disk_server.proofs.FlatLemmas.{flat_law}
 use Rattle.mapping_cache.specs.Mapping.{HasLimitsOf}
@@ -113,8 +114,8 @@ module _ {N : Type 0} (view : View N) (n : ℕ) (old new : Device N) (result : R
       → HasLimitsOf old.engine.mapping new.engine.mapping → IsDisk view new
       → (view.honest old.engine.nand ≡ true → result ≢ Err BusFault → view.flash new.engine.nand ≡ view.flash old.engine.nand)
       → (view.honest old.engine.nand ≡ true → result ≢ Err BusFault → view.recorded new.engine.nand ≡ view.recorded old.engine.nand)
-      → (view.honest old.engine.nand ≡ true → IsWell view.flash old → result ≢ Err BusFault → old.engine.mapping.capacity + old.engine.geometry.pages ≤ 65536
-      → IsMountable old.engine.geometry (old.engine.mapping.capacity + old.engine.geometry.pages) (view.flash new.engine.nand).image)
+      → (view.honest old.engine.nand ≡ true → IsWell view.flash old → result ≢ Err BusFault → room_of (ram old.engine) ≤ 65536
+      → IsMountable old.engine.geometry (room_of (ram old.engine)) (view.flash new.engine.nand).image)
       → AsksRead view old new
   read_asks only asked limits disk same told mounts = record {
     only_reads = only;

@@ -16,13 +16,13 @@ use Rattle.disk_server.specs.Disk.{IsDisk}
 use Rattle.disk_server.proofs.Holding.{parts}
 
 -- nothing is pinned yet
-begun_pinned : (r : Ram) (g : Geometry) (c : Claim) (stale : List ℕ) (image : Image) → r ≡ begun_ram g c stale → PinIsTrue r.fault r image
+begun_pinned : (r : Ram) (g : Geometry) (c : Claim) (stale : List ℕ) (image : Image) → r ≡ begun_ram g 0 c stale → PinIsTrue r.fault r image
 begun_pinned r g c stale image is =
     let P : Ram → Type 0 = λ q. PinIsTrue q.fault q image in
     subst P (sym is) ((λ p at. (let no : ⊥ = cc in absurd no)), (λ p at. (let no : ⊥ = cc in absurd no)))
 
 pub started_disk : {N : Type 0} (view : View N) (d : Device N) (nand : N) (g : Geometry) (a : Acceptance) → IsDevice view.flash d → d.engine.nand ≡ nand
-    → ram d.engine ≡ begun_ram g a.claim a.stale
+    → ram d.engine ≡ begun_ram g 0 a.claim a.stale
     → (view.honest nand ≡ true → IsAcceptedFor (view.flash nand) a → IsTrue None (ram d.engine) (image_in view.flash d.engine))
     → (view.honest nand ≡ true → IsAcceptedFor (view.flash nand) a) → IsDisk view d
 started_disk view d nand g a device is begun truth accepted = record {

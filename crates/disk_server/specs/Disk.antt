@@ -10,6 +10,9 @@ use Rattle.promises.specs.Step.{Command, Flush, Turn}
 use Rattle.mapping_cache.specs.Mapping.{HasLimitsOf}
 use Rattle.allocation.specs.State.{free_count}
 use Rattle.image_check.specs.Mountable.{IsMountable}
+use Rattle.collection.specs.Stops.{room_of}
+use Rattle.collection.specs.Room.{wanted}
+use Rattle.collection.specs.declared.engine.room.Reserve.TheVariants as reserve
 use Rattle.collection.specs.Collect.{HasAiling, HasNoneAiling}
 use Rattle.collection.specs.Safe.{ram}
 use Rattle.nbd_stream.specs.declared.fault.DiskFault.{DiskFault}
@@ -104,8 +107,8 @@ pub record AsksChange {N : Type 0} (view : View N) (n : ℕ) (command : Command)
 pub record LeavesDie {N : Type 0} (view : View N) (old new : Device N) : Type 0 where
   pub die_same : view.flash new.engine.nand ≡ view.flash old.engine.nand
   pub told_same : view.recorded new.engine.nand ≡ view.recorded old.engine.nand
-  pub mountable : old.engine.mapping.capacity + old.engine.geometry.pages ≤ 65536
-      → IsMountable old.engine.geometry (old.engine.mapping.capacity + old.engine.geometry.pages) (view.flash new.engine.nand).image
+  pub mountable : room_of (ram old.engine) ≤ 65536
+      → IsMountable old.engine.geometry (room_of (ram old.engine)) (view.flash new.engine.nand).image
 
 -- or a read: its die is asked for reads, by calls of it alone, and programs and erases nothing; where the device holds its array before it and after it, the die is left as it was
 pub record AsksRead {N : Type 0} (view : View N) (old new : Device N) : Type 0 where
@@ -146,7 +149,7 @@ pub record AsksTurn {N : Type 0} (view : View N) (old : Device N) (result : Resu
   pub upkeeps : Upkeeps view Turn old answer new
   pub disk : IsDisk view new
   pub turned : OnOk answer (HasTurned (ram old.engine) (ram new.engine))
-  pub idle : HasNoneAiling (ram old.engine).blocks → old.engine.pinned ≡ None → 12 ≤ free_count (ram old.engine).blocks → OnOk answer (new.engine ≡ old.engine)
+  pub idle : HasNoneAiling (ram old.engine).blocks → old.engine.pinned ≡ None → wanted reserve.Turn (ram old.engine) ≤ free_count (ram old.engine).blocks → OnOk answer (new.engine ≡ old.engine)
   pub quiet : holds view.honest old ≡ true → OnOk answer (IsQuiet view.erases old.engine new.engine)
   pub falls : holds view.honest old ≡ true → HasNoneAiling (ram old.engine).blocks → OnOk answer (HasFallen view old.engine new.engine)
   pub rescued : holds view.honest old ≡ true → OnOk answer (HasRescued (ram old.engine) (ram new.engine))

@@ -61,7 +61,7 @@ impl<N: Nand> DeviceDisk<N> {
         requires same_geometry { sizes_of (N.view.flash nand).geometry ≡ accepted.claim.sizes }
         requires accepted { N.view.honest nand ≡ true → IsAcceptedFor (N.view.flash nand) accepted }
         ensures nand { IfOk result (λ d. d.engine.nand ≡ nand) }
-        ensures begun { IfOk result (λ d. ram d.engine ≡ begun_ram (N.view.flash nand).geometry accepted.entry.claim accepted.entry.stale) }
+        ensures begun { IfOk result (λ d. ram d.engine ≡ begun_ram (N.view.flash nand).geometry 0 accepted.entry.claim accepted.entry.stale) }
         ensures fault { IfErr result (λ fault. fault ≡ StartFault.OutOfMemory nand accepted.entry) }
     {
         let device = Device::start(alloc, nand, accepted)?;

@@ -31,7 +31,7 @@ fn start_disk<'a, N: Nand>(
     requires same_geometry { sizes_of (N.view.flash nand).geometry ≡ accepted.claim.sizes }
     requires accepted { N.view.honest nand ≡ true → IsAcceptedFor (N.view.flash nand) accepted }
     ensures nand { IfOk result (λ d. d.engine.nand ≡ nand) }
-    ensures begun { IfOk result (λ d. ram d.engine ≡ begun_ram (N.view.flash nand).geometry accepted.entry.claim accepted.entry.stale) }
+    ensures begun { IfOk result (λ d. ram d.engine ≡ begun_ram (N.view.flash nand).geometry 0 accepted.entry.claim accepted.entry.stale) }
     ensures back { IfErr result (λ back. back ≡ nand) }
 {
     let disk = match DeviceDisk::start(alloc, nand, accepted) {

@@ -122,39 +122,39 @@ module _ (c : Claim) (n : ℕ) where
   ]
 
 -- what is known of a sector with nothing moved
-known_is : (g : Geometry) (c : Claim) (ks : List ℕ) (n : ℕ) → known (begun_mapping g c ks) n ≡ known_by (slot_of (begun_mapping g c ks) n) None
+known_is : (g : Geometry) (share : ℕ) (c : Claim) (ks : List ℕ) (n : ℕ) → known (begun_mapping g share c ks) n ≡ known_by (slot_of (begun_mapping g share c ks) n) None
 unfolding known
-known_is g c ks n = refl
+known_is g share c ks n = refl
 
-pending_is : (g : Geometry) (c : Claim) (ks : List ℕ) (n : ℕ) → pending (begun_mapping g c ks) n ≡ pending_by (slot_of (begun_mapping g c ks) n) None
+pending_is : (g : Geometry) (share : ℕ) (c : Claim) (ks : List ℕ) (n : ℕ) → pending (begun_mapping g share c ks) n ≡ pending_by (slot_of (begun_mapping g share c ks) n) None
 unfolding pending
-pending_is g c ks n = refl
+pending_is g share c ks n = refl
 
 record IsCached (c : Claim) (ks : List ℕ) (n : ℕ) (row : Option ℕ) : Type 0 where
   pub among : list_any (nat_eq n) ks ≡ true
   pub row_is : row ≡ get_or c.sectors n None
 
-known_row : (g : Geometry) (c : Claim) (ks : List ℕ) (n : ℕ) (row : Option ℕ) → known (begun_mapping g c ks) n ≡ Some row → IsCached c ks n row
-known_row g c ks n row e = by (slot_of (begun_mapping g c ks) n) refl (sym (known_is g c ks n) ∙ e)
+known_row : (g : Geometry) (share : ℕ) (c : Claim) (ks : List ℕ) (n : ℕ) (row : Option ℕ) → known (begun_mapping g share c ks) n ≡ Some row → IsCached c ks n row
+known_row g share c ks n row e = by (slot_of (begun_mapping g share c ks) n) refl (sym (known_is g share c ks n) ∙ e)
   where
-    by : (o : Option Slot) → slot_of (begun_mapping g c ks) n ≡ o → known_by o None ≡ Some row → IsCached c ks n row
+    by : (o : Option Slot) → slot_of (begun_mapping g share c ks) n ≡ o → known_by o None ≡ Some row → IsCached c ks n row
     by None at h = absurd (let clash : None ≡ Some row = h in cc)
     by (Some s) at h =
         let same : s.row ≡ row = cc in
         record { among = sym (reversed n ks) ∙ its_place c n (reverse ks) s at; row_is = sym same ∙ ap (λ (x : Slot). x.row) (its_slot c n (reverse ks) s at) }
 
-pending_none : (g : Geometry) (c : Claim) (ks : List ℕ) (n : ℕ) → pending (begun_mapping g c ks) n ≡ None → list_any (nat_eq n) ks ≡ false
-pending_none g c ks n e = elim (cases_Bool (list_any (nat_eq n) ks)) [
+pending_none : (g : Geometry) (share : ℕ) (c : Claim) (ks : List ℕ) (n : ℕ) → pending (begun_mapping g share c ks) n ≡ None → list_any (nat_eq n) ks ≡ false
+pending_none g share c ks n e = elim (cases_Bool (list_any (nat_eq n) ks)) [
   | inl among ↦
-      let slot : slot_of (begun_mapping g c ks) n ≡ Some (stale_entry c n).1 = found c n (reverse ks) (reversed n ks ∙ among) in
-      let waits : pending (begun_mapping g c ks) n ≡ Some (get_or c.sectors n None) = pending_is g c ks n ∙ ap (λ o. pending_by o None) slot in
+      let slot : slot_of (begun_mapping g share c ks) n ≡ Some (stale_entry c n).1 = found c n (reverse ks) (reversed n ks ∙ among) in
+      let waits : pending (begun_mapping g share c ks) n ≡ Some (get_or c.sectors n None) = pending_is g share c ks n ∙ ap (λ o. pending_by o None) slot in
       absurd (let clash : None ≡ Some (get_or c.sectors n None) = sym e ∙ waits in cc)
   | inr apart ↦ apart
 ]
 
 -- ---- the facts
 
-module _ (g : Geometry) (capacity : ℕ) (image : Image) (c : Claim) (whole : IsImage g image) (agrees : Agrees g capacity image c) where
+module _ (g : Geometry) (share capacity : ℕ) (image : Image) (c : Claim) (whole : IsImage g image) (agrees : Agrees g capacity image c) where
   filled : AreFilled image (begun g c.blocks)
   filled = record {
     sound = λ b p lt good below.
@@ -193,19 +193,19 @@ module _ (g : Geometry) (capacity : ℕ) (image : Image) (c : Claim) (whole : Is
   directory (Translation t) at within e = let same : t ≡ at = cc in ap (slice_get c.directory) (sym same) ∙ agrees.directory.translation t within
   directory (Table u) at within e = let same : translation_pages g + u ≡ at = cc in ap (slice_get c.directory) (sym same) ∙ agrees.directory.table u within
 
-  knows : (n : ℕ) (row : Option ℕ) → known (begun_mapping g c (stale_sectors g image)) n ≡ Some row → row ≡ newest_row image (Sector n)
+  knows : (n : ℕ) (row : Option ℕ) → known (begun_mapping g share c (stale_sectors g image)) n ≡ Some row → row ≡ newest_row image (Sector n)
   knows n row e =
-      let cached = known_row g c (stale_sectors g image) n row e in
+      let cached = known_row g share c (stale_sectors g image) n row e in
       let lt = stale_within g image n cached.among in
       cached.row_is ∙ get_or_from_slice_get c.sectors n (newest (marks image) (Sector n)) None (agrees.sectors.newest_is n lt)
 
-  entry : (n : ℕ) → n < g.sectors → pending (begun_mapping g c (stale_sectors g image)) n ≡ None → entry_of g image n ≡ newest_row image (Sector n)
+  entry : (n : ℕ) → n < g.sectors → pending (begun_mapping g share c (stale_sectors g image)) n ≡ None → entry_of g image n ≡ newest_row image (Sector n)
   entry n lt e = elim (cases_Bool (is_stale g image n)) [
-    | inl old ↦ absurd (let clash : false ≡ true = sym (pending_none g c (stale_sectors g image) n e) ∙ stale_has g image n lt old in cc)
+    | inl old ↦ absurd (let clash : false ≡ true = sym (pending_none g share c (stale_sectors g image) n e) ∙ stale_has g image n lt old in cc)
     | inr new ↦ fresh g image n new
   ]
 
-  pub true_from_agreement : IsTrue None (begun_ram g c (stale_sectors g image)) image
+  pub true_from_agreement : IsTrue None (begun_ram g share c (stale_sectors g image)) image
   true_from_agreement = record {
     whole = whole;
     one = record { distinct = agrees.sequences; in_range = agrees.numbers.in_range };

@@ -34,7 +34,7 @@ use Rattle.ftl_device.proofs.CursorLemmas.{due_from, one_found}
 
 -- ---- inside the call
 
-pub brought_by : (a b c : Ram) (renewed : Bool) → HasMadeRoom false a b → RescueCosts b c (Ok renewed) → HasBrought a c
+pub brought_by : (a b c : Ram) (renewed : Bool) → HasMadeRoom 9 false a b → RescueCosts b c (Ok renewed) → HasBrought a c
 brought_by a b c true room cost = record { mid = b; room = room; on = inr cost }
 brought_by a b c false room cost = record { mid = b; room = room; on = inl cost }
 
@@ -42,7 +42,7 @@ none_ailing : (s : State) → HasAiling s → HasNoneAiling s → ⊥
 none_ailing s some none = (let at = some.1 in omega (arith, none some.0 at.within at.bad, at.some))
 
 module _ {N : Type 0} (view : View N) where
-  pub made_room : (old new : Engine N) → HasMadeRoom false (ram old) (ram new) → (9 ≤ free_count (ram old).blocks → new ≡ old) → IsRearranged (ram old) (image_in view.flash old) (ram new) (image_in view.flash new)
+  pub made_room : (old new : Engine N) → HasMadeRoom 9 false (ram old) (ram new) → (9 ≤ free_count (ram old).blocks → new ≡ old) → IsRearranged (ram old) (image_in view.flash old) (ram new) (image_in view.flash new)
       → Went (ram old) (view.flash old.nand) (view.recorded old.nand) (ram new) (view.flash new.nand) (view.recorded new.nand) → MadeRoom view old new
   made_room old new made rests rearranged went = record {
     made = made;
@@ -59,7 +59,7 @@ module _ {N : Type 0} (view : View N) where
   room_after : (old look mid : Engine N) → ram look ≡ ram old → view.flash look.nand ≡ view.flash old.nand → Went (ram old) (view.flash old.nand) (view.recorded old.nand) (ram look) (view.flash look.nand) (view.recorded look.nand)
       → MadeRoom view look mid → MadeRoom view old mid
   room_after old look mid same still went room = record {
-    made = subst (λ r. HasMadeRoom false r (ram mid)) same room.made;
+    made = subst (λ r. HasMadeRoom 9 false r (ram mid)) same room.made;
     rests = λ nine.
         let h = room.rests (subst (λ (r : Ram). 9 ≤ free_count r.blocks) (sym same) nine) in
         (h.0 ∙ same, h.1 ∙ still);

@@ -1,5 +1,5 @@
 -- What is true after a call.
-use Rattle.std.proofs.Common.{◌≡◌, ◌≢◌, ℕ, ◌+◌, ◌≤◌, List, None, Option, Some, Result, Ok, Err, MatchResult, refl, sym, ap, subst, ◌∙◌}
+use Rattle.std.proofs.Common.{◌≡◌, ◌≢◌, ℕ, ◌+◌, ◌≤◌, List, None, Option, Some, Result, Ok, Err, MatchResult, refl, sym, ap, subst, ◌∙◌, arith}
 use Rattle.std.specs.Prelude.{OnOk}
 use Rattle.page_layout.specs.View.{View}
 use Rattle.page_layout.specs.declared.geometry.Geometry.{Geometry}
@@ -11,6 +11,7 @@ use Rattle.collection.specs.declared.engine.Engine.{Engine}
 use Rattle.collection.specs.declared.fault.EngineFault.{EngineFault}
 use Rattle.collection.specs.declared.fault.EngineFault.TheVariants as engine_fault
 use Rattle.collection.specs.State.{Ram}
+use Rattle.collection.specs.Stops.{room_of}
 use Rattle.collection.specs.Safe.{IsRam, ram, image_in}
 use Rattle.collection.specs.Truth.{IsTrue}
 use Rattle.collection.specs.Log.{Went}
@@ -54,19 +55,20 @@ memory_only (Err call.OutOfMemory) result good q is e = refl
 
 -- a certificate for the image is to be had, at the capacity that the device had before
 pub mountable_after : {N : Type 0} (flash : N → Flash) (old : Engine N) (d : Device N) (e : Engine N) → d.engine ≡ e → e.geometry ≡ old.geometry
-    → HasLimitsOf old.mapping e.mapping → IsRam (ram d.engine) → IsWell flash d → old.mapping.capacity + old.geometry.pages ≤ 65536
-    → IsMountable old.geometry (old.mapping.capacity + old.geometry.pages) (image_in flash d.engine)
-mountable_after {N} flash old d e same sized limits safe w =
+    → HasLimitsOf old.mapping e.mapping → IsRam (ram d.engine) → IsWell flash d → room_of (ram old) ≤ 65536
+    → IsMountable old.geometry (room_of (ram old)) (image_in flash d.engine)
+mountable_after {N} flash old d e same sized limits safe w most =
     let g : d.engine.geometry ≡ old.geometry = ap (λ (x : Engine N). x.geometry) same ∙ sized in
     let cap : d.engine.mapping.capacity ≡ old.mapping.capacity = ap (λ (x : Engine N). x.mapping.capacity) same ∙ limits.capacity in
-    let P : Geometry → ℕ → Type 0 = λ h c. c + h.pages ≤ 65536 → IsMountable h (c + h.pages) (image_in flash d.engine) in
-    subst (λ h. P h old.mapping.capacity) g (subst (λ c. P d.engine.geometry c) cap (restart_law (ram d.engine) (image_in flash d.engine) safe w.truth))
+    let share : d.engine.mapping.share ≡ old.mapping.share = ap (λ (x : Engine N). x.mapping.share) same ∙ limits.share in
+    let room : room_of (ram d.engine) ≡ room_of (ram old) = rw (cap, share, g) refl in
+    subst (λ n. IsMountable old.geometry n (image_in flash d.engine)) room
+    (subst (λ h. IsMountable h (room_of (ram d.engine)) (image_in flash d.engine)) g (restart_law (ram d.engine) (image_in flash d.engine) safe w.truth (omega (arith, most, room))))
 
 -- so it is where nothing was programmed
 pub mountable_kept : {N : Type 0} (flash : N → Flash) (old new : Engine N) → flash new.nand ≡ flash old.nand → IsRam (ram old)
-    → IsTrue None (ram old) (image_in flash old) → old.mapping.capacity + old.geometry.pages ≤ 65536
-    → IsMountable old.geometry (old.mapping.capacity + old.geometry.pages) (image_in flash new)
-mountable_kept flash old new same safe truth most = subst (λ (s : Flash). IsMountable old.geometry (old.mapping.capacity + old.geometry.pages) s.image) (sym same) (restart_law (ram old) (image_in flash old) safe truth most)
+    → IsTrue None (ram old) (image_in flash old) → room_of (ram old) ≤ 65536 → IsMountable old.geometry (room_of (ram old)) (image_in flash new)
+mountable_kept flash old new same safe truth most = subst (λ (s : Flash). IsMountable old.geometry (room_of (ram old)) s.image) (sym same) (restart_law (ram old) (image_in flash old) safe truth most)
 
 -- what is so of a call that was done is so of the answer
 pub done_too : (P : Type 0) (answer : Result (Unit {0}) CallFault) (good : ℕ) (q : Ram) → OnOk answer P → OnOk (answer_of q good answer) P

@@ -35,7 +35,7 @@ use Rattle.ftl_device.specs.Shortage.{HasFunds, CallShort}
 use Rattle.ftl_device.specs.Stopped.{changes_sector}
 use Rattle.ftl_device.specs.Changes.{EndsCall, PinsNone, MayPin, Readies, HasLookedUp, Stays, Refuses, RefusesSector, ProgramsSector, Logs, Means, IsCut, Changes}
 use Rattle.ftl_device.proofs.CallLemmas.{well_ram, well_device, memory_only, mountable_after, went_after, done_too}
-use Rattle.ftl_device.proofs.PinLemmas.{knows_well, unpinned_moved}
+use Rattle.ftl_device.proofs.PinLemmas.{knows_well, unpinned_moved, none_moved}
 use Rattle.ftl_device.proofs.CostLemmas.{closed_is, spent_is, never_memory}
 use Rattle.ftl_device.proofs.MountableLemmas.{stale_law, restart_law}
 use Rattle.ftl_device.proofs.ShownLemmas.{shown_refused, shown_after, left_after, left_refused}
@@ -218,7 +218,7 @@ module _ {N : Type 0} (view : View N) (n : ℕ) (bytes : List ℕ)
         let w = went_after view old.engine new.engine new.engine answer replied good_then refl refl (ends.went is_honest) ne in
         record {
           went = w;
-          shown = λ well. shown_after view old.engine new.engine new.engine w n bytes old.read_only answer replied good_then refl device.engine.memory ends.safe.memory ends.geometry refl refl ends.tells (short is_honest (here well)) (truth is_honest (here well)) ne;
+          shown = λ well. shown_after view old.engine new.engine new.engine w n bytes old.read_only answer replied good_then refl device.engine.memory ends.limits.share ends.safe.memory ends.geometry refl refl ends.tells (short is_honest (here well)) (truth is_honest (here well)) ne;
           left = λ well on. left_after view command old.engine new.engine new.engine w old.read_only new.read_only answer replied good_then refl refl device.engine.memory device'.engine.memory ends.geometry device'.read_only on (short is_honest (here well));
           flushed = λ well its done. no_flush_is command no_flush _ its;
           stopped = λ well. stopped_call view old.engine new.engine command replied w.log device.engine w.records (ends.stops is_honest (here well) (λ bus. ne (ap (answer_of (ram new.engine) good_then) bus)))
@@ -255,7 +255,7 @@ module _ {N : Type 0} (view : View N) (n : ℕ) (bytes : List ℕ)
       logs = logs_done;
       cut = λ is_honest well going bus. cut_done is_honest (here well) bus;
       means = λ is_honest well ne. means_done is_honest (here well) ne;
-      stale = λ is_honest well unpinned is e. readies.cached (stale_law (ram old.engine) _ n well.truth (unpinned_moved (ram old.engine) (device.calm may.going) unpinned) may.within is) (memory_only answer replied good_then (ram new.engine) refl e);
+      stale = λ is_honest well none unpinned is e. readies.cached (stale_law (ram old.engine) _ n well.truth (none_moved (ram old.engine) none (unpinned_moved (ram old.engine) (device.calm may.going) unpinned)) may.within is) (memory_only answer replied good_then (ram new.engine) refl e);
     }
 
   -- the device noted nothing else
@@ -319,7 +319,7 @@ refuses_at_once failed old fault why = record {
 }
 
 pub stays_same : {N : Type 0} (view : View N) (d : Device N) → Stays view d d
-stays_same view d = record { limits = record { geometry = refl; capacity = refl }; honest_is = refl; calm_is = refl; asked = AskedNothing; failed_is = omega arith }
+stays_same view d = record { limits = record { geometry = refl; capacity = refl; share = refl }; honest_is = refl; calm_is = refl; asked = AskedNothing; failed_is = omega arith }
 
 module _ (r : Ram) (ro : Bool) (n : ℕ) where
   why_not : (fault : DeviceFault) → MayNot r ro n fault → Why r fault
@@ -393,5 +393,5 @@ module _ {N : Type 0} (view : View N) (n : ℕ) (bytes : List ℕ) (command : Co
       versions = λ two key row at. at;
       mountable = λ most. restart_law (ram old.engine) _ device.engine.memory well.truth most;
     };
-    stale = λ is_honest well unpinned is e. absurd (never_memory (ram old.engine) old.read_only n fault not e);
+    stale = λ is_honest well none unpinned is e. absurd (never_memory (ram old.engine) old.read_only n fault not e);
   }

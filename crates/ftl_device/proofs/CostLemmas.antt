@@ -5,7 +5,7 @@ use Rattle.std.specs.Option.{option_map, option_map_or}
 use Rattle.std.specs.Map.{keys_of, lookup_entry, remove_entry}
 use Rattle.std.proofs.lemmas.Bool.{cond-true, cond-false}
 use Rattle.std.proofs.lemmas.List.{take-map}
-use Rattle.page_layout.specs.Geometry.{need}
+use Rattle.page_layout.specs.Geometry.{need_at}
 use Rattle.bad_blocks.specs.Table.{good_count}
 use Rattle.budget.specs.declared.stream.Stream.{Stream}
 use Rattle.budget.specs.declared.stream.Stream.TheVariants.{Data, Meta}
@@ -129,7 +129,7 @@ place_then n old mid new geometry blocks next p = record {
 pub ready_then : (n : ℕ) (old mid new : Ram) → new.geometry ≡ mid.geometry → new.blocks ≡ mid.blocks → new.next ≡ mid.next → IsReady n old mid → IsReady n old new
 ready_then n old mid new geometry blocks next p = record { mid = p.mid; room = p.room; place = place_then n p.mid mid new geometry blocks next p.place }
 
-pub ready_found : (result : Result (Option ℕ) EngineFault) (n : ℕ) (old first mid new : Ram) (fault : Option EngineFault) → HasMadeRoom false old first → new ≡ record mid { fault = fault } → HasMadePlace n first mid → OnOk result (IsReady n old new)
+pub ready_found : (result : Result (Option ℕ) EngineFault) (n : ℕ) (old first mid new : Ram) (fault : Option EngineFault) → HasMadeRoom 9 false old first → new ≡ record mid { fault = fault } → HasMadePlace n first mid → OnOk result (IsReady n old new)
 ready_found (Ok row) n old first mid new fault room is p = record { mid = first; room = room; place = place_then n first mid new (ap (λ (r : Ram). r.geometry) is) (ap (λ (r : Ram). r.blocks) is) (ap (λ (r : Ram). r.next) is) p }
 ready_found (Err f) n old first mid new fault room is p = tt
 
@@ -161,11 +161,11 @@ pub done_after : {N : Type 0} (P : Engine N → Type 0) (e last : Engine N) (ans
 done_after P e last answer result good same is h = subst (λ r. OnOk r (P last)) (sym is) (done_too (P last) answer good (ram last) (subst (λ x. OnOk answer (P x)) (sym same) h))
 
 -- the answer of a read-only device
-pub closed_is : (r : Ram) (ro : Bool) (n : ℕ) (fault : DeviceFault) → MayNot r ro n fault → stop_of r.fault ≡ None → n < r.geometry.sectors → ro ≡ true → fault ≡ ReadOnly (good_count r.blocks.table) (need r.geometry) 0
+pub closed_is : (r : Ram) (ro : Bool) (n : ℕ) (fault : DeviceFault) → MayNot r ro n fault → stop_of r.fault ≡ None → n < r.geometry.sectors → ro ≡ true → fault ≡ ReadOnly (good_count r.blocks.table) (need_at r.geometry r.mapping.share) 0
 closed_is r ro n OutOfRange m going within shut = absurd (omega (arith, m.past))
 closed_is r ro n (ReadOnly good wanted failed) m going within shut =
     let a : good ≡ good_count r.blocks.table = m.short.good_is in
-    let b : wanted ≡ need r.geometry = m.short.wanted_is in
+    let b : wanted ≡ need_at r.geometry r.mapping.share = m.short.wanted_is in
     let c : failed ≡ 0 = omega (arith, a, m.short.failed_is) in cc
 closed_is r ro n SequenceSpent m going within shut = (let may : ro ≡ false = m.writable in let no : ⊥ = cc in absurd no)
 closed_is r ro n OutOfMemory m going within shut = absurd m

@@ -11,7 +11,7 @@ use Rattle.page_layout.specs.Page.{Page, Image, IsImage}
 use Rattle.page_layout.specs.Sound.{is_erased_page}
 use Rattle.page_layout.specs.Array.{marks}
 use Rattle.page_layout.specs.Block.{block_pages}
-use Rattle.page_layout.specs.Geometry.{need}
+use Rattle.page_layout.specs.Geometry.{need_at}
 use Rattle.page_layout.specs.Flash.{Operation, no_page}
 use Rattle.page_layout.proofs.CountLemmas.{bit, count_by-cons}
 use Rattle.page_layout.proofs.ErasedLemmas.{erased_at_unsound}
@@ -152,7 +152,7 @@ module _ (g : Geometry) (bad : ℕ → Bool) (log : List Operation) (new : Ram) 
   free_of_log : logs.free_count g (is_bad_by new) [] image ≡ logs.free_count g bad log image
   free_of_log = count_same (logs.free_of g (is_bad_by new) [] image) (logs.free_of g bad log image) 0 g.blocks (λ b low high. ap (λ x. x && list_all is_erased_page (block_pages g image b)) (good_so b (omega arith)))
 
-  pub short_in : (old : Ram) (call : List Operation) (good wanted failed : ℕ) → IsRam old → IsRam new → old.geometry ≡ g → Follows g.pages call old.blocks new.blocks → IsTrue None new image → IsShortOf old new good wanted failed → IsShortIn g bad log call image good wanted failed
+  pub short_in : (old : Ram) (call : List Operation) (good wanted failed : ℕ) → IsRam old → IsRam new → old.geometry ≡ g → Follows g.pages call old.blocks new.blocks → IsTrue None new image → IsShortOf old new good wanted failed → IsShortIn g new.mapping.share bad log call image good wanted failed
   short_in old call good wanted failed safe safe' was follows w short =
       let free : free_count new.blocks ≡ logs.free_count g bad log image = subst (λ (h : Geometry). free_count new.blocks ≡ logs.free_count h (is_bad_by new) [] image) same (free_now_law new image safe' w) ∙ free_of_log in
       let many : good_count new.blocks.table ≡ logs.good_count g bad log = subst (λ (h : Geometry). good_count new.blocks.table ≡ logs.good_count h (is_bad_by new) []) same (good_now_law new safe') ∙ good_of_log in
@@ -161,22 +161,23 @@ module _ (g : Geometry) (bad : ℕ → Bool) (log : List Operation) (new : Ram) 
       record {
         scarce = subst (λ n. n < 5) free short.scarce;
         good_is = short.good_is ∙ many;
-        wanted_is = short.wanted_is ∙ ap need same;
+        wanted_is = short.wanted_is ∙ ap (λ h. need_at h new.mapping.share) same;
         failed_is = omega (arith, short.failed_is, short.good_is, fails);
       }
 
   -- fewer good blocks than are asked for, or three that failed
-  pub lacks_in : (old : Ram) (call : List Operation) → IsRam old → IsRam new → old.geometry ≡ g → Follows g.pages call old.blocks new.blocks → LacksGood old new → (logs.good_count g bad log < need g) ⊎ (2 < failed_count g call)
+  pub lacks_in : (old : Ram) (call : List Operation) → IsRam old → IsRam new → old.geometry ≡ g → Follows g.pages call old.blocks new.blocks → LacksGood old new → (logs.good_count g bad log < need_at g old.mapping.share) ⊎ (2 < failed_count g call)
   lacks_in old call safe safe' was follows lacks =
       let many : good_count new.blocks.table ≡ logs.good_count g bad log = subst (λ (h : Geometry). good_count new.blocks.table ≡ logs.good_count h (is_bad_by new) []) same (good_now_law new safe') ∙ good_of_log in
       let fails : good_count old.blocks.table ≡ good_count new.blocks.table + failed_count g call =
       subst (λ (h : Geometry). good_count old.blocks.table ≡ good_count new.blocks.table + failed_count h call) was (failed_counted old new call safe safe' (same ∙ sym was) (subst (λ (h : Geometry). Follows h.pages call old.blocks new.blocks) (sym was) follows)) in
-      let needed : need old.geometry ≡ need g = ap need was in
+      let needed : need_at old.geometry old.mapping.share ≡ need_at g old.mapping.share = ap (λ h. need_at h old.mapping.share) was in
       elim lacks [ inl few ↦ inl (omega arith) | inr three ↦ inr (omega arith) ]
 
 pub short_law : ShortLaw
-short_law old new log image good wanted failed safe safe' same follows w short =
-    short_in old.geometry (is_bad_by old) log new image same (λ b lt. bad_now_law old new log b safe.blocks_of follows lt) old log good wanted failed safe safe' refl follows w short
+short_law old new log image good wanted failed safe safe' same share follows w short =
+    subst (λ n. IsShortIn old.geometry n (is_bad_by old) log log image good wanted failed) share
+    (short_in old.geometry (is_bad_by old) log new image same (λ b lt. bad_now_law old new log b safe.blocks_of follows lt) old log good wanted failed safe safe' refl follows w short)
 
 -- ---- a shortage, before other logs
 
@@ -185,5 +186,5 @@ module _ (old new : Ram) (call : List Operation) (safe : IsRam old) (safe' : IsR
   bads b lt = bad_now_law old new call b safe.blocks_of follows lt
 
   -- of the call alone
-  pub lacks_short : (ro : Bool) → LacksGood old new → IsShort old.geometry (is_bad_by old) [] call ro
+  pub lacks_short : (ro : Bool) → LacksGood old new → IsShort old.geometry old.mapping.share (is_bad_by old) [] call ro
   lacks_short ro lacks = elim (lacks_in old.geometry (is_bad_by old) call new [] sized bads old call safe safe' refl follows lacks) [ inl few ↦ inl few | inr three ↦ inr (inl three) ]

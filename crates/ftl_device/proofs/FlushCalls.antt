@@ -43,27 +43,27 @@ flush_well (Err f) result good g before after r q fault is ne h = well_ram (Err 
 
 pub flush_shown : {N : Type 0} (view : View N) (old e last : Engine N)
     (w : Went (ram old) (view.flash old.nand) (view.recorded old.nand) (ram last) (view.flash last.nand) (view.recorded last.nand)) (ro : Bool)
-    (answer : Result (Unit {0}) CallFault) (result : Result (Unit {0}) DeviceFault) (good : ℕ) → last ≡ e → IsRam (ram old) → IsRam (ram e)
+    (answer : Result (Unit {0}) CallFault) (result : Result (Unit {0}) DeviceFault) (good : ℕ) → last ≡ e → IsRam (ram old) → e.mapping.share ≡ old.mapping.share → IsRam (ram e)
     → e.geometry ≡ old.geometry → good ≡ good_count (ram old).blocks.table
     → result ≡ answer_of (ram last) good answer → CallTells (ram old) (ram e) answer
     → ((fault : CallFault) → answer ≡ Err fault → CallShort (ram old) (ram e) answer)
     → MatchResult answer (λ _. KeepsArray old.geometry (image_in view.flash old) (ram e) (image_in view.flash e))
     (CallRefused old.geometry (image_in view.flash old) (ram e) (image_in view.flash e))
-    → result ≢ Err BusFault → IfErr result (IsShown old.geometry (is_bad_by (ram old)) old.next [] w.log ro (image_in view.flash last))
-flush_shown view old e last w ro (Ok done) result good same safe safe' sized many is tells lacks so ne = subst (λ y. IfErr y (IsShown old.geometry (is_bad_by (ram old)) old.next [] w.log ro (image_in view.flash last))) (sym is) tt
-flush_shown view old e last w ro (Err f) result good same safe safe' sized many is tells lacks so ne = shown_after view old e last w 0 [] ro (Err f) result good same safe safe' sized many is tells (lacks f refl) so ne
+    → result ≢ Err BusFault → IfErr result (IsShown old.geometry old.mapping.share (is_bad_by (ram old)) old.next [] w.log ro (image_in view.flash last))
+flush_shown view old e last w ro (Ok done) result good same safe shared safe' sized many is tells lacks so ne = subst (λ y. IfErr y (IsShown old.geometry old.mapping.share (is_bad_by (ram old)) old.next [] w.log ro (image_in view.flash last))) (sym is) tt
+flush_shown view old e last w ro (Err f) result good same safe shared safe' sized many is tells lacks so ne = shown_after view old e last w 0 [] ro (Err f) result good same safe shared safe' sized many is tells (lacks f refl) so ne
 
 -- where it was not to begin
 pub flush_refused : (r : Ram) (s : Flash) {told told' : Option Recording} (w : Went r s told r s told') (ro : Bool) (fault : DeviceFault) → IsRam r
-    → IsTrue None r s.image → stop_of r.fault ≡ None → MayNotFlush r ro fault → IsShown r.geometry (is_bad_by r) r.next [] w.log ro s.image fault
+    → IsTrue None r s.image → stop_of r.fault ≡ None → MayNotFlush r ro fault → IsShown r.geometry r.mapping.share (is_bad_by r) r.next [] w.log ro s.image fault
 flush_refused r s w ro OutOfRange safe truth going not = tt
-flush_refused r s w ro (ReadOnly good wanted failed) safe truth going not = (short_law r r w.log s.image good wanted failed safe safe refl w.follows truth not.short, inr (inr not.closed))
+flush_refused r s w ro (ReadOnly good wanted failed) safe truth going not = (short_law r r w.log s.image good wanted failed safe safe refl refl w.follows truth not.short, inr (inr not.closed))
 flush_refused r s w ro SequenceSpent safe truth going not = sym w.next ∙ not.last
 flush_refused r s w ro OutOfMemory safe truth going not = tt
 flush_refused r s w ro Damaged safe truth going not = (let no : ⊥ = cc in no)
 flush_refused r s w ro BusFault safe truth going not = (let no : ⊥ = cc in no)
 
-pub flush_left_refused : (command : Command) (r : Ram) (log : List Operation) (ro : Bool) (fault : DeviceFault) → MayNotFlush r ro fault → IsLeftReadOnly command r.geometry (is_bad_by r) [] log ro (Err fault)
+pub flush_left_refused : (command : Command) (r : Ram) (log : List Operation) (ro : Bool) (fault : DeviceFault) → MayNotFlush r ro fault → IsLeftReadOnly command r.geometry r.mapping.share (is_bad_by r) [] log ro (Err fault)
 flush_left_refused command r log ro OutOfRange not = absurd not
 flush_left_refused command r log ro (ReadOnly good wanted failed) not = tt
 flush_left_refused command r log ro SequenceSpent not = tt

@@ -63,7 +63,7 @@ back_after (Ok done) t g b c x y z same s s' beside k l = engine_keeps g b c x y
 back_after (Err fault) t g b c x y z same s s' beside k l = engine_refused g b c x y z fault same s s' beside k l
 
 pub limits_then : (a b c : MappingState) → HasLimitsOf a b → HasLimitsOf b c → HasLimitsOf a c
-limits_then a b c x y = record { geometry = y.geometry ∙ x.geometry; capacity = y.capacity ∙ x.capacity }
+limits_then a b c x y = record { geometry = y.geometry ∙ x.geometry; capacity = y.capacity ∙ x.capacity; share = y.share ∙ x.share }
 
 -- ---- table pages
 

@@ -1,5 +1,6 @@
 -- What a flush has programmed, step after step.
-use Rattle.std.proofs.Common.{◌≡◌, ℕ, zero, suc, ◌+◌, ◌*◌, ◌/◌, ◌<◌, ◌≤◌, ◌∙◌, true, false, List, [], ◌∷◌, get_or, Some, None, IsSome, Result, Ok, Err, OnOk, MatchResult, refl, sym, ap, subst, arith}
+use Rattle.std.proofs.Common.{◌≡◌, inl, inr, ℕ, zero, suc, ◌+◌, ◌*◌, ◌/◌, ◌<◌, ◌≤◌, ◌∙◌, true, false, List, [], ◌∷◌, get_or, Some, None, IsSome, Result, Ok, Err, OnOk, MatchResult, refl, sym, ap, subst, arith}
+use Rattle.std.proofs.lemmas.Bool.{cases_eq}
 use Rattle.page_layout.specs.View.{View}
 use Rattle.page_layout.specs.declared.geometry.Geometry.{Geometry}
 use Rattle.page_layout.specs.declared.record.Record.{Record}
@@ -18,6 +19,8 @@ use Rattle.allocation.specs.State.{free_count}
 use Rattle.allocation.specs.Counts.{counts_of}
 use Rattle.collection.specs.declared.engine.Engine.{Engine}
 use Rattle.collection.specs.declared.fault.EngineFault.{EngineFault}
+use Rattle.collection.specs.declared.engine.room.Reserve.TheVariants as reserve
+use Rattle.collection.specs.Room.{wanted}
 use Rattle.collection.specs.State.{Ram}
 use Rattle.collection.specs.Safe.{IsRam, ram, image_in, page_in}
 use Rattle.collection.specs.Truth.{IsTrue}
@@ -28,10 +31,11 @@ use Rattle.collection.specs.Pages.{newest_row}
 use Rattle.collection.specs.Results.{Goes, IsLastPage, IsWritten, IsWrittenBack, IsTabled, Refused, last_record}
 use Rattle.ftl_device.specs.declared.fault.CallFault.{CallFault}
 use Rattle.ftl_device.specs.declared.fault.DeviceFault.{DeviceFault}
-use Rattle.ftl_device.specs.Calls.{Knows, KeepsArray, HasMadeRoom, HasPage, OneKindLaw, WriteOrTrimLaw, answer_of}
+use Rattle.ftl_device.specs.declared.fault.CallFault.TheVariants as call
+use Rattle.ftl_device.specs.Calls.{Knows, KeepsArray, CallRefused, HasMadeRoom, HasPage, OneKindLaw, WriteOrTrimLaw, answer_of}
 use Rattle.ftl_device.specs.Changes.{EngineLeaves}
 use Rattle.ftl_device.specs.Flush.{IsClean}
-use Rattle.ftl_device.specs.FlushSteps.{HasCleared, WritesBack, FlushesPage, FlushesPages, WritesTable, WritesFirst, HasRound, Repeats, WritesRounds, HasFlushed, CleanFlushLaw, FailedFlushLaw, LackingPageLaw}
+use Rattle.ftl_device.specs.FlushSteps.{HasBegun, HasCleared, WritesBack, FlushesPage, FlushesPages, WritesTable, WritesFirst, HasRound, Repeats, WritesRounds, HasFlushed, CleanFlushLaw, FailedFlushLaw, LackingPageLaw}
 use Rattle.ftl_device.proofs.CallLemmas.{done_too}
 use Rattle.ftl_device.proofs.FlushLoops.{keeps_same, engine_keeps}
 
@@ -54,15 +58,44 @@ module _ {N : Type 0} (view : View N) where
   pub page_clean : (t : ℕ) (e : Engine N) → IsClean e.geometry t e.mapping → FlushesPage view t e e
   page_clean t e is = record { clean = λ also. refl; lacking = λ lacks. absurd (lacks is) }
 
-  -- room was made
-  pub cleared_by : (old mid : Engine N) (done : Unit {0}) → EngineLeaves view old (Ok done) mid → HasMadeRoom true (ram old) (ram mid)
+  -- room was made, with share 0, or five blocks were free
+  pub cleared_by : (old mid : Engine N) (done : Unit {0}) → EngineLeaves view old (Ok done) mid → (old.mapping.share ≡ 0 → HasMadeRoom 9 true (ram old) (ram mid))
+      → (0 < old.mapping.share → (mid ≡ old) × (5 ≤ free_count (ram old).blocks))
       → (view.honest old.nand ≡ true → Knows (ram old) (image_in view.flash old) → KeepsArray old.geometry (image_in view.flash old) (ram mid) (image_in view.flash mid))
       → HasCleared view old mid
-  cleared_by old mid done leaves room keeps = record {
+  cleared_by old mid done leaves room still keeps = record {
+    room = room;
+    still = still;
+    honest_is = leaves.honest_is;
+    goes = λ is_honest k. record { went = leaves.went is_honest (λ bus. (let no : ⊥ = cc in no)); keeps = keeps is_honest k };
+  }
+
+  -- room for the whole flush was made, above share 0
+  pub begun_by : (old mid : Engine N) (done : Unit {0}) → EngineLeaves view old (Ok done) mid → (old.mapping.share ≡ 0 → mid ≡ old)
+      → (0 < old.mapping.share → HasMadeRoom (wanted reserve.Flush (ram old)) false (ram old) (ram mid))
+      → (view.honest old.nand ≡ true → Knows (ram old) (image_in view.flash old) → KeepsArray old.geometry (image_in view.flash old) (ram mid) (image_in view.flash mid))
+      → HasBegun view old mid
+  begun_by old mid done leaves still room keeps = record {
+    still = still;
     room = room;
     honest_is = leaves.honest_is;
     goes = λ is_honest k. record { went = leaves.went is_honest (λ bus. (let no : ⊥ = cc in no)); keeps = keeps is_honest k };
   }
+
+  -- the same by what is answered
+  pub cleared_ok : (old mid : Engine N) (result : Result (Unit {0}) EngineFault) → old.mapping.share ≡ 0 → EngineLeaves view old result mid → OnOk result (HasMadeRoom 9 true (ram old) (ram mid))
+      → (view.honest old.nand ≡ true → Knows (ram old) (image_in view.flash old)
+      → MatchResult result (λ done. KeepsArray old.geometry (image_in view.flash old) (ram mid) (image_in view.flash mid)) (λ fault. CallRefused old.geometry (image_in view.flash old) (ram mid) (image_in view.flash mid) (call.Engine fault)))
+      → OnOk result (HasCleared view old mid)
+  cleared_ok old mid (Ok done) none leaves room keeps = cleared_by old mid done leaves (λ same. room) (λ some. absurd (omega (arith, none, some))) keeps
+  cleared_ok old mid (Err fault) none leaves room keeps = tt
+
+  pub begun_ok : (old mid : Engine N) (result : Result (Unit {0}) EngineFault) → 0 < old.mapping.share → EngineLeaves view old result mid → OnOk result (HasMadeRoom (wanted reserve.Flush (ram old)) false (ram old) (ram mid))
+      → (view.honest old.nand ≡ true → Knows (ram old) (image_in view.flash old)
+      → MatchResult result (λ done. KeepsArray old.geometry (image_in view.flash old) (ram mid) (image_in view.flash mid)) (λ fault. CallRefused old.geometry (image_in view.flash old) (ram mid) (image_in view.flash mid) (call.Engine fault)))
+      → OnOk result (HasBegun view old mid)
+  begun_ok old mid (Ok done) some leaves room keeps = begun_by old mid done leaves (λ none. absurd (omega (arith, none, some))) (λ any. room) keeps
+  begun_ok old mid (Err fault) some leaves room keeps = tt
 
   -- a translation page was written back
   pub written_back : (t : ℕ) (mid new : Engine N) (result : Result (Unit {0}) EngineFault) → IsRam (ram mid) → IsRam (ram new) → LeavesPin (ram mid) (ram new) → Goes (ram mid) (ram new) → Stands view mid new result
@@ -212,19 +245,39 @@ module _ {N : Type 0} (view : View N) where
   repeats_none [] a b is h = h
   repeats_none (start ∷ before) a b is h = (let fewer = repeats_lose before a start h.0 in let less : good_of b < good_of start = h.2 in absurd (omega (arith, fewer, less, is)))
 
+  -- nothing is done for a page where as many blocks are free as a flush wants
+  pub cleared_rests : (old new : Engine N) → 9 ≤ free_count (ram old).blocks → HasCleared view old new → ram new ≡ ram old
+  cleared_rests old new nine cleared = elim (cases_eq old.mapping.share 0) [
+    | inl none ↦ (cleared.room none).rests nine
+    | inr some ↦ ap (λ (e : Engine N). ram e) (cleared.still (omega (arith, some))).0
+  ]
+
+  -- nor as it begins
+  begins_rests : (old new : Engine N) → wanted reserve.Flush (ram old) ≤ free_count (ram old).blocks → HasBegun view old new → ram new ≡ ram old
+  begins_rests old new enough begun = elim (cases_eq old.mapping.share 0) [
+    | inl none ↦ ap (λ (e : Engine N). ram e) (begun.still none)
+    | inr some ↦ (begun.room (omega (arith, some))).rests enough
+  ]
+
   -- the die as room was made, where nothing was to be done: the memory is as it was
-  rested : (old new : Engine N) → ((t : ℕ) → t < translation_pages old.geometry → IsClean old.geometry t old.mapping) → 9 ≤ free_count (ram old).blocks → (h : HasFlushed view old new) → ram h.ready ≡ ram old
-  rested old new clean nine h =
-      let is : h.back ≡ old = pages_kept (translation_pages old.geometry) old h.back clean h.pages in
-      let room : HasMadeRoom true (ram old) (ram h.ready) = subst (λ (e : Engine N). HasMadeRoom true (ram e) (ram h.ready)) is h.cleared.room in
-      room.rests nine
+  rested : (old new : Engine N) → ((t : ℕ) → t < translation_pages old.geometry → IsClean old.geometry t old.mapping) → wanted reserve.Flush (ram old) ≤ free_count (ram old).blocks → (h : HasFlushed view old new) → ram h.ready ≡ ram old
+  rested old new clean enough h =
+      let first : ram h.begun ≡ ram old = begins_rests old h.begun enough h.begins in
+      let still : (t : ℕ) → t < translation_pages h.begun.geometry → IsClean h.begun.geometry t h.begun.mapping =
+      (let P : Ram → Type 0 = λ r. (t : ℕ) → t < translation_pages r.geometry → IsClean r.geometry t r.mapping in subst P (sym first) clean) in
+      let sized : translation_pages old.geometry ≡ translation_pages h.begun.geometry = ap (λ (r : Ram). translation_pages r.geometry) (sym first) in
+      let pages : FlushesPages view (translation_pages h.begun.geometry) h.begun h.back = subst (λ n. FlushesPages view n h.begun h.back) sized h.pages in
+      let is : h.back ≡ h.begun = pages_kept (translation_pages h.begun.geometry) h.begun h.back still pages in
+      let same : ram h.back ≡ ram old = ap (λ (e : Engine N). ram e) is ∙ first in
+      let free : free_count (ram h.back).blocks ≡ free_count (ram old).blocks = ap (λ (r : Ram). free_count r.blocks) same in
+      cleared_rests h.back h.ready (omega (arith, enough, free)) h.cleared ∙ same
 
   abbrev tables_of : Ram → ℕ
   tables_of r = table_pages r.geometry
 
   pub clean_flush : CleanFlushLaw view
-  clean_flush old new clean nine good h =
-      let rests : ram h.ready ≡ ram old = rested old new clean nine h in
+  clean_flush old new clean enough good h =
+      let rests : ram h.ready ≡ ram old = rested old new clean enough h in
       let begun : good_of h.ready ≡ good_of old = ap (λ (r : Ram). good_count r.blocks.table) rests in
       let ended : good_of new ≡ good_of h.tables.last = h.tables.none in
       let last : h.tables.last ≡ h.ready = repeats_none h.tables.starts h.ready h.tables.last (omega (arith, begun, ended, good)) h.tables.failed in
@@ -255,8 +308,8 @@ module _ {N : Type 0} (view : View N) where
       absurd (omega (arith, fewer, less, least, none, one))
 
   pub failed_flush : FailedFlushLaw view
-  failed_flush old new clean nine one h =
-      let rests : ram h.ready ≡ ram old = rested old new clean nine h in
+  failed_flush old new clean enough one h =
+      let rests : ram h.ready ≡ ram old = rested old new clean enough h in
       let begun : good_of h.ready ≡ good_of old = ap (λ (r : Ram). good_count r.blocks.table) rests in
       let twice = two_rounds h.tables.starts h.ready h.tables.last new h.tables.failed h.tables.round h.tables.none (omega (arith, begun, one)) in
       let nexts : h.ready.next ≡ old.next = ap (λ (r : Ram). r.next) rests in
@@ -266,7 +319,7 @@ module _ {N : Type 0} (view : View N) where
   pub lacking_page : LackingPageLaw view
   lacking_page t old new lacks nine h =
       let its = h.lacking lacks in
-      let rests : ram its.mid ≡ ram old = its.cleared.room.rests nine in
+      let rests : ram its.mid ≡ ram old = cleared_rests old its.mid nine its.cleared in
       let begun : good_of its.mid ≡ good_of old = ap (λ (r : Ram). good_count r.blocks.table) rests in
       let nexts : its.mid.next ≡ old.next = ap (λ (r : Ram). r.next) rests in
       let good : good_of its.mid ≡ good_of new + its.back.put.failures = its.back.put.put.good in

@@ -1,5 +1,5 @@
 -- Calls of the engine one after another, where no fault stood.
-use Rattle.std.proofs.Common.{◌≡◌, ◌≢◌, ◌≤◌, ◌∙◌, true, None, Some, Result, Ok, Err, refl, ap, arith}
+use Rattle.std.proofs.Common.{◌≡◌, ◌≢◌, ◌<◌, ◌≤◌, ◌∙◌, true, None, Some, Result, Ok, Err, refl, ap, arith}
 use Rattle.page_layout.specs.View.{View}
 use Rattle.page_layout.specs.DieCalls.{AskedNothing}
 use Rattle.page_layout.proofs.AskedLemmas.{asks_then}
@@ -13,9 +13,11 @@ use Rattle.collection.specs.Safe.{IsSafe, ram, image_in}
 use Rattle.collection.specs.Stops.{CutsSafely, StopsSafely}
 use Rattle.collection.specs.Left.{IsCalm}
 use Rattle.budget.specs.declared.stream.Stream.{Stream}
+use Rattle.allocation.specs.State.{free_count}
 use Rattle.collection.specs.Acts.{Stands}
 use Rattle.collection.specs.Cost.{PageCosts, WriteBackCosts}
 use Rattle.collection.specs.Results.{fault_after}
+use Rattle.collection.proofs.Acts.{acts_same, acts_end, acts_noted}
 use Rattle.collection.proofs.Costs.{risen_over}
 use Rattle.collection.proofs.Logs.{went_same, went_then}
 use Rattle.ftl_device.specs.declared.fault.CallFault.{CallFault}
@@ -23,7 +25,7 @@ use Rattle.ftl_device.specs.declared.fault.CallFault.TheVariants as call
 use Rattle.ftl_device.specs.Calls.{Tells, CallTells, standing_after, Knows}
 use Rattle.ftl_device.specs.Changes.{EngineLeaves, EndsCall}
 use Rattle.ftl_device.proofs.EndLemmas.{call_of}
-use Rattle.ftl_device.proofs.StoppedLemmas.{KeepsOn, cuts_on, stops_same, stops_on}
+use Rattle.ftl_device.proofs.StoppedLemmas.{KeepsOn, cuts_on, stops_same, stops_still, stops_on}
 
 pub tells_then : {B : Type 0} (a b c : Ram) (result : Result B EngineFault) → good_count b.blocks.table ≤ good_count a.blocks.table → Tells b c result → Tells a c result
 tells_then a b c (Ok answer) fewer h = omega (arith, fewer, h)
@@ -97,6 +99,13 @@ module _ {N : Type 0} (view : View N) where
     stops = λ is_honest k ne. stops_same view e safe k.truth;
     cut = λ is_honest k bus. (let no : ⊥ = cc in absurd no);
   }
+
+  -- nothing was asked, and too few blocks are free
+  pub leaves_scarce : (e : Engine N) → IsSafe view.flash e → e.fault ≡ None → free_count (ram e).blocks < 5 → EngineLeaves {A = Unit {0}} view e (Err ReadOnly) (record e { fault = Some ReadOnly })
+  leaves_scarce e safe none scarce = leaves_by e (record e { fault = Some ReadOnly }) (Err ReadOnly) none
+      (acts_noted e e (Err ReadOnly) none (acts_end e e tt ReadOnly (λ bus. (let no : ⊥ = cc in no)) (acts_same e safe))) refl (scarce, omega arith)
+      (λ is_honest k ne. stops_still view e e (record e { fault = Some ReadOnly }) refl refl (stops_same view e safe k.truth))
+      (λ is_honest k bus. (let no : ⊥ = cc in absurd no))
 
   -- one after another, the first done
   pub leaves_then : {A B : Type 0} (old mid new : Engine N) (done : A) (result : Result B EngineFault) → KeepsOn view old mid
@@ -186,7 +195,7 @@ module _ {N : Type 0} (view : View N) where
 -- ---- what stays of the memory
 
 pub limits_same : (a b : MappingState) → b ≡ a → HasLimitsOf a b
-limits_same a b is = record { geometry = ap (λ (m : MappingState). m.geometry) is; capacity = ap (λ (m : MappingState). m.capacity) is }
+limits_same a b is = record { geometry = ap (λ (m : MappingState). m.geometry) is; capacity = ap (λ (m : MappingState). m.capacity) is; share = ap (λ (m : MappingState). m.share) is }
 
 -- ---- what the engine's answers cost, as what the memory tells
 

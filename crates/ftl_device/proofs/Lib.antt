@@ -18,6 +18,8 @@ pub mod CountLemmas
 pub mod ShownLemmas
 pub mod FlushLemmas
 pub mod FlushLoops
+pub mod FlushRooms
+pub mod FlushRuns
 pub mod FlushCalls
 pub mod FlushStepLemmas
 pub mod ShortageLemmas

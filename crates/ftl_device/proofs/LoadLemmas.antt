@@ -45,8 +45,8 @@ not_yet size xs i n rising within is = elim (cases_Bool (list_any (nat_eq n) (ta
 
 -- ---- one sector
 
-abbrev mapping_with : Geometry → Claim → List (ℕ × Slot) → MappingState
-mapping_with g c es = record { geometry = g; capacity = c.capacity; cached = es; moved = [] }
+abbrev mapping_with : Geometry → (share : ℕ) → Claim → List (ℕ × Slot) → MappingState
+mapping_with g share c es = record { geometry = g; capacity = c.capacity; share = share; cached = es; moved = [] }
 
 abbrev dirty_slot : Option ℕ → Slot
 dirty_slot row = record { row = row; dirty = true }
@@ -54,36 +54,36 @@ dirty_slot row = record { row = row; dirty = true }
 abbrev clean_slot : Option ℕ → Slot
 clean_slot row = record { row = row; dirty = false }
 
-module _ (g : Geometry) (c : Claim) (ks : List ℕ) (n : ℕ) where
-  not_cached : list_any (nat_eq n) ks ≡ false → slot_of (begun_mapping g c ks) n ≡ None
-  not_cached apart = at (slot_of (begun_mapping g c ks) n) refl
+module _ (g : Geometry) (share : ℕ) (c : Claim) (ks : List ℕ) (n : ℕ) where
+  not_cached : list_any (nat_eq n) ks ≡ false → slot_of (begun_mapping g share c ks) n ≡ None
+  not_cached apart = at (slot_of (begun_mapping g share c ks) n) refl
     where
-      at : (o : Option Slot) → slot_of (begun_mapping g c ks) n ≡ o → o ≡ None
+      at : (o : Option Slot) → slot_of (begun_mapping g share c ks) n ≡ o → o ≡ None
       at None e = refl
       at (Some s) e = absurd (let among : list_any (nat_eq n) ks ≡ true = sym (reversed n ks) ∙ its_place c n (reverse ks) s e in let clash : false ≡ true = sym apart ∙ among in cc)
 
-  cached_size : length (begun_mapping g c ks).cached ≡ length ks
+  cached_size : length (begun_mapping g share c ks).cached ≡ length ks
   cached_size = length-map (reverse ks) (stale_entry c) ∙ length-reverse ks
 
-  pub can_load : length ks < c.capacity → CanLoad (begun_mapping g c ks) n
+  pub can_load : length ks < c.capacity → CanLoad (begun_mapping g share c ks) n
   can_load room none full = absurd (omega (arith, cached_size, full, room))
 
-  made : (es : List (ℕ × Slot)) (row : Option ℕ) → with_dirty (mapping_with g c ((n, clean_slot row) ∷ es)) n row ≡ mapping_with g c ((n, dirty_slot row) ∷ es)
-  made es row = ap (mapping_with g c) (cond-true (nat_eq n n) ((n, dirty_slot row) ∷ es) ((n, clean_slot row) ∷ set_value (nat_eq n) es (dirty_slot row)) (eq-eqb n n refl))
+  made : (es : List (ℕ × Slot)) (row : Option ℕ) → with_dirty (mapping_with g share c ((n, clean_slot row) ∷ es)) n row ≡ mapping_with g share c ((n, dirty_slot row) ∷ es)
+  made es row = ap (mapping_with g share c) (cond-true (nat_eq n n) ((n, dirty_slot row) ∷ es) ((n, clean_slot row) ∷ set_value (nat_eq n) es (dirty_slot row)) (eq-eqb n n refl))
 
   -- it is cached with its row, and then that is dirty
-  pub one_loaded : (row : Option ℕ) → list_any (nat_eq n) ks ≡ false → length ks < c.capacity → row ≡ get_or c.sectors n None → with_dirty (loaded (begun_mapping g c ks) n row) n row ≡ begun_mapping g c (ks ++ n ∷ [])
+  pub one_loaded : (row : Option ℕ) → list_any (nat_eq n) ks ≡ false → length ks < c.capacity → row ≡ get_or c.sectors n None → with_dirty (loaded (begun_mapping g share c ks) n row) n row ≡ begun_mapping g share c (ks ++ n ∷ [])
   one_loaded row apart room is =
-      let m = begun_mapping g c ks in
+      let m = begun_mapping g share c ks in
       let fresh : slot_of m n ≡ None = not_cached apart in
       let first : loaded m n row ≡ inserted m n row = ap (λ o. loaded_by o m n row) fresh in
       let whole : take (c.capacity - 1) m.cached ≡ m.cached = take_all (c.capacity - 1) m.cached (omega (arith, cached_size)) in
       let turned : reverse (ks ++ n ∷ []) ≡ n ∷ reverse ks = reverse-append ks (n ∷ []) in
       ap (λ x. with_dirty x n row) first
       ∙ (made (take (c.capacity - 1) m.cached) row
-      ∙ (ap (λ es. mapping_with g c ((n, dirty_slot row) ∷ es)) whole
-      ∙ (ap (λ r. mapping_with g c ((n, dirty_slot r) ∷ map (stale_entry c) (reverse ks))) is
-      ∙ ap (λ xs. mapping_with g c (map (stale_entry c) xs)) (sym turned))))
+      ∙ (ap (λ es. mapping_with g share c ((n, dirty_slot row) ∷ es)) whole
+      ∙ (ap (λ r. mapping_with g share c ((n, dirty_slot r) ∷ map (stale_entry c) (reverse ks))) is
+      ∙ ap (λ xs. mapping_with g share c (map (stale_entry c) xs)) (sym turned))))
 
 -- ---- what the certificate gives
 
@@ -112,20 +112,20 @@ one_word words rows i word o so_far at is =
     ∙ (ap (λ y. take i rows ++ y ∷ []) is ∙ sym (take_next rows i o at)))
 
 -- one sector more
-pub load_next : (g : Geometry) (c : Claim) (stale : List ℕ) (i n : ℕ) (row : Option ℕ) (old loaded_now new : MappingState)
+pub load_next : (g : Geometry) (share : ℕ) (c : Claim) (stale : List ℕ) (i n : ℕ) (row : Option ℕ) (old loaded_now new : MappingState)
     → IsRisingBelow c.sizes.sectors stale → length stale ≤ c.capacity → slice_get stale i ≡ Some n → slice_get c.sectors n ≡ Some row
-    → old ≡ begun_mapping g c (take i stale) → loaded_now ≡ loaded old n row → new ≡ with_dirty loaded_now n row
-    → new ≡ begun_mapping g c (take (i + 1) stale)
-load_next g c stale i n row old loaded_now new rising few at row_at so_far loads sets =
+    → old ≡ begun_mapping g share c (take i stale) → loaded_now ≡ loaded old n row → new ≡ with_dirty loaded_now n row
+    → new ≡ begun_mapping g share c (take (i + 1) stale)
+load_next g share c stale i n row old loaded_now new rising few at row_at so_far loads sets =
     let within : i < length stale = slice_get_within stale i n at in
     let its : n ≡ get_or stale i 0 = sym (get_or_from_slice_get stale i n 0 at) in
     let apart : list_any (nat_eq n) (take i stale) ≡ false = not_yet c.sizes.sectors stale i n rising within its in
     let room : length (take i stale) < c.capacity = omega (arith, length-take i stale) in
     let value : row ≡ get_or c.sectors n None = sym (get_or_from_slice_get c.sectors n row None row_at) in
     sets ∙ (ap (λ m. with_dirty m n row) (loads ∙ ap (λ m. loaded m n row) so_far)
-    ∙ (one_loaded g c (take i stale) n row apart room value
-    ∙ ap (begun_mapping g c) (sym (take_next stale i n at))))
+    ∙ (one_loaded g share c (take i stale) n row apart room value
+    ∙ ap (begun_mapping g share c) (sym (take_next stale i n at))))
 
-pub next_can_load : (g : Geometry) (c : Claim) (stale : List ℕ) (i n : ℕ) (m : MappingState) → length stale ≤ c.capacity → i < length stale → m ≡ begun_mapping g c (take i stale) → CanLoad m n
-next_can_load g c stale i n m few within is =
-    subst (λ x. CanLoad x n) (sym is) (can_load g c (take i stale) n (omega (arith, length-take i stale)))
+pub next_can_load : (g : Geometry) (share : ℕ) (c : Claim) (stale : List ℕ) (i n : ℕ) (m : MappingState) → length stale ≤ c.capacity → i < length stale → m ≡ begun_mapping g share c (take i stale) → CanLoad m n
+next_can_load g share c stale i n m few within is =
+    subst (λ x. CanLoad x n) (sym is) (can_load g share c (take i stale) n (omega (arith, length-take i stale)))

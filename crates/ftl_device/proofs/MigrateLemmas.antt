@@ -148,12 +148,12 @@ module _ {N : Type 0} (view : View N) where
   }
     where
       limits : HasLimitsOf old.mapping mid.mapping
-      limits = record { geometry = ap (λ (r : Ram). r.mapping.geometry) same; capacity = ap (λ (r : Ram). r.mapping.capacity) same }
+      limits = record { geometry = ap (λ (r : Ram). r.mapping.geometry) same; capacity = ap (λ (r : Ram). r.mapping.capacity) same; share = ap (λ (r : Ram). r.mapping.share) same }
 
   -- and where a fault of the die ends it
   pub cut_after : {A : Type 0} (old mid new : Engine N) (x : A) → ram mid ≡ ram old → (view.honest old.nand ≡ true → view.flash mid.nand ≡ view.flash old.nand) → EngineLeaves view old (Ok x) mid
       → view.honest old.nand ≡ true → Knows (ram old) (image_in view.flash old) → (Knows (ram mid) (image_in view.flash mid) → CutsSafely view mid new) → CutsSafely view old new
   cut_after old mid new x same still first is_honest k next =
       let kept = keeps_look old mid same still is_honest k in
-      cuts_on view old mid new first.geometry (record { geometry = ap (λ (r : Ram). r.mapping.geometry) same; capacity = ap (λ (r : Ram). r.mapping.capacity) same }) kept.array
+      cuts_on view old mid new first.geometry (record { geometry = ap (λ (r : Ram). r.mapping.geometry) same; capacity = ap (λ (r : Ram). r.mapping.capacity) same; share = ap (λ (r : Ram). r.mapping.share) same }) kept.array
       (first.stops is_honest k (λ bus. (let no : ⊥ = cc in no))) (next kept.truth)

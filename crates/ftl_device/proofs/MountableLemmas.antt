@@ -1,9 +1,15 @@
 -- What an engine knows of an image makes it mountable.
-use Rattle.std.proofs.Common.{◌≡◌, inl, inr, ℕ, ◌+◌, eqb}
-use Rattle.std.proofs.Common.{Option, Some, None, IsSome, ap, arith}
+use Rattle.std.proofs.Common.{◌≡◌, ◌≤◌, inl, inr, ℕ, ◌+◌, eqb}
+use Rattle.std.proofs.Common.{Option, Some, None, IsSome, ap, subst, arith}
 use Rattle.std.specs.Map.{lookup}
 use Rattle.mapping_cache.specs.Mapping.{moved_row}
+use Rattle.page_layout.specs.Page.{Image}
+use Rattle.image_check.specs.Mountable.{IsMountable}
 use Rattle.image_check.proofs.MountableLemmas.{mountable}
+use Rattle.collection.specs.State.{Ram}
+use Rattle.collection.specs.Safe.{IsRam}
+use Rattle.collection.specs.Truth.{IsTrue}
+use Rattle.collection.specs.Stops.{room_of}
 use Rattle.collection.proofs.Mounts.{stale_held, orderly}
 use Rattle.ftl_device.specs.Calls.{StaleLaw, RestartLaw}
 
@@ -22,4 +28,4 @@ stale_law r image n w unmoved lt old = elim (stale_held r image n w lt old) [
 -- ---- a certificate is to be had
 
 pub restart_law : RestartLaw
-restart_law r image s w most = (mountable r.geometry (r.mapping.capacity + r.geometry.pages) image w.whole.rows (omega (arith, s.mapping.holds_one)) most).1 (orderly r image s w)
+restart_law r image s w most = (mountable r.geometry (room_of r) image w.whole.rows (let one = s.mapping.holds_one in omega arith) most).1 (orderly r image s w)

@@ -1,5 +1,5 @@
 -- What is known of a pinned block, and what calls leave of it that are no step.
-use Rattle.std.proofs.Common.{◌≡◌, ℕ, inl, inr, None, Result, Ok, Err, OnOk, OnErr, MatchOption, [], refl, subst, arith}
+use Rattle.std.proofs.Common.{◌≡◌, ℕ, ◌+◌, ◌≤◌, inl, inr, None, Result, Ok, Err, OnOk, OnErr, MatchOption, List, [], ◌∷◌, length, refl, subst, arith}
 use Rattle.page_layout.specs.Page.{Image}
 use Rattle.page_layout.specs.Flash.{Flash}
 use Rattle.mapping_cache.specs.Mapping.{cleaned}
@@ -10,6 +10,8 @@ use Rattle.collection.specs.Safe.{IsRam, ram, image_in}
 use Rattle.collection.specs.Truth.{IsTrue}
 use Rattle.collection.specs.Results.{LeavesNewest, IsSame, Goes, Refused}
 use Rattle.collection.specs.Left.{IsCalm, IsHalfDone, LeavesPin, PinIsFew}
+use Rattle.collection.specs.Collect.{waiting}
+use Rattle.collection.specs.Stops.{room_of}
 use Rattle.collection.proofs.Memory.{goes_same}
 use Rattle.collection.proofs.Beside.{beside_same, beside_written}
 use Rattle.ftl_device.specs.declared.fault.CallFault.TheVariants.{Engine as OfEngine}
@@ -26,7 +28,7 @@ few_more r few p is = (let h = few p is in record { within = h.within; small = h
 -- ---- a call that is no step
 
 pub beside_here : (r : Ram) → LeavesPin r r
-beside_here r = beside_same r r refl (goes_same r) refl (record { geometry = refl; capacity = refl })
+beside_here r = beside_same r r refl (goes_same r) refl (record { geometry = refl; capacity = refl; share = refl })
 
 -- a translation page was written back, or the call was refused
 pub beside_back : (result : Result (Unit {0}) EngineFault) (a b : Ram) (t : ℕ) → b.pin ≡ a.pin → Goes a b → OnOk result (b.mapping ≡ cleaned a.mapping t) → OnErr result (b.mapping ≡ a.mapping) → LeavesPin a b
@@ -75,6 +77,21 @@ knows_well flash d device well none =
     let its : PinIsTrue None (ram d.engine) (image_in flash d.engine) = subst (λ f. PinIsTrue f (ram d.engine) (image_in flash d.engine)) none well.pinned in
     record { truth = well.truth; calm = device.calm none; passed = its.0; few = its.1 }
 
--- with none pinned no sector is moved
-pub unpinned_moved : (r : Ram) → IsCalm r → r.pin.block ≡ None → r.mapping.moved ≡ []
-unpinned_moved r calm none = subst (λ o. MatchOption o (r.mapping.moved ≡ []) (IsHalfDone r)) none calm.pinned
+-- with none pinned no more sectors are moved than may wait
+pub unpinned_moved : (r : Ram) → IsCalm r → r.pin.block ≡ None → length r.mapping.moved ≤ waiting r
+unpinned_moved r calm none = subst (λ o. MatchOption o (length r.mapping.moved ≤ waiting r) (IsHalfDone r)) none calm.pinned
+
+-- with share 0 none may
+pub none_waits : (r : Ram) → r.mapping.share ≡ 0 → waiting r ≡ 0
+none_waits r unshared = rw unshared (omega arith)
+
+pub none_moved : (r : Ram) → r.mapping.share ≡ 0 → length r.mapping.moved ≤ waiting r → r.mapping.moved ≡ []
+none_moved r unshared few = by r.mapping.moved (let may = none_waits r unshared in omega arith)
+  where
+    by : (ms : List (ℕ × ℕ)) → length ms ≤ 0 → ms ≡ []
+    by [] le = refl
+    by (e ∷ ms) le = absurd (omega arith)
+
+-- and a device mounts at its capacity and the pages of a block
+pub room_is : (r : Ram) → r.mapping.share ≡ 0 → room_of r ≡ r.mapping.capacity + r.geometry.pages
+room_is r unshared = (let may = none_waits r unshared in omega arith)

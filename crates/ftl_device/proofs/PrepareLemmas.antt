@@ -1,5 +1,5 @@
 -- A sector is made ready, one step after another.
-use Rattle.std.proofs.Common.{◌≡◌, ◌≢◌, ℕ, ◌≤◌, ◌∙◌, None, Option, Some, Result, Ok, Err, OnOk, IfErr, MatchResult, MatchOption, false, [], refl, sym, ap, subst, arith}
+use Rattle.std.proofs.Common.{◌≡◌, ◌≢◌, ℕ, ◌≤◌, ◌∙◌, None, Option, Some, Result, Ok, Err, OnOk, IfErr, MatchResult, MatchOption, false, [], length, refl, sym, ap, subst, arith}
 use Rattle.page_layout.specs.View.{View}
 use Rattle.page_layout.specs.declared.geometry.Geometry.{Geometry}
 use Rattle.page_layout.specs.declared.record.Key.TheVariants.{Sector}
@@ -7,6 +7,7 @@ use Rattle.page_layout.specs.Page.{Image}
 use Rattle.page_layout.specs.Flash.{Flash}
 use Rattle.page_layout.specs.Recording.{Recording}
 use Rattle.bad_blocks.specs.Table.{good_count}
+use Rattle.collection.specs.Collect.{waiting}
 use Rattle.collection.specs.declared.fault.EngineFault.{EngineFault}
 use Rattle.collection.specs.declared.fault.EngineFault.TheVariants.{ReadOnly, SequenceSpent, Damaged, Bus}
 use Rattle.mapping_cache.specs.declared.slot.Slot.{Slot}
@@ -61,7 +62,7 @@ module _ (c d : Ram) (fault : Option EngineFault) (is : d ≡ record c { fault =
   calm_found : IsCalm c → IsCalm d
   calm_found k = subst IsCalm (sym is) (record { unmarked = k.unmarked; pinned = half c.pin.block k.pinned })
     where
-      half : (o : Option Pinned) → MatchOption o (c.mapping.moved ≡ []) (IsHalfDone c) → MatchOption o (c.mapping.moved ≡ []) (IsHalfDone (record c { fault = fault }))
+      half : (o : Option Pinned) → MatchOption o (length c.mapping.moved ≤ waiting c) (IsHalfDone c) → MatchOption o (length c.mapping.moved ≤ waiting c) (IsHalfDone (record c { fault = fault }))
       half None h = h
       half (Some p) h = record { within = h.within; closed = h.closed; passed = h.passed; on_die = h.on_die }
 
@@ -84,7 +85,7 @@ module _ (c d : Ram) (fault : Option EngineFault) (is : d ≡ record c { fault =
   found_after (Err Damaged) n g x t u keeps same of_bus = (let no : ⊥ = cc in absurd no)
   found_after (Err Bus) n g x t u keeps same of_bus = tt
 
-  pub calm_after : (result : Result (Option ℕ) EngineFault) (a b : Ram) → HasMadeRoom false a b → LeavesPin b c → OnOk result (IsCalm d)
+  pub calm_after : (result : Result (Option ℕ) EngineFault) (a b : Ram) → HasMadeRoom 9 false a b → LeavesPin b c → OnOk result (IsCalm d)
   calm_after (Ok row) a b room beside = calm_found (calm_law b c beside room.calm)
   calm_after (Err f) a b room beside = tt
 
@@ -94,8 +95,8 @@ loaded_limits : (m : MappingState) (n : ℕ) (row : Option ℕ) → HasLimitsOf 
 loaded_limits m n row = by (slot_of m n)
   where
     by : (slot : Option Slot) → HasLimitsOf m (loaded_by slot m n row)
-    by (Some s) = record { geometry = refl; capacity = refl }
-    by None = record { geometry = refl; capacity = refl }
+    by (Some s) = record { geometry = refl; capacity = refl; share = refl }
+    by None = record { geometry = refl; capacity = refl; share = refl }
 
 module _ {N : Type 0} (e f : Engine N) (n : ℕ) (row : Option ℕ) (is : f ≡ record e { mapping = loaded e.mapping n row }) where
   pub beside_now : LeavesPin (ram e) (ram f)
@@ -105,7 +106,7 @@ module _ {N : Type 0} (e f : Engine N) (n : ℕ) (row : Option ℕ) (is : f ≡ 
   limits_loaded m l =
       let P : Engine N → Type 0 = λ x. HasLimitsOf m x.mapping in
       let here = loaded_limits e.mapping n row in
-      subst P (sym is) (record { geometry = here.geometry ∙ l.geometry; capacity = here.capacity ∙ l.capacity })
+      subst P (sym is) (record { geometry = here.geometry ∙ l.geometry; capacity = here.capacity ∙ l.capacity; share = here.share ∙ l.share })
 
   pub went_loaded : (view : View N) (a : Ram) (s : Flash) (rs : Option Recording) → Went a s rs (ram e) (view.flash e.nand) (view.recorded e.nand) → Went a s rs (ram f) (view.flash f.nand) (view.recorded f.nand)
   went_loaded view a s rs w =

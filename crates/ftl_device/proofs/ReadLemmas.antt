@@ -1,5 +1,5 @@
 -- What a look-up makes of the mapping, and what a read gives.
-use Rattle.std.proofs.Common.{◌≡◌, ℕ, ◌<◌, ◌==◌, Bool, true, false, eqb, List, [], ◌∷◌, length, get_or, slice_get, Option, Some, None, IsSome, Result, Ok, Err, MatchOption, refl, sym}
+use Rattle.std.proofs.Common.{◌≡◌, ℕ, ◌<◌, ◌≤◌, ◌==◌, Bool, true, false, eqb, List, [], ◌∷◌, length, get_or, slice_get, Option, Some, None, IsSome, Result, Ok, Err, MatchOption, refl, sym}
 use Rattle.std.proofs.Common.{ap, subst, ◌∙◌, inl, inr, arith}
 use Rattle.std.specs.Prelude.{IsOk, IfOk, OnOk, OnErr, is_some}
 use Rattle.std.specs.Map.{lookup}
@@ -16,6 +16,8 @@ use Rattle.mapping_cache.specs.declared.slot.Slot.{Slot}
 use Rattle.mapping_cache.specs.declared.mapping.LoadFault.{LoadFault}
 use Rattle.mapping_cache.specs.Mapping.{MappingState, IsMapping, HasLimitsOf, CanLoad, slot_of, moved_row, pending, used, without, loaded, loaded_by, cleaned}
 use Rattle.mapping_cache.proofs.Steps.{pending-used, pending-inserted}
+use Rattle.page_layout.specs.Geometry.{waiting_at}
+use Rattle.collection.specs.Collect.{waiting}
 use Rattle.collection.specs.declared.engine.Engine.{Engine}
 use Rattle.collection.specs.declared.engine.Pinned.{Pinned}
 use Rattle.collection.specs.declared.fault.EngineFault.{EngineFault}
@@ -91,8 +93,8 @@ loaded_moved m n row None none = without_none n m.moved none
 -- ---- what a look-up leaves of the engine
 
 loaded_limits : (m : MappingState) (n : ℕ) (row : Option ℕ) (o : Option Slot) → HasLimitsOf m (loaded_by o m n row)
-loaded_limits m n row (Some s) = record { geometry = refl; capacity = refl }
-loaded_limits m n row None = record { geometry = refl; capacity = refl }
+loaded_limits m n row (Some s) = record { geometry = refl; capacity = refl; share = refl }
+loaded_limits m n row None = record { geometry = refl; capacity = refl; share = refl }
 
 module _ {N : Type 0} (old new : Engine N) (n : ℕ) (row : Option ℕ) where
   abbrev the_engine : MappingState → Engine N
@@ -118,58 +120,64 @@ module _ {N : Type 0} (old new : Engine N) (n : ℕ) (row : Option ℕ) where
 
   pub limits_by : (result : Result (Unit {0}) LoadFault) → OnOk result (new ≡ record old { mapping = loaded old.mapping n row }) → OnErr result (new ≡ old) → HasLimitsOf old.mapping new.mapping
   limits_by (Ok done) is same = rw (mapping_is (loaded old.mapping n row) is) (loaded_limits old.mapping n row (slot_of old.mapping n))
-  limits_by (Err fault) is same = (let e : new.mapping ≡ old.mapping = ap (λ (z : Engine N). z.mapping) same in rw e (record { geometry = refl; capacity = refl }))
+  limits_by (Err fault) is same = (let e : new.mapping ≡ old.mapping = ap (λ (z : Engine N). z.mapping) same in rw e (record { geometry = refl; capacity = refl; share = refl }))
 
 -- ---- what is known of a pinned block, where the moved list and all but the mapping stay
 
-pub calm_mapped : (a b : Ram) → b ≡ record a { mapping = b.mapping } → b.mapping.moved ≡ a.mapping.moved → IsCalm a → IsCalm b
-calm_mapped a b is moved k = subst IsCalm (sym is) (record { unmarked = k.unmarked; pinned = half a.pin.block k.pinned })
+pub calm_mapped : (a b : Ram) → b ≡ record a { mapping = b.mapping } → b.mapping.share ≡ a.mapping.share → b.mapping.moved ≡ a.mapping.moved → IsCalm a → IsCalm b
+calm_mapped a b is share moved k = subst IsCalm (sym is) (record { unmarked = k.unmarked; pinned = half a.pin.block k.pinned })
   where
-    half : (o : Option Pinned) → MatchOption o (a.mapping.moved ≡ []) (IsHalfDone a) → MatchOption o (b.mapping.moved ≡ []) (IsHalfDone (record a { mapping = b.mapping }))
-    half None none = moved ∙ none
-    half (Some p) h = record { within = h.within; closed = h.closed; passed = (let e : length b.mapping.moved ≡ length a.mapping.moved = ap (λ (l : List (ℕ × ℕ)). length l) moved in omega (arith, h.passed)); on_die = h.on_die }
+    fewer : length b.mapping.moved ≤ length a.mapping.moved
+    fewer = (let e : length b.mapping.moved ≡ length a.mapping.moved = ap (λ (l : List (ℕ × ℕ)). length l) moved in omega arith)
 
-few_mapped : (extra : ℕ) (a b : Ram) → b ≡ record a { mapping = b.mapping } → b.mapping.moved ≡ a.mapping.moved → PinIsFew extra a → PinIsFew extra b
-few_mapped extra a b is moved few = subst (PinIsFew extra) (sym is)
+    may : waiting (record a { mapping = b.mapping }) ≡ waiting a
+    may = ap (waiting_at a.geometry) share
+
+    half : (o : Option Pinned) → MatchOption o (length a.mapping.moved ≤ waiting a) (IsHalfDone a) → MatchOption o (length b.mapping.moved ≤ waiting (record a { mapping = b.mapping })) (IsHalfDone (record a { mapping = b.mapping }))
+    half None few = (let le = fewer in let same = may in omega arith)
+    half (Some p) h = record { within = h.within; closed = h.closed; passed = (let le = fewer in let same = may in let passed = h.passed in omega arith); on_die = h.on_die }
+
+few_mapped : (extra : ℕ) (a b : Ram) → b ≡ record a { mapping = b.mapping } → b.mapping.share ≡ a.mapping.share → b.mapping.moved ≡ a.mapping.moved → PinIsFew extra a → PinIsFew extra b
+few_mapped extra a b is share moved few = subst (PinIsFew extra) (sym is)
     (λ p at.
     (let h = few p at in
     record {
       within = h.within;
-      small = h.small;
+      small = rw share h.small;
       moved =
-          (let e : length b.mapping.moved ≡ length a.mapping.moved = ap (λ (l : List (ℕ × ℕ)). length l) moved in omega (arith, h.moved));
+          (let e : length b.mapping.moved ≡ length a.mapping.moved = ap (λ (l : List (ℕ × ℕ)). length l) moved in let all = h.moved in rw share (omega arith));
     }))
 
 passed_mapped : (a b : Ram) (x : Image) → b ≡ record a { mapping = b.mapping } → PinHasPassed a x → PinHasPassed b x
 passed_mapped a b x is passed = (let P : Ram → Type 0 = λ r. PinHasPassed r x in subst P (sym is) (λ p at. passed p at))
 
-pub pin_mapped : (fault : Option EngineFault) (a b : Ram) (x : Image) → b ≡ record a { mapping = b.mapping } → b.mapping.moved ≡ a.mapping.moved → PinIsTrue fault a x → PinIsTrue fault b x
-pin_mapped None a b x is moved k = (passed_mapped a b x is k.0, few_mapped 0 a b is moved k.1)
-pin_mapped (Some ReadOnly) a b x is moved k = tt
-pin_mapped (Some SequenceSpent) a b x is moved k = few_mapped 1 a b is moved k
-pin_mapped (Some Damaged) a b x is moved k = tt
-pin_mapped (Some Bus) a b x is moved k = tt
+pub pin_mapped : (fault : Option EngineFault) (a b : Ram) (x : Image) → b ≡ record a { mapping = b.mapping } → b.mapping.share ≡ a.mapping.share → b.mapping.moved ≡ a.mapping.moved → PinIsTrue fault a x → PinIsTrue fault b x
+pin_mapped None a b x is share moved k = (passed_mapped a b x is k.0, few_mapped 0 a b is share moved k.1)
+pin_mapped (Some ReadOnly) a b x is share moved k = tt
+pin_mapped (Some SequenceSpent) a b x is share moved k = few_mapped 1 a b is share moved k
+pin_mapped (Some Damaged) a b x is share moved k = tt
+pin_mapped (Some Bus) a b x is share moved k = tt
 
-pub device_mapped : {N : Type 0} (flash : N → Flash) (d : Device N) (e : Engine N) → IsDevice flash d → IsSafe flash e → e ≡ record d.engine { mapping = e.mapping } → e.mapping.moved ≡ d.engine.mapping.moved → IsDevice flash (record d { engine = e })
-device_mapped {N} flash d e device safe is moved =
+pub device_mapped : {N : Type 0} (flash : N → Flash) (d : Device N) (e : Engine N) → IsDevice flash d → IsSafe flash e → e ≡ record d.engine { mapping = e.mapping } → e.mapping.share ≡ d.engine.mapping.share → e.mapping.moved ≡ d.engine.mapping.moved → IsDevice flash (record d { engine = e })
+device_mapped {N} flash d e device safe is share moved =
     let fault : e.fault ≡ d.engine.fault = ap (λ (z : Engine N). z.fault) is in
     record {
       engine = safe;
       read_only = device.read_only ∙ ap (λ (z : Engine N). is_scarce (free_count (state z.blocks))) (sym is);
       refuses = λ f. device.refuses (sym fault ∙ f);
       spent = λ f. ap (λ (z : Engine N). z.next) is ∙ device.spent (sym fault ∙ f);
-      calm = λ f. calm_mapped (ram d.engine) (ram e) (ap (λ (z : Engine N). ram z) is) moved (device.calm (sym fault ∙ f));
+      calm = λ f. calm_mapped (ram d.engine) (ram e) (ap (λ (z : Engine N). ram z) is) share moved (device.calm (sym fault ∙ f));
     }
 
 pub read_well : {N : Type 0} (flash : N → Flash) (d new : Device N) (e : Engine N) → ram e ≡ ram d.engine → flash e.nand ≡ flash d.engine.nand
-    → new ≡ record d { engine = record e { mapping = new.engine.mapping } } → new.engine.mapping.moved ≡ e.mapping.moved → IsWell flash d
+    → new ≡ record d { engine = record e { mapping = new.engine.mapping } } → HasLimitsOf e.mapping new.engine.mapping → new.engine.mapping.moved ≡ e.mapping.moved → IsWell flash d
     → IsTrue None (ram new.engine) (image_in flash d.engine) → IsWell flash new
-read_well {N} flash d new e memory kept is moved well truth =
+read_well {N} flash d new e memory kept is limits moved well truth =
     let s : flash new.engine.nand ≡ flash d.engine.nand = ap (λ (z : Device N). flash z.engine.nand) is ∙ kept in
     let whole : ram new.engine ≡ record (ram d.engine) { mapping = new.engine.mapping } = ap (λ (z : Device N). ram z.engine) is ∙ ap (λ (r : Ram). record r { mapping = new.engine.mapping }) memory in
     let fault : new.engine.fault ≡ d.engine.fault = ap (λ (r : Ram). r.fault) whole in
     let same : new.engine.mapping.moved ≡ d.engine.mapping.moved = moved ∙ ap (λ (r : Ram). r.mapping.moved) memory in
-    let its : PinIsTrue d.engine.fault (ram new.engine) (image_in flash d.engine) = pin_mapped d.engine.fault (ram d.engine) (ram new.engine) (image_in flash d.engine) whole same well.pinned in
+    let its : PinIsTrue d.engine.fault (ram new.engine) (image_in flash d.engine) = pin_mapped d.engine.fault (ram d.engine) (ram new.engine) (image_in flash d.engine) whole (limits.share ∙ ap (λ (r : Ram). r.mapping.share) memory) same well.pinned in
     record {
       going = ap stop_of fault ∙ well.going;
       truth = subst (λ (f : Flash). IsTrue None (ram new.engine) f.image) (sym s) truth;
@@ -191,7 +199,7 @@ wrote_back (Ok done) old new page is = inr (page, is)
 wrote_back (Err e) old new page is = tt
 
 -- what was looked for was prepared
-pub prepared_by : {A : Type 0} (result : Result A EngineFault) (old room placed found : Ram) (fault : Option EngineFault) → HasMadeRoom false old room → HasWrittenBack room.mapping placed.mapping → found ≡ record placed { fault = fault } → OnOk result (IsPrepared old found.mapping)
+pub prepared_by : {A : Type 0} (result : Result A EngineFault) (old room placed found : Ram) (fault : Option EngineFault) → HasMadeRoom 9 false old room → HasWrittenBack room.mapping placed.mapping → found ≡ record placed { fault = fault } → OnOk result (IsPrepared old found.mapping)
 prepared_by (Ok done) old room placed found fault made place is = (let P : MappingState → Type 0 = λ m. IsPrepared old m in subst P (sym (ap (λ (r : Ram). r.mapping) is)) (record { room = room; made = made; place = place }))
 prepared_by (Err e) old room placed found fault made place is = tt
 

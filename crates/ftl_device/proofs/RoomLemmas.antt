@@ -68,12 +68,12 @@ room_tells (Err SequenceSpent) a b s t goes h = h
 room_tells (Err Damaged) a b s t goes h = tt
 room_tells (Err Bus) a b s t goes h = tt
 
-pub room_made : {N : Type 0} (flushing : Bool) (result : Result (Unit {0}) EngineFault) (e f : Engine N)
-    → OnOk result ((blocks : List ℕ) × Collects flushing (ram e) blocks (ram f)) → (9 ≤ free_count (ram e).blocks → IsOk result × (f ≡ e))
-    → GoesOn (ram e) (ram f) → KeepsKeys e.mapping f.mapping → OnOk result (HasRoom (ram f)) → OnOk result (IsCalm (ram f))
-    → OnOk result (HasMadeRoom flushing (ram e) (ram f))
-room_made flushing (Ok done) e f collects rests goes keys room calm = record { collects = collects; rests = λ nine. ap (λ (z : Engine _). ram z) (rests nine).1; goes = goes; keys = keys; room = room; calm = calm }
-room_made flushing (Err fault) e f collects rests goes keys room calm = tt
+pub room_made : {N : Type 0} (many : ℕ) (flushing : Bool) (result : Result (Unit {0}) EngineFault) (e f : Engine N)
+    → OnOk result ((blocks : List ℕ) × Collects many flushing (ram e) blocks (ram f)) → (many ≤ free_count (ram e).blocks → IsOk result × (f ≡ e))
+    → GoesOn (ram e) (ram f) → KeepsKeys e.mapping f.mapping → OnOk result (HasRoom many (ram f)) → OnOk result (IsCalm (ram f))
+    → OnOk result (HasMadeRoom many flushing (ram e) (ram f))
+room_made many flushing (Ok done) e f collects rests goes keys room calm = record { collects = collects; rests = λ enough. ap (λ (z : Engine _). ram z) (rests enough).1; goes = goes; keys = keys; room = room; calm = calm }
+room_made many flushing (Err fault) e f collects rests goes keys room calm = tt
 
 -- a translation page that lacked no row lacks none
 clean_now : (a b : Ram) → IsRam a → IsRam b → b.geometry ≡ a.geometry → Refreshes a b → IsCalm b → KeepsClean a.geometry a.mapping b.mapping
@@ -112,6 +112,13 @@ refused_room a b x y ReadOnly r few = record { truth = r.truth; array = r.array;
 refused_room a b x y SequenceSpent r few = record { truth = r.truth; array = r.array; versions = r.versions; few = few_more b (few (λ e. (let no : ⊥ = cc in no))) }
 refused_room a b x y Damaged r few = r
 refused_room a b x y Bus r few = tt
+
+pub room_keeps : {N : Type 0} (view : View N) (result : Result (Unit {0}) EngineFault) (e f : Engine N)
+    → MatchResult result (λ done. IsRearranged (ram e) (image_in view.flash e) (ram f) (image_in view.flash f)) (RoomRefused (ram e) (image_in view.flash e) (ram f) (image_in view.flash f))
+    → MatchResult result (λ done. Knows (ram f) (image_in view.flash f)) (λ fault. fault ≢ Bus → PinIsFew 0 (ram f))
+    → MatchResult result (λ done. KeepsArray e.geometry (image_in view.flash e) (ram f) (image_in view.flash f)) (λ fault. CallRefused e.geometry (image_in view.flash e) (ram f) (image_in view.flash f) (OfEngine fault))
+room_keeps view (Ok done) e f r k = keeps_room (ram e) (ram f) (image_in view.flash e) (image_in view.flash f) r k
+room_keeps view (Err fault) e f r few = refused_room (ram e) (ram f) (image_in view.flash e) (image_in view.flash f) fault r few
 
 -- what is known of the pinned block then: where nothing was done it is as it was, and else none is pinned
 pub room_knows : {N : Type 0} (view : View N) (result : Result (Unit {0}) EngineFault) (e f : Engine N)

@@ -1,7 +1,7 @@
 -- What a call costs once room was made, one page after another, and what that says of its free and its failed blocks.
 use Rattle.std.proofs.Common.{◌≡◌, inl, inr, ℕ, ◌+◌, ◌*◌, ◌<◌, ◌≤◌, ◌⊎◌, ◌∙◌, Bool, true, false, Option, Result, Ok, Err, IfErr, refl, sym, ap, subst, arith}
 use Rattle.page_layout.specs.declared.geometry.Geometry.{Geometry}
-use Rattle.page_layout.specs.Geometry.{need}
+use Rattle.page_layout.specs.Geometry.{need_at}
 use Rattle.bad_blocks.specs.Table.{good_count}
 use Rattle.budget.specs.declared.stream.Stream.{Stream}
 use Rattle.budget.specs.declared.stream.Stream.TheVariants.{Data, Meta}
@@ -20,19 +20,19 @@ use Rattle.collection.specs.State.{Ram}
 use Rattle.collection.specs.Safe.{IsRam}
 use Rattle.collection.specs.Cost.{HasPut, HasRunOut, PageCosts, WriteBackCosts}
 use Rattle.collection.specs.Looks.{IsReadFault}
-use Rattle.collection.specs.Collect.{RoomCounts, RescueCosts}
+use Rattle.collection.specs.Collect.{LacksBlocks, RoomCounts, RescueCosts}
 use Rattle.collection.specs.Results.{Goes}
 use Rattle.ftl_device.specs.declared.fault.CallFault.{CallFault}
 use Rattle.ftl_device.specs.declared.fault.CallFault.TheVariants as call
 use Rattle.ftl_device.specs.declared.fault.CallFault.TheVariants.{Engine}
 use Rattle.ftl_device.specs.Begin.{is_scarce}
 use Rattle.ftl_device.specs.Calls.{Tells, HasMadeRoom}
-use Rattle.ftl_device.specs.Flush.{WritesTables, RunsOut}
 use Rattle.ftl_device.specs.Shortage.{HasUsed, HasFoundNoBlock, LacksGood, AfterRoom, UsesRoom, FailsRoom, PlaceCosts, RoomCosts, CallRoomCosts, CallShort}
 use Rattle.ftl_device.specs.Shortage.{FlushFunded, FlushCounts, FlushShort}
 use Rattle.ftl_device.proofs.RoomLemmas.{good_fewer, goes_on}
 use Rattle.ftl_device.proofs.FlushLoops.{free_most}
-use Rattle.ftl_device.proofs.ShortageLemmas.{used_from, leaves, out, tables_leave}
+use Rattle.ftl_device.proofs.FlushRooms.{HasTableRoom}
+use Rattle.ftl_device.proofs.ShortageLemmas.{used_from, leaves, out}
 
 -- ---- pages
 
@@ -98,12 +98,17 @@ place_costs (Err Bus) a b h = tt
 
 -- ---- room
 
-module _ (known : Type 0) where
-  pub after_room : (a b : Ram) → IsRam b → HasMadeRoom false a b → (known → RoomCounts 0 a b (Ok tt)) → AfterRoom known a b
-  after_room a b safe room h = record { safe = safe; room = room; nine = λ k. (h k).nine }
+-- nine blocks are free unless fewer are good than are needed
+lacks_or_nine : (a b : Ram) → LacksBlocks 9 a b ⊎ (9 ≤ free_count b.blocks) → (good_count b.blocks.table < need_at a.geometry a.mapping.share) ⊎ (9 ≤ free_count b.blocks)
+lacks_or_nine a b (inl few) = inl (omega (arith, few))
+lacks_or_nine a b (inr nine) = inr nine
 
-  pub room_refused : (fault : EngineFault) (a b : Ram) → Tells {A = Unit {0}} a b (Err fault) → (known → RoomCounts 0 a b (Err fault)) → RoomCosts {A = Option ℕ} known 1 a b (Err fault)
-  room_refused ReadOnly a b tells h = inl (record { scarce = tells.0; lacks = λ k. elim (h k) [ inl few ↦ inl few | inr three ↦ inr (omega arith) ] })
+module _ (known : Type 0) where
+  pub after_room : (a b : Ram) → IsRam b → HasMadeRoom 9 false a b → (known → RoomCounts 9 0 a b (Ok tt)) → AfterRoom known a b
+  after_room a b safe room h = record { safe = safe; room = room; nine = λ k. lacks_or_nine a b (h k).wanted }
+
+  pub room_refused : (fault : EngineFault) (a b : Ram) → Tells {A = Unit {0}} a b (Err fault) → (known → RoomCounts 9 0 a b (Err fault)) → RoomCosts {A = Option ℕ} known 1 a b (Err fault)
+  room_refused ReadOnly a b tells h = inl (record { scarce = tells.0; lacks = λ k. elim (h k) [ inl few ↦ inl (omega (arith, few)) | inr three ↦ inr (omega (arith, three)) ] })
   room_refused SequenceSpent a b tells h = tt
   room_refused Damaged a b tells h = tt
   room_refused Bus a b tells h = tt
@@ -207,9 +212,9 @@ pub funded_here : (f : ℕ) (r : Ram) → IsFunded r.geometry.pages f (counts_of
 funded_here f r h = inr (0, omega arith, (let e : f + 0 ≡ f = omega arith in rw e h))
 
 -- room was made, and then a translation page written back
-pub written_counts : (f : ℕ) (result : Result (Unit {0}) EngineFault) (a b c : Ram) → IsRam b → b.geometry ≡ a.geometry → RoomCounts f a b (Ok tt) → WriteBackCosts b c result → FlushCounts f a c result
-written_counts f (Ok done) a b c s same room p = elim room.nine [
-  | inl few ↦ inl (omega (arith, p.put.good))
+pub written_counts : (f : ℕ) (result : Result (Unit {0}) EngineFault) (a b c : Ram) → IsRam b → b.geometry ≡ a.geometry → RoomCounts 9 f a b (Ok tt) → WriteBackCosts b c result → FlushCounts f a c result
+written_counts f (Ok done) a b c s same room p = elim (lacks_or_nine a b room.wanted) [
+  | inl few ↦ inl (omega (arith, few, p.put.good))
   | inr nine ↦
       let here : Fits b.geometry.pages (counts_of b.blocks) = subst (λ (g : Geometry). Fits g.pages (counts_of b.blocks)) s.blocks_of (fits (free_count b.blocks) b.blocks s.blocks) in
       let its : IsFunded b.geometry.pages p.failures (counts_of c.blocks) = put_funded Meta b.geometry.pages p.failures (counts_of b.blocks) (counts_of c.blocks) here p.put (omega arith) in
@@ -221,41 +226,41 @@ written_counts f (Ok done) a b c s same room p = elim room.nine [
             (slack b.geometry.pages p.failures (f + (room.its_failures + p.failures)) (counts_of c.blocks) (omega arith) its),
       )
 ]
-written_counts f (Err ReadOnly) a b c s same room h = elim room.nine [
-  | inl few ↦ inl (omega (arith, h.found.good))
+written_counts f (Err ReadOnly) a b c s same room h = elim (lacks_or_nine a b room.wanted) [
+  | inl few ↦ inl (omega (arith, few, h.found.good))
   | inr nine ↦ (let gone = free_most h.failures (free_count b.blocks) (counts_of b.blocks).meta_left h.found.none in inr (omega (arith, gone, h.found.good, room.good)))
 ]
 written_counts f (Err SequenceSpent) a b c s same room h = tt
 written_counts f (Err Damaged) a b c s same room h = tt
 written_counts f (Err Bus) a b c s same room h = tt
 
-pub unroomed_counts : (f : ℕ) (fault : EngineFault) (a b : Ram) → RoomCounts f a b (Err fault) → FlushCounts f a b (Err fault)
-unroomed_counts f ReadOnly a b h = h
+pub unroomed_counts : (f : ℕ) (fault : EngineFault) (a b : Ram) → RoomCounts 9 f a b (Err fault) → FlushCounts f a b (Err fault)
+unroomed_counts f ReadOnly a b h = elim h [ inl few ↦ inl (omega (arith, few)) | inr three ↦ inr three ]
 unroomed_counts f SequenceSpent a b h = tt
 unroomed_counts f Damaged a b h = tt
 unroomed_counts f Bus a b h = tt
 
 -- one page after another
-pub counts_then : (f : ℕ) (result : Result (Unit {0}) EngineFault) (a b c : Ram) → b.geometry ≡ a.geometry → Tells b c result → FlushFunded f a b → ((g : ℕ) → IsFunded b.geometry.pages g (counts_of b.blocks) → FlushCounts g b c result) → FlushCounts f a c result
-counts_then f (Ok done) a b c same tells (inl few) h = inl (omega arith)
-counts_then f (Ok done) a b c same tells (inr so) h =
-    let needed : need b.geometry ≡ need a.geometry = ap need same in
+pub counts_then : (f : ℕ) (result : Result (Unit {0}) EngineFault) (a b c : Ram) → b.geometry ≡ a.geometry → b.mapping.share ≡ a.mapping.share → Tells b c result → FlushFunded f a b → ((g : ℕ) → IsFunded b.geometry.pages g (counts_of b.blocks) → FlushCounts g b c result) → FlushCounts f a c result
+counts_then f (Ok done) a b c same share tells (inl few) h = inl (omega arith)
+counts_then f (Ok done) a b c same share tells (inr so) h =
+    let needed : need_at b.geometry b.mapping.share ≡ need_at a.geometry a.mapping.share = rw (same, share) refl in
     elim (h (f + so.0) (subst (λ (g : Geometry). IsFunded g.pages (f + so.0) (counts_of b.blocks)) (sym same) so.2)) [
       | inl few ↦ inl (omega arith)
       | inr then ↦
           let e : f + (so.0 + then.0) ≡ f + so.0 + then.0 = omega arith in
           inr (so.0 + then.0, omega (arith, so.1, then.1), rw e (subst (λ (g : Geometry). IsFunded g.pages (f + so.0 + then.0) (counts_of c.blocks)) same then.2))
     ]
-counts_then f (Err ReadOnly) a b c same tells (inl few) h = inl (omega (arith, tells.1))
-counts_then f (Err ReadOnly) a b c same tells (inr so) h =
-    let needed : need b.geometry ≡ need a.geometry = ap need same in
+counts_then f (Err ReadOnly) a b c same share tells (inl few) h = inl (omega (arith, tells.1))
+counts_then f (Err ReadOnly) a b c same share tells (inr so) h =
+    let needed : need_at b.geometry b.mapping.share ≡ need_at a.geometry a.mapping.share = rw (same, share) refl in
     elim (h (f + so.0) (subst (λ (g : Geometry). IsFunded g.pages (f + so.0) (counts_of b.blocks)) (sym same) so.2)) [
       | inl few ↦ inl (omega arith)
       | inr three ↦ inr (omega (arith, so.1))
     ]
-counts_then f (Err SequenceSpent) a b c same tells so h = tt
-counts_then f (Err Damaged) a b c same tells so h = tt
-counts_then f (Err Bus) a b c same tells so h = tt
+counts_then f (Err SequenceSpent) a b c same share tells so h = tt
+counts_then f (Err Damaged) a b c same share tells so h = tt
+counts_then f (Err Bus) a b c same share tells so h = tt
 
 -- the whole of it
 pub flush_first : (fault : EngineFault) (a b : Ram) → FlushCounts 0 a b (Err fault) → FlushShort a b (Err (Engine fault))
@@ -264,32 +269,17 @@ flush_first SequenceSpent a b h = tt
 flush_first Damaged a b h = tt
 flush_first Bus a b h = tt
 
-pub flush_room : (fault : EngineFault) (a b c : Ram) → b.geometry ≡ a.geometry → Tells {A = Unit {0}} b c (Err fault) → FlushFunded 0 a b → ((g : ℕ) → IsFunded b.geometry.pages g (counts_of b.blocks) → RoomCounts g b c (Err fault)) → FlushShort a c (Err (Engine fault))
-flush_room fault a b c same tells so h = flush_first fault a c (counts_then 0 (Err fault) a b c same tells so (λ g funded. unroomed_counts g fault b c (h g funded)))
+pub flush_room : (fault : EngineFault) (a b c : Ram) → b.geometry ≡ a.geometry → b.mapping.share ≡ a.mapping.share → Tells {A = Unit {0}} b c (Err fault) → FlushFunded 0 a b → ((g : ℕ) → IsFunded b.geometry.pages g (counts_of b.blocks) → RoomCounts 9 g b c (Err fault)) → FlushShort a c (Err (Engine fault))
+flush_room fault a b c same share tells so h = flush_first fault a c (counts_then 0 (Err fault) a b c same share tells so (λ g funded. unroomed_counts g fault b c (h g funded)))
 
-module _ (a b c d : Ram) (same : b.geometry ≡ a.geometry) (fewer : good_count c.blocks.table ≤ good_count b.blocks.table) (so : FlushFunded 0 a b) (h : (g : ℕ) → IsFunded b.geometry.pages g (counts_of b.blocks) → RoomCounts g b c (Ok tt)) where
-  -- nine are free, or too few good, or too few were good before
-  nine : (good_count c.blocks.table < need a.geometry) ⊎ ((9 ≤ free_count c.blocks) × (good_count c.blocks.table ≤ good_count a.blocks.table))
-  nine = by so
-    where
-      by : FlushFunded 0 a b → (good_count c.blocks.table < need a.geometry) ⊎ ((9 ≤ free_count c.blocks) × (good_count c.blocks.table ≤ good_count a.blocks.table))
-      by (inl few) = inl (omega arith)
-      by (inr its) =
-          let needed : need b.geometry ≡ need a.geometry = ap need same in
-          let room = h its.0 (subst (λ (g : Geometry). IsFunded g.pages its.0 (counts_of b.blocks)) (sym same) (let e : 0 + its.0 ≡ its.0 = omega arith in rw (← e) its.2)) in
-          elim room.nine [ inl few ↦ inl (omega arith) | inr free ↦ inr (free, omega (arith, its.1)) ]
-
-  pub flush_done : good_count d.blocks.table ≤ good_count c.blocks.table → WritesTables c d → FlushShort a d (Ok tt)
-  flush_done less w = elim nine [
-    | inl few ↦ inl (inl (omega arith))
-    | inr free ↦ elim (tables_leave c d free.0 w).five [ inl five ↦ inr (inr five) | inr two ↦ inr (inl (omega (arith, free.1))) ]
-  ]
-
-  pub flush_stuck : good_count d.blocks.table ≤ good_count c.blocks.table → RunsOut c d → LacksGood a d
-  flush_stuck less w = elim nine [
-    | inl few ↦ inl (omega arith)
-    | inr free ↦ inr (omega (arith, free.0, free.1))
-  ]
+-- nine are free for the table pages, or too few good, or too few were good before
+pub table_room : (a b c : Ram) → b.geometry ≡ a.geometry → b.mapping.share ≡ a.mapping.share → good_count c.blocks.table ≤ good_count b.blocks.table → FlushFunded 0 a b
+    → ((g : ℕ) → IsFunded b.geometry.pages g (counts_of b.blocks) → RoomCounts 9 g b c (Ok tt)) → HasTableRoom a c
+table_room a b c same share fewer (inl few) h = inl (inl (omega (arith, few, fewer)))
+table_room a b c same share fewer (inr its) h =
+    let needed : need_at b.geometry b.mapping.share ≡ need_at a.geometry a.mapping.share = rw (same, share) refl in
+    let room = h its.0 (subst (λ (g : Geometry). IsFunded g.pages its.0 (counts_of b.blocks)) (sym same) (let e : 0 + its.0 ≡ its.0 = omega arith in rw (← e) its.2)) in
+    elim (lacks_or_nine b c room.wanted) [ inl few ↦ inl (inl (omega (arith, few, needed))) | inr free ↦ inr (free, omega (arith, its.1, fewer)) ]
 
 abbrev engine_err : EngineFault → Result (Unit {0}) EngineFault
 engine_err fault = Err fault
@@ -329,13 +319,13 @@ account_out stream a b c d m one nine acc h =
     let gone = stuck stream a.geometry.pages h.failures d m (counts_of a.blocks) (counts_of b.blocks) (counts_of c.blocks) acc few h.found in
     omega (arith, gone.few)
 
-module _ (a b c : Ram) (s : IsRam a) (t : IsRam b) (u : IsRam c) (room : HasMadeRoom false a b) (goes : Goes b c) (nine : RoomCounts 0 a b (Ok tt)) where
+module _ (a b c : Ram) (s : IsRam a) (t : IsRam b) (u : IsRam c) (room : HasMadeRoom 9 false a b) (goes : Goes b c) (nine : RoomCounts 9 0 a b (Ok tt)) where
   less_then : good_count c.blocks.table ≤ good_count b.blocks.table
   less_then = good_fewer b c t u (goes_on b c t goes)
 
   pub rescue_short : (found : Bool) → RescueCosts b c (Ok found) → LacksGood a c ⊎ (5 ≤ free_count c.blocks)
-  rescue_short found cost = elim nine.nine [
-    | inl few ↦ inl (inl (omega (arith, less_then)))
+  rescue_short found cost = elim (lacks_or_nine a b nine.wanted) [
+    | inl few ↦ inl (inl (omega (arith, few, less_then)))
     | inr free ↦ by found cost free
   ]
     where
@@ -344,16 +334,16 @@ module _ (a b c : Ram) (s : IsRam a) (t : IsRam b) (u : IsRam c) (room : HasMade
       by true h free = elim (account_leaves b c h.data_pages h.meta_pages h.few free h.programmed.account) [ inl five ↦ inr five | inr three ↦ inl (inr (omega (arith, good_fewer a b s t room.goes))) ]
 
   pub rescue_stuck : (fault : EngineFault) → RescueCosts b c (Err fault) → CallShort a c (Err (Engine fault))
-  rescue_stuck ReadOnly h = elim nine.nine [
-    | inl few ↦ inl (omega (arith, less_then))
+  rescue_stuck ReadOnly h = elim (lacks_or_nine a b nine.wanted) [
+    | inl few ↦ inl (omega (arith, few, less_then))
     | inr free ↦ (let three = account_out h.out.stream b h.mid c h.data_pages h.meta_pages h.few free h.programmed.account h.out.out in inr (omega (arith, good_fewer a b s t room.goes)))
   ]
   rescue_stuck SequenceSpent h = tt
   rescue_stuck Damaged h = tt
   rescue_stuck Bus h = tt
 
-pub unroomed_short : (fault : EngineFault) (a b : Ram) → RoomCounts 0 a b (Err fault) → CallShort a b (Err (Engine fault))
-unroomed_short ReadOnly a b h = elim h [ inl few ↦ inl few | inr three ↦ inr (omega arith) ]
+pub unroomed_short : (fault : EngineFault) (a b : Ram) → RoomCounts 9 0 a b (Err fault) → CallShort a b (Err (Engine fault))
+unroomed_short ReadOnly a b h = elim h [ inl few ↦ inl (omega (arith, few)) | inr three ↦ inr (omega (arith, three)) ]
 unroomed_short SequenceSpent a b h = tt
 unroomed_short Damaged a b h = tt
 unroomed_short Bus a b h = tt

@@ -24,8 +24,8 @@ use Rattle.ftl_device.proofs.BeginLemmas.{true_from_agreement}
 
 -- ---- the parts that an engine is made of
 
-pub begun_from : (g h : Geometry) (directory : List (Option ℕ)) (mapping : MappingState) (blocks : State) (next : ℕ) (c : Claim) (stale : List ℕ)
-    (r : Ram) → h ≡ g → directory ≡ c.directory → mapping ≡ begun_mapping h c stale → blocks ≡ begun h c.blocks → next ≡ c.next
+pub begun_from : (share : ℕ) (g h : Geometry) (directory : List (Option ℕ)) (mapping : MappingState) (blocks : State) (next : ℕ) (c : Claim) (stale : List ℕ)
+    (r : Ram) → h ≡ g → directory ≡ c.directory → mapping ≡ begun_mapping h share c stale → blocks ≡ begun h c.blocks → next ≡ c.next
     → r ≡
     record {
       geometry = h;
@@ -36,10 +36,10 @@ pub begun_from : (g h : Geometry) (directory : List (Option ℕ)) (mapping : Map
       fault = None;
       pin =
           record { block = None; marks = replicate (translation_pages h) false };
-    } → r ≡ begun_ram g c stale
-begun_from g h directory mapping blocks next c stale r same d m b n is =
-    let whole : r ≡ begun_ram h c stale = cc in
-    whole ∙ ap (λ x. begun_ram x c stale) same
+    } → r ≡ begun_ram g share c stale
+begun_from share g h directory mapping blocks next c stale r same d m b n is =
+    let whole : r ≡ begun_ram h share c stale = cc in
+    whole ∙ ap (λ x. begun_ram x share c stale) same
 
 row_at : (rows : ℕ) (os : List (Option ℕ)) (k row : ℕ) → AllByRecursion (IsRowOf rows) os → slice_get os k ≡ Some (Some row) → row < rows
 row_at rows [] k row h at = absurd (let clash : None ≡ Some (Some row) = at in cc)
@@ -55,21 +55,21 @@ directory_row h c directory k row fits same is at =
 -- ---- what it begins with
 
 -- nothing is pinned, moved or marked yet
-pub started_calm : (g : Geometry) (c : Claim) (stale : List ℕ) (r : Ram) → r ≡ begun_ram g c stale → IsCalm r
-started_calm g c stale r is = subst IsCalm (sym is) (record { unmarked = refl; pinned = refl })
+pub started_calm : (share : ℕ) (g : Geometry) (c : Claim) (stale : List ℕ) (r : Ram) → r ≡ begun_ram g share c stale → IsCalm r
+started_calm share g c stale r is = subst IsCalm (sym is) (record { unmarked = refl; pinned = omega arith })
 
 -- the count of free blocks that was looked at is the engine's
 pub same_scarce : (n : ℕ) (r whole : Ram) → n ≡ free_count whole.blocks → r ≡ whole → is_scarce n ≡ is_scarce (free_count r.blocks)
 same_scarce n r whole counted is = ap is_scarce (counted ∙ sym (ap (λ (x : Ram). free_count x.blocks) is))
 
-pub started_good : (g : Geometry) (c : Claim) (stale : List ℕ) (r : Ram) → Fits c → r ≡ begun_ram g c stale → good_count r.blocks.table ≡ good_blocks c
-started_good g c stale r fits is = ap (λ (x : Ram). good_count x.blocks.table) is ∙ good_counted c.blocks fits.blocks
+pub started_good : (share : ℕ) (g : Geometry) (c : Claim) (stale : List ℕ) (r : Ram) → Fits c → r ≡ begun_ram g share c stale → good_count r.blocks.table ≡ good_blocks c
+started_good share g c stale r fits is = ap (λ (x : Ram). good_count x.blocks.table) is ∙ good_counted c.blocks fits.blocks
 
-module _ (s : Flash) (a : Acceptance) (r : Ram) (is : r ≡ begun_ram s.geometry a.claim a.stale) (accepted : IsAcceptedFor s a) where
+module _ (share : ℕ) (s : Flash) (a : Acceptance) (r : Ram) (is : r ≡ begun_ram s.geometry share a.claim a.stale) (accepted : IsAcceptedFor s a) where
   pub started_truth : IsTrue None r s.image
   started_truth =
-      let exactly : r ≡ begun_ram s.geometry a.claim (stale_sectors s.geometry s.image) = is ∙ ap (begun_ram s.geometry a.claim) accepted.accepted.stale_is in
-      subst (λ x. IsTrue None x s.image) (sym exactly) (true_from_agreement s.geometry a.claim.capacity s.image a.claim accepted.whole accepted.accepted.agrees)
+      let exactly : r ≡ begun_ram s.geometry share a.claim (stale_sectors s.geometry s.image) = is ∙ ap (begun_ram s.geometry share a.claim) accepted.accepted.stale_is in
+      subst (λ x. IsTrue None x s.image) (sym exactly) (true_from_agreement s.geometry share a.claim.capacity s.image a.claim accepted.whole accepted.accepted.agrees)
 
   pub started_free : is_scarce (free_count r.blocks) ≡ is_scarce (free_in s.geometry a.claim s.image)
   started_free = ap (λ (x : Ram). is_scarce (free_count x.blocks)) is ∙ ap is_scarce (free_counted s.geometry a.claim.capacity s.image a.claim accepted.accepted.agrees)

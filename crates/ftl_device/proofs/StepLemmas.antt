@@ -1,12 +1,13 @@
 -- A step of the pinned block, as a turn takes it.
-use Rattle.std.proofs.Common.{◌≡◌, ◌≢◌, ◌⊎◌, ℕ, ◌+◌, ◌-◌, ◌^◌, ◌<◌, ◌≤◌, ◌==◌, ◌&&◌, ◌||◌, ◌∙◌, inl, inr, not, Bool, true, false, List, [], length, IsSome, None, Option, Some, Result, Ok, Err, OnOk, MatchResult, MatchOption, refl, sym, ap, subst, arith}
+use Rattle.std.proofs.Common.{◌≡◌, ◌≢◌, ◌⊎◌, ℕ, ◌+◌, ◌-◌, ◌^◌, ◌<◌, ◌≤◌, ◌==◌, ◌&&◌, ◌||◌, ◌∙◌, inl, inr, not, Bool, true, false, List, [], length, min, IsSome, None, Option, Some, Result, Ok, Err, OnOk, MatchResult, MatchOption, refl, sym, ap, subst, arith}
 use Rattle.std.proofs.lemmas.Bool.{cases_lt}
 use Rattle.page_layout.specs.View.{View}
 use Rattle.page_layout.specs.DieCalls.{AskedNothing}
 use Rattle.page_layout.specs.Counter.{counted, HasRisen}
 use Rattle.page_layout.specs.declared.geometry.Geometry.{Geometry}
 use Rattle.page_layout.specs.Page.{Image}
-use Rattle.page_layout.specs.Geometry.{vmax}
+use Rattle.page_layout.specs.Geometry.{vmax_at}
+use Rattle.budget.proofs.CopyLemmas.{copies_fit_at}
 use Rattle.page_layout.specs.Array.{marks, array_of}
 use Rattle.page_layout.specs.Version.{AddsNoOld}
 use Rattle.bad_blocks.specs.Table.{is_good_at, good_count}
@@ -22,10 +23,11 @@ use Rattle.collection.specs.State.{Ram}
 use Rattle.collection.specs.Safe.{IsSafe, IsRam, is_shut, ram, image_in}
 use Rattle.collection.specs.Truth.{IsTrue}
 use Rattle.collection.specs.Results.{IsSame, Refused}
-use Rattle.collection.specs.Collect.{GoesBut, GoesOn, FaultCosts, IsRearranged, HasAiling, HasNoneAiling}
+use Rattle.collection.specs.Collect.{waiting, GoesBut, GoesOn, FaultCosts, IsRearranged, HasAiling, HasNoneAiling}
 use Rattle.collection.specs.Left.{IsCalm, IsHalfDone, PinIsFew, PinHasPassed, StepsOn, StepSpends, HasStepped, PinsOn, left, left_in, left_of}
 use Rattle.collection.specs.Turns.{erases_told}
-use Rattle.collection.specs.Room.{IsMade, IsWorth}
+use Rattle.collection.specs.declared.engine.room.Reserve.TheVariants as reserve
+use Rattle.collection.specs.Room.{IsMade, IsWorth, wanted}
 use Rattle.collection.specs.Acts.{RestsOrErases}
 use Rattle.ftl_device.specs.declared.fault.CallFault.TheVariants.{Engine as OfEngine}
 use Rattle.ftl_device.specs.Calls.{Tells, Knows, KeepsArray, CallRefused, HasWorked, KeepsBad, HasLess, HasFallen, IsQuiet}
@@ -73,7 +75,7 @@ some_pin None some = (let no : ⊥ = cc in absurd no)
 some_pin (Some p) some = (p, refl)
 
 pub pinned_half : (r : Ram) (p : Pinned) → IsCalm r → r.pin.block ≡ Some p → IsHalfDone r p
-pinned_half r p calm is = subst (λ o. MatchOption o (r.mapping.moved ≡ []) (IsHalfDone r)) is calm.pinned
+pinned_half r p calm is = subst (λ o. MatchOption o (length r.mapping.moved ≤ waiting r) (IsHalfDone r)) is calm.pinned
 
 -- bad blocks stay as they are
 pub step_goes_on : (p : Pinned) (a b : Ram) → IsHalfDone a p → GoesBut p.block a b → GoesOn a b
@@ -128,15 +130,16 @@ stays_pinned p pages pin WroteBack next ne = (pages, next)
 stays_pinned p pages pin Erased next ne = absurd (ne refl)
 
 -- it has erased, or less is left
-pub step_less : (p : Pinned) (a b : Ram) (x y : Image) (step : Step) (n m : ℕ) → a.pin.block ≡ Some p → HasStepped false p a b step → m ≡ erases_told step n → StepsOn false p a x b y step → HasRisen n m ⊎ (left b y < left a x)
-step_less p a b x y step n m at h e s = by step refl
+pub step_less : (p : Pinned) (a b : Ram) (x y : Image) (step : Step) (n m : ℕ) → IsRam a → Knows a x → a.pin.block ≡ Some p → HasStepped false p a b step → m ≡ erases_told step n → StepsOn false p a x b y step → HasRisen n m ⊎ (left b y < left a x)
+step_less p a b x y step n m safe k at h e s = by step refl
   where
     now : step ≢ Erased → left b y < left a x
     now ne =
-        let was : left a x ≡ left_in false a x p.block = ap (λ o. left_of o a x) at in
+        let was : left a x ≡ min (left_in false a x p.block) (a.geometry.pages - 1) = ap (λ o. left_of o a x) at in
+        let below = left_law a x p safe k.truth (k.few p at) in
         let pin = stays_pinned p a.geometry.pages b.pin.block step h.next ne in
-        let l : left b y ≡ left_in false b y p.block = ap (λ o. left_of o b y) pin.1 in
-        omega (arith, l, was, s.left ne)
+        let l : left b y ≡ min (left_in false b y p.block) (b.geometry.pages - 1) = ap (λ o. left_of o b y) pin.1 in
+        omega (arith, l, was, below, s.left ne)
 
     by : (its : Step) → step ≡ its → HasRisen n m ⊎ (left b y < left a x)
     by Copied is = inr (now (λ no. (let same : Copied ≡ Erased = sym is ∙ no in let never : ⊥ = cc in never)))
@@ -156,9 +159,10 @@ module _ (p : Pinned) (a b : Ram) (x y : Image) (s : IsRam a) (t : IsRam b) (sam
       let half = pinned_half a q k.calm was in
       let few = k.few q was in
       let fewer = shut_fewer a b x y q.block s t same k.truth truth leaves half.within (closed_shut a.blocks q.block half.closed) in
-      let v : vmax b.geometry ≡ vmax a.geometry = ap vmax same in
+      let v : vmax_at b.geometry b.mapping.share ≡ vmax_at a.geometry a.mapping.share = rw (same, mapping) refl in
+      let w : waiting b ≡ waiting a = rw (same, mapping) refl in
       let m : length b.mapping.moved ≡ length a.mapping.moved = ap (λ (z : Rattle.mapping_cache.specs.Mapping.MappingState). length z.moved) mapping in
-      record { within = (let lt = few.within in rw same lt); small = omega (arith, fewer, few.small, v); moved = omega (arith, fewer, few.moved, v, m) }
+      record { within = (let lt = few.within in rw same lt); small = omega (arith, fewer, few.small, v); moved = omega (arith, fewer, few.moved, v, w, m) }
 
   pub step_refused : (fault : EngineFault) → b.pin.block ≡ a.pin.block → b.mapping ≡ a.mapping → Refused a x b y fault → CallRefused a.geometry x b y (OfEngine fault)
   step_refused ReadOnly pin mapping r = record { truth = r.truth; array = r.array; versions = r.leaves.versions }
@@ -174,8 +178,8 @@ ok_map (Err fault) f h = tt
 
 -- one is pinned, of a victim worth it
 module _ {N : Type 0} (view : View N) (e f : Engine N) (block : ℕ) (is : f ≡ record e { pinned = Some (record { block = block; first = 0 }) }) where
-  pub knows_pinned : IsRam (ram e) → IsCalm (ram f) → PinHasPassed (ram f) (image_in view.flash f) → IsWorth 3 (ram e) block → e.mapping.moved ≡ [] → Knows (ram e) (image_in view.flash e) → Knows (ram f) (image_in view.flash f)
-  knows_pinned s calm passed worth none k = record {
+  pub knows_pinned : (many : ℕ) → IsRam (ram e) → IsCalm (ram f) → PinHasPassed (ram f) (image_in view.flash f) → IsWorth many (ram e) block → length e.mapping.moved ≤ waiting (ram e) → Knows (ram e) (image_in view.flash e) → Knows (ram f) (image_in view.flash f)
+  knows_pinned many s calm passed worth none k = record {
     truth =
         (let P : Engine N → Type 0 = λ z. IsTrue None (ram z) (image_in view.flash z) in subst P (sym is)
         (record {
@@ -208,13 +212,11 @@ module _ {N : Type 0} (view : View N) (e f : Engine N) (block : ℕ) (is : f ≡
   less_pinned new none safe half k (inl rose) = inl (subst (λ n. HasRisen n (view.erases new.nand)) (ap (λ (z : Engine N). view.erases z.nand) is) rose)
   less_pinned new none safe half k (inr less) =
       let at : f.pinned ≡ Some (record { block = block; first = 0 }) = ap (λ (z : Engine N). z.pinned) is in
-      let l : left (ram f) (image_in view.flash f) ≡ left_in false (ram f) (image_in view.flash f) block = ap (λ o. left_of o (ram f) (image_in view.flash f)) at in
-      let few = few_more (ram f) k.few (record { block = block; first = 0 }) at in
-      let below = left_law (ram f) (image_in view.flash f) (record { block = block; first = 0 }) safe k.truth few in
+      let l : left (ram f) (image_in view.flash f) ≡ min (left_in false (ram f) (image_in view.flash f) block) (f.geometry.pages - 1) = ap (λ o. left_of o (ram f) (image_in view.flash f)) at in
       let g : f.geometry ≡ e.geometry = ap (λ (z : Engine N). z.geometry) is in
       let pages : f.geometry.pages ≡ e.geometry.pages = ap (λ (h : Geometry). h.pages) g in
       let was : left (ram e) (image_in view.flash e) ≡ e.geometry.pages - 1 = ap (λ o. left_of o (ram e) (image_in view.flash e)) none in
-      inr (omega (arith, less, l, below, pages, was))
+      inr (omega (arith, less, l, pages, was))
 
   pub goes_pinned : (new : Engine N) → GoesOn (ram f) (ram new) → GoesOn (ram e) (ram new)
   goes_pinned new g = (let P : Engine N → Type 0 = λ z. GoesOn (ram z) (ram new) → GoesOn (ram e) (ram new) in subst P (sym is) (λ h. record { geometry = h.geometry; next = h.next; bad = h.bad }) g)
@@ -285,13 +287,13 @@ module _ {N : Type 0} (view : View N) (e f : Engine N) (block : ℕ) (is : f ≡
       }
 
       limits_pinned : HasLimitsOf e.mapping f.mapping
-      limits_pinned = subst (λ (z : Engine N). HasLimitsOf e.mapping z.mapping) (sym is) (record { geometry = refl; capacity = refl })
+      limits_pinned = subst (λ (z : Engine N). HasLimitsOf e.mapping z.mapping) (sym is) (record { geometry = refl; capacity = refl; share = refl })
 
 -- none begins
 pub collects_none : {N : Type 0} (view : View N) (e : Engine N) → IsSafe view.flash e → e.fault ≡ None → IsCalm (ram e) → CollectsOn view e (Ok tt) e
 collects_none view e safe going calm_now = record {
   leaves = leaves_same view e safe going;
-  limits = record { geometry = refl; capacity = refl };
+  limits = record { geometry = refl; capacity = refl; share = refl };
   calm_memory = λ none. calm_now;
   goes = on_same (ram e);
   counts = inr (omega arith);
@@ -301,8 +303,8 @@ collects_none view e safe going calm_now = record {
 }
 
 -- no block is worth it, or so many are free
-pub quiet_none : {N : Type 0} (erases : N → ℕ) (e : Engine N) (x : Image) → IsMade 3 (ram e) → IsTrue None (ram e) x → IsQuiet erases e e
-quiet_none erases e x made w = inr (λ good. made.enough (marks x) w.live good)
+pub quiet_none : {N : Type 0} (erases : N → ℕ) (e : Engine N) (x : Image) → IsMade (wanted reserve.Turn (ram e)) (ram e) → IsTrue None (ram e) x → IsQuiet erases e e
+quiet_none erases e x made w = inr (λ good. made.enough (marks x) w.live (omega (arith, good)))
 
 -- ---- after room was made
 
@@ -321,12 +323,12 @@ pub fallen_then : {N : Type 0} (view : View N) (a b c : Engine N) → RestsOrEra
 fallen_then {N} view a b c (inl same) risen h = (let P : Engine N → Type 0 = λ z. HasFallen view z c in subst P same h)
 fallen_then view a b c (inr rose) risen h = inr (inl (risen (view.erases a.nand) rose.0))
 
--- with twelve free blocks and nothing pinned nothing is done for room, and no page is rescued that was in no bad block
+-- with as many free blocks as a turn wants and nothing pinned nothing is done for room, and no page is rescued that was in no bad block
 pub no_rescue : {N : Type 0} (a b : Engine N) → b ≡ a → HasNoneAiling (ram a).blocks → HasAiling (ram b).blocks → ⊥
 no_rescue {N} a b same none some = not_ailing (ram b).blocks (let P : Engine N → Type 0 = λ z. HasNoneAiling (ram z).blocks in subst P (sym same) none) some
 
-pub resting : {N : Type 0} (a b : Engine N) → b ≡ a → a.pinned ≡ None → 12 ≤ free_count (ram a).blocks → (b.pinned ≡ None) × (12 ≤ free_count (ram b).blocks)
-resting {N} a b same none twelve = (let P : Engine N → Type 0 = λ z. (z.pinned ≡ None) × (12 ≤ free_count (ram z).blocks) in subst P (sym same) (none, twelve))
+pub resting : {N : Type 0} (a b : Engine N) → b ≡ a → a.pinned ≡ None → wanted reserve.Turn (ram a) ≤ free_count (ram a).blocks → (b.pinned ≡ None) × (wanted reserve.Turn (ram b) ≤ free_count (ram b).blocks)
+resting {N} a b same none enough = (let P : Engine N → Type 0 = λ z. (z.pinned ≡ None) × (wanted reserve.Turn (ram z) ≤ free_count (ram z).blocks) in subst P (sym same) (none, enough))
 
 -- a bad block had one before and has none now: it was collected, or its last newest page has left it
 pub none_worked : {N : Type 0} (erases : N → ℕ) (a b c : Engine N) → RestsOrErases erases a b
@@ -351,13 +353,13 @@ used_more j k a b le u = record { data_pages = u.data_pages; meta_pages = u.meta
 abbrev of_call : Result (Unit {0}) CallFault → Result (Unit {0}) CallFault
 of_call r = r
 
-module _ (a b c : Ram) (s : IsRam a) (t : IsRam b) (u : IsRam c) (room : HasMadeRoom false a b) (goes : GoesOn b c) (nine : RoomCounts 0 a b (Ok tt)) where
+module _ (a b c : Ram) (s : IsRam a) (t : IsRam b) (u : IsRam c) (room : HasMadeRoom 9 false a b) (goes : GoesOn b c) (nine : RoomCounts 9 0 a b (Ok tt)) where
   pub step_short : StepCounts b c (Ok tt) → LacksGood a c ⊎ (5 ≤ free_count c.blocks)
   step_short counts =
       let less = good_fewer b c t u goes in
       let before = good_fewer a b s t room.goes in
-      elim nine.nine [
-        | inl few ↦ inl (inl (omega (arith, less)))
+      elim nine.wanted [
+        | inl few ↦ inl (inl (omega (arith, few, less)))
         | inr free ↦ elim counts [
           | inl used ↦ elim (leaves_five b c (of_call (Ok tt)) t free (used_more 1 2 b c (omega arith) used)) [ inl five ↦ inr five | inr three ↦ inl (inr (omega (arith, before))) ]
           | inr given ↦ elim (cases_lt (free_count c.blocks) 5) [ inl few ↦ inl (inr (omega (arith, before, given))) | inr five ↦ inr five ]
@@ -368,8 +370,8 @@ module _ (a b c : Ram) (s : IsRam a) (t : IsRam b) (u : IsRam c) (room : HasMade
   step_short_of ReadOnly h =
       let less = good_fewer b c t u goes in
       let before = good_fewer a b s t room.goes in
-      elim nine.nine [
-        | inl few ↦ inl (omega (arith, less))
+      elim nine.wanted [
+        | inl few ↦ inl (omega (arith, few, less))
         | inr free ↦ (let three = leaves_five b c (of_call (Err (OfEngine ReadOnly))) t free (record { mid = h.mid; geometry = h.geometry; used = used_more 0 1 b h.mid (omega arith) h.used; stream = h.stream; out = h.out }) in inr (omega (arith, before, three)))
       ]
   step_short_of SequenceSpent h = tt
@@ -378,29 +380,27 @@ module _ (a b c : Ram) (s : IsRam a) (t : IsRam b) (u : IsRam c) (room : HasMade
 
 -- ---- a rescue beside a pinned block
 
-vmax_less : (g : Geometry) → vmax g < g.pages
-vmax_less g = omega (arith, g.limits.page_count.least)
+vmax_less : (g : Geometry) (share : ℕ) → vmax_at g share < g.pages
+vmax_less g share = (let fits = copies_fit_at g share (vmax_at g share) (omega arith) in omega arith)
 
--- fewer sectors are moved than a block has pages
-pub moved_less : (r : Ram) (x : Image) → Knows r x → length r.mapping.moved < r.geometry.pages
+-- fewer sectors are moved than may wait, and one for each page of a block
+pub moved_less : (r : Ram) (x : Image) → Knows r x → length r.mapping.moved < waiting r + r.geometry.pages
 moved_less r x k = at r.pin.block refl
   where
-    at : (o : Option Pinned) → r.pin.block ≡ o → length r.mapping.moved < r.geometry.pages
-    at None is =
-        let none : r.mapping.moved ≡ [] = unpinned_moved r k.calm is in
-        let e : length r.mapping.moved ≡ 0 = ap (λ (l : List (ℕ × ℕ)). length l) none in
-        omega (arith, e, r.geometry.limits.page_count.least)
-    at (Some p) is = (let few = k.few p is in omega (arith, few.moved, vmax_less r.geometry))
+    at : (o : Option Pinned) → r.pin.block ≡ o → length r.mapping.moved < waiting r + r.geometry.pages
+    at None is = (let few = unpinned_moved r k.calm is in omega (arith, few, r.geometry.limits.page_count.least))
+    at (Some p) is = (let few = k.few p is in omega (arith, few.moved, vmax_less r.geometry r.mapping.share))
 
-module _ (b c : Ram) (y z : Image) (s : IsRam b) (t : IsRam c) (goes : Goes b c) (pin : c.pin ≡ b.pin) (more : length c.mapping.moved ≤ length b.mapping.moved + 1) (k : Knows b y) where
+module _ (b c : Ram) (y z : Image) (s : IsRam b) (t : IsRam c) (goes : Goes b c) (share : c.mapping.share ≡ b.mapping.share) (pin : c.pin ≡ b.pin) (more : length c.mapping.moved ≤ length b.mapping.moved + 1) (k : Knows b y) where
   few_rescued : IsTrue None c z → Rattle.collection.specs.Results.LeavesNewest b y z → PinIsFew 1 c
   few_rescued truth leaves q is =
       let was : b.pin.block ≡ Some q = sym (ap (λ (x : Pin). x.block) pin) ∙ is in
       let half = pinned_half b q k.calm was in
       let few = k.few q was in
       let fewer = shut_fewer b c y z q.block s t goes.geometry k.truth truth leaves half.within (closed_shut b.blocks q.block half.closed) in
-      let v : vmax c.geometry ≡ vmax b.geometry = ap vmax goes.geometry in
-      record { within = (let lt = few.within in rw goes.geometry lt); small = omega (arith, fewer, few.small, v); moved = omega (arith, fewer, few.moved, v, more) }
+      let v : vmax_at c.geometry c.mapping.share ≡ vmax_at b.geometry b.mapping.share = rw (goes.geometry, share) refl in
+      let w : waiting c ≡ waiting b = rw (goes.geometry, share) refl in
+      record { within = (let lt = few.within in rw goes.geometry lt); small = omega (arith, fewer, few.small, v); moved = omega (arith, fewer, few.moved, v, w, more) }
 
   pub rescue_refused : (fault : EngineFault) → Refused b y c z fault → CallRefused b.geometry y c z (OfEngine fault)
   rescue_refused ReadOnly r = record { truth = r.truth; array = r.array; versions = r.leaves.versions }

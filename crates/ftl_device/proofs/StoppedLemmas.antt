@@ -48,7 +48,7 @@ module _ {N : Type 0} (view : View N) where
   pub stops_on : (old mid new : Engine N) → mid.geometry ≡ old.geometry → HasLimitsOf old.mapping mid.mapping
       → array_of old.geometry (image_in view.flash mid) ≡ array_of old.geometry (image_in view.flash old) → StopsSafely view old mid
       → StopsSafely view mid new → StopsSafely view old new
-  stops_on old mid new same limits kept first next = stops_then (ram old) (ram mid) (view.flash old.nand) (view.flash mid.nand) (view.flash new.nand) _ _ _ (record { geometry = same; capacity = limits.capacity }) kept first next
+  stops_on old mid new same limits kept first next = stops_then (ram old) (ram mid) (view.flash old.nand) (view.flash mid.nand) (view.flash new.nand) _ _ _ (record { geometry = same; capacity = limits.capacity; share = limits.share }) kept first next
 
   -- ---- the whole call: one record, and so one log
 
@@ -75,12 +75,12 @@ module _ {N : Type 0} (view : View N) where
       | inr done ↦ inr (done.0, done.1, is)
     ]
 
-    pub stopped_call : SurvivesStops old.geometry old.mapping.capacity command result (image_in view.flash old) (image_in view.flash new) (view.recorded new.nand) log
+    pub stopped_call : SurvivesStops old.geometry (room_of (ram old)) command result (image_in view.flash old) (image_in view.flash new) (view.recorded new.nand) log
     stopped_call some left may =
         let l = left_by left some may in
         record {
           array = either left l.array;
-          mountable = λ most. (mountable old.geometry (old.mapping.capacity + old.geometry.pages) left may.whole.rows (omega (arith, safe.memory.mapping.holds_one)) most).1 l.orderly;
+          mountable = λ most. (mountable old.geometry (room_of (ram old)) left may.whole.rows (omega (arith, safe.memory.mapping.holds_one)) most).1 l.orderly;
         }
 
 -- ---- a fault of the die ended the call
@@ -119,7 +119,7 @@ module _ {N : Type 0} (view : View N) where
   -- one part after another, of which the first keeps the array and a fault ends the second
   module _ (old mid new : Engine N) (same : mid.geometry ≡ old.geometry) (limits : HasLimitsOf old.mapping mid.mapping) (kept : array_of old.geometry (image_in view.flash mid) ≡ array_of old.geometry (image_in view.flash old)) (first : StopsSafely view old mid) where
     pub cuts_on : CutsSafely view mid new → CutsSafely view old new
-    cuts_on next = cut_after (ram old) (ram mid) (view.flash old.nand) (view.flash mid.nand) (view.recorded old.nand) (view.recorded mid.nand) (view.recorded new.nand) (record { geometry = same; capacity = limits.capacity }) kept first next
+    cuts_on next = cut_after (ram old) (ram mid) (view.flash old.nand) (view.flash mid.nand) (view.recorded old.nand) (view.recorded mid.nand) (view.recorded new.nand) (record { geometry = same; capacity = limits.capacity; share = limits.share }) kept first next
 
     -- which puts a page
     pub puts_on : (kind : Kind) (n : ℕ) (body : List ℕ) → Cuts view (IsPutByStop kind n body (ram mid) (image_in view.flash mid)) mid new → Cuts view (IsPutByStop kind n body (ram old) (image_in view.flash old)) old new
@@ -130,7 +130,7 @@ module _ {N : Type 0} (view : View N) where
         (leaves_more (view.flash old.nand) (view.flash mid.nand) (view.recorded old.nand) (view.recorded mid.nand) Left Put
         (λ left l. put_kept kind n body (ram old) (image_in view.flash old) left (kept_of_left (ram old) (image_in view.flash old) (image_in view.flash mid) left kept l)) first)
         (cut_more (view.flash mid.nand) (view.recorded mid.nand) (view.recorded new.nand) (IsPutByStop kind n body (ram mid) (image_in view.flash mid)) Put
-        (λ left p. put_later kind n body (ram old) (ram mid) (image_in view.flash old) (image_in view.flash mid) left (record { geometry = same; capacity = limits.capacity }) kept p) next)
+        (λ left p. put_later kind n body (ram old) (ram mid) (image_in view.flash old) (image_in view.flash mid) left (record { geometry = same; capacity = limits.capacity; share = limits.share }) kept p) next)
 
   -- a call that keeps the array is one that may put a page
   pub puts_none : (kind : Kind) (n : ℕ) (body : List ℕ) (old new : Engine N) → CutsSafely view old new → Cuts view (IsPutByStop kind n body (ram old) (image_in view.flash old)) old new
@@ -140,21 +140,21 @@ module _ {N : Type 0} (view : View N) where
   -- ---- the whole call
 
   module _ (old new : Engine N) (command : Command) (safe : IsSafe view.flash old) where
-    mounts_cut : (left : Image) → IsImage old.geometry left → IsOrderly old.geometry (room_of (ram old)) left → old.mapping.capacity + old.geometry.pages ≤ 65536 → IsMountable old.geometry (old.mapping.capacity + old.geometry.pages) left
-    mounts_cut left whole o most = (mountable old.geometry (old.mapping.capacity + old.geometry.pages) left whole.rows (omega (arith, safe.memory.mapping.holds_one)) most).1 o
+    mounts_cut : (left : Image) → IsImage old.geometry left → IsOrderly old.geometry (room_of (ram old)) left → room_of (ram old) ≤ 65536 → IsMountable old.geometry (room_of (ram old)) left
+    mounts_cut left whole o most = (mountable old.geometry (room_of (ram old)) left whole.rows (omega (arith, safe.memory.mapping.holds_one)) most).1 o
 
     -- one that changes no sector
-    pub cut_kept : CutsSafely view old new → CutShort (view.flash old.nand) (view.recorded old.nand) (view.recorded new.nand) (SurvivesCut old.geometry old.mapping.capacity command (image_in view.flash old))
+    pub cut_kept : CutsSafely view old new → CutShort (view.flash old.nand) (view.recorded old.nand) (view.recorded new.nand) (SurvivesCut old.geometry (room_of (ram old)) command (image_in view.flash old))
     cut_kept cut = cut_whole old.geometry (view.flash old.nand) (view.recorded old.nand) (view.recorded new.nand)
-        (IsKeptByStop (ram old) (image_in view.flash old)) (SurvivesCut old.geometry old.mapping.capacity command (image_in view.flash old)) safe.geometry
+        (IsKeptByStop (ram old) (image_in view.flash old)) (SurvivesCut old.geometry (room_of (ram old)) command (image_in view.flash old)) safe.geometry
         (λ left whole k. record { array = inl k.array; mountable = mounts_cut left whole k.orderly }) cut
 
     -- one that puts a page of a sector, which gives it these bytes
     pub cut_put : (kind : Kind) (n : ℕ) (body bytes : List ℕ) → changes_sector command ≡ true → n < old.geometry.sectors → ((xs : List (List ℕ)) → array_after old.geometry kind n body xs ≡ slice_set xs n bytes)
         → ((s : State) → WriteStep old.geometry (record { array = array_of old.geometry (image_in view.flash old); ro = false }) n bytes (reply_of (Ok tt)) s → ArrayStep old.geometry (record { array = array_of old.geometry (image_in view.flash old); ro = false }) command (reply_of (Ok tt)) s)
-        → Cuts view (IsPutByStop kind n body (ram old) (image_in view.flash old)) old new → CutShort (view.flash old.nand) (view.recorded old.nand) (view.recorded new.nand) (SurvivesCut old.geometry old.mapping.capacity command (image_in view.flash old))
+        → Cuts view (IsPutByStop kind n body (ram old) (image_in view.flash old)) old new → CutShort (view.flash old.nand) (view.recorded old.nand) (view.recorded new.nand) (SurvivesCut old.geometry (room_of (ram old)) command (image_in view.flash old))
     cut_put kind n body bytes its within gives takes cut = cut_whole old.geometry (view.flash old.nand) (view.recorded old.nand) (view.recorded new.nand)
-        (IsPutByStop kind n body (ram old) (image_in view.flash old)) (SurvivesCut old.geometry old.mapping.capacity command (image_in view.flash old)) safe.geometry
+        (IsPutByStop kind n body (ram old) (image_in view.flash old)) (SurvivesCut old.geometry (room_of (ram old)) command (image_in view.flash old)) safe.geometry
         (λ left whole p. record {
           array = elim p.array [
             | inl was ↦ inl was
@@ -164,12 +164,12 @@ module _ {N : Type 0} (view : View N) where
         }) cut
 
 -- nothing was asked, and the image is as it was
-pub stopped_none : (g : Geometry) (capacity : ℕ) (command : Command) (result : Result (Unit {0}) DeviceFault) (image after : Image)
-    (told : Option Recording) → (capacity + g.pages ≤ 65536 → IsMountable g (capacity + g.pages) image)
-    → SurvivesStops g capacity command result image after told []
-stopped_none g capacity command result image after told mounts some left may = record {
+pub stopped_none : (g : Geometry) (room : ℕ) (command : Command) (result : Result (Unit {0}) DeviceFault) (image after : Image)
+    (told : Option Recording) → (room ≤ 65536 → IsMountable g room image)
+    → SurvivesStops g room command result image after told []
+stopped_none g room command result image after told mounts some left may = record {
   array = inl (ap (array_of g) may.by);
-  mountable = λ most. subst (λ i. IsMountable g (capacity + g.pages) i) (sym may.by) (mounts most);
+  mountable = λ most. subst (λ i. IsMountable g room i) (sym may.by) (mounts most);
 }
 
 -- ---- laws

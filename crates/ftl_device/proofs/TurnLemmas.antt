@@ -1,5 +1,5 @@
 -- Turns one after another: less is left of a collection each time.
-use Rattle.std.proofs.Common.{◌≡◌, ◌≢◌, ◌⊎◌, ℕ, zero, suc, ◌+◌, ◌-◌, ◌<◌, ◌≤◌, ◌∙◌, inl, inr, true, false, None, Option, Some, sym, ap, subst, refl, arith}
+use Rattle.std.proofs.Common.{◌≡◌, ◌≢◌, ◌⊎◌, ℕ, zero, suc, ◌+◌, ◌-◌, ◌<◌, ◌≤◌, ◌∙◌, min, inl, inr, true, false, None, Option, Some, sym, ap, subst, refl, arith}
 use Rattle.page_layout.specs.View.{View}
 use Rattle.page_layout.specs.Counter.{HasRisen}
 use Rattle.page_layout.specs.Page.{Image}
@@ -20,7 +20,7 @@ use Rattle.ftl_device.proofs.PinLemmas.{few_more}
 
 below_by : (o : Option Pinned) (r : Ram) (x : Image) → IsRam r → IsTrue None r x → r.pin.block ≡ o → PinIsFew 1 r → left r x < r.geometry.pages
 below_by None r x s w at few = (let l : left r x ≡ r.geometry.pages - 1 = ap (λ o. left_of o r x) at in omega (arith, l, r.geometry.limits.page_count.least))
-below_by (Some p) r x s w at few = (let l : left r x ≡ left_in false r x p.block = ap (λ o. left_of o r x) at in let b = left_law r x p s w (few p at) in omega (arith, l, b))
+below_by (Some p) r x s w at few = (let l : left r x ≡ min (left_in false r x p.block) (r.geometry.pages - 1) = ap (λ o. left_of o r x) at in omega (arith, l, r.geometry.limits.page_count.least))
 
 left_below : (r : Ram) (x : Image) → IsRam r → IsTrue None r x → PinIsTrue r.fault r x → stop_of r.fault ≡ None → r.fault ≢ Some ReadOnly → left r x < r.geometry.pages
 left_below r x s w its going ne = at r.fault refl

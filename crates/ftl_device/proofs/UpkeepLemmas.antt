@@ -4,7 +4,7 @@ use Rattle.std.specs.Prelude.{IsSome}
 use Rattle.std.proofs.lemmas.Bool.{lt-ltb}
 use Rattle.page_layout.specs.View.{View}
 use Rattle.page_layout.specs.declared.geometry.Geometry.{Geometry}
-use Rattle.page_layout.specs.Geometry.{need}
+use Rattle.page_layout.specs.Geometry.{need_at}
 use Rattle.page_layout.specs.Page.{Image}
 use Rattle.page_layout.specs.Array.{array_of}
 use Rattle.page_layout.specs.Version.{AddsNoOld}
@@ -107,7 +107,7 @@ module _ {N : Type 0} (view : View N) (command : Command) (old : Device N) where
     pub left : view.honest old.engine.nand ≡ true → Knows (ram old.engine) (image_in view.flash old.engine)
         → (w : Went (ram old.engine) (view.flash old.engine.nand) (view.recorded old.engine.nand) (ram e) (view.flash e.nand) (view.recorded e.nand))
         → (ro : Bool) → ro ≡ is_scarce (free_count (ram e).blocks) → ro ≡ true
-        → IsLeftReadOnly command old.engine.geometry (is_bad_by (ram old.engine)) [] w.log old.read_only (answer_of (ram e) good_then answer)
+        → IsLeftReadOnly command old.engine.geometry old.engine.mapping.share (is_bad_by (ram old.engine)) [] w.log old.read_only (answer_of (ram e) good_then answer)
     pub worth : view.honest old.engine.nand ≡ true → Knows (ram old.engine) (image_in view.flash old.engine)
         → (w : Went (ram old.engine) (view.flash old.engine.nand) (view.recorded old.engine.nand) (ram e) (view.flash e.nand) (view.recorded e.nand))
         → is_flush command ≡ true → OnOk answer (IsFlushedOut (first_of (ram old.engine)) w.log (image_in view.flash e))
@@ -126,7 +126,7 @@ module _ {N : Type 0} (view : View N) (command : Command) (old : Device N) where
           let w = went_after view old.engine new.engine new.engine answer replied good_then refl refl (k.ends.went is_honest) ne in
           record {
             went = w;
-            shown = λ well. flush_shown view old.engine new.engine new.engine w old.read_only answer replied good_then refl device.engine.memory k.ends.safe.memory k.ends.geometry refl refl k.ends.tells (k.lacks is_honest (here well)) (k.truth is_honest (here well)) ne;
+            shown = λ well. flush_shown view old.engine new.engine new.engine w old.read_only answer replied good_then refl device.engine.memory k.ends.limits.share k.ends.safe.memory k.ends.geometry refl refl k.ends.tells (k.lacks is_honest (here well)) (k.truth is_honest (here well)) ne;
             left = λ well on. k.left is_honest (here well) w new.read_only device'.read_only on;
             flushed = λ well its done. done_only _ answer good_then (ram new.engine) (k.worth is_honest (here well) w its) done;
             stopped = λ well. stopped_call view old.engine new.engine command replied w.log device.engine w.records (k.ends.stops is_honest (here well) (λ bus. ne (ap (answer_of (ram new.engine) good_then) bus)))
@@ -193,11 +193,11 @@ module _ (r : Ram) (ro : Bool) where
   why_not Damaged not = not
   why_not BusFault not = not
 
-  closed_is : (fault : DeviceFault) → MayNotFlush r ro fault → stop_of r.fault ≡ None → ro ≡ true → fault ≡ ReadOnly (good_count r.blocks.table) (need r.geometry) 0
+  closed_is : (fault : DeviceFault) → MayNotFlush r ro fault → stop_of r.fault ≡ None → ro ≡ true → fault ≡ ReadOnly (good_count r.blocks.table) (need_at r.geometry r.mapping.share) 0
   closed_is OutOfRange not going on = absurd not
   closed_is (ReadOnly good wanted lost) not going on =
       let a : good ≡ good_count r.blocks.table = not.short.good_is in
-      let b : wanted ≡ need r.geometry = not.short.wanted_is in
+      let b : wanted ≡ need_at r.geometry r.mapping.share = not.short.wanted_is in
       let c : lost ≡ 0 = omega (arith, a, not.short.failed_is) in cc
   closed_is SequenceSpent not going on = (let off : ro ≡ false = not.writable in let no : ⊥ = cc in absurd no)
   closed_is OutOfMemory not going on = absurd not

@@ -27,15 +27,15 @@ abbrev pub stale_entry : Claim → ℕ → ℕ × Slot
 stale_entry c n = (n, record { row = get_or c.sectors n None; dirty = true })
 
 -- the stale sectors were cached one after another, so the last is the most recently used
-abbrev pub begun_mapping : Geometry → Claim → List ℕ → MappingState
-begun_mapping g c stale = record { geometry = g; capacity = c.capacity; cached = map (stale_entry c) (reverse stale); moved = [] }
+abbrev pub begun_mapping : Geometry → (share : ℕ) → Claim → List ℕ → MappingState
+begun_mapping g share c stale = record { geometry = g; capacity = c.capacity; share = share; cached = map (stale_entry c) (reverse stale); moved = [] }
 
 -- the memory of an engine that nothing was asked of yet
-abbrev pub begun_ram : Geometry → Claim → List ℕ → Ram
-begun_ram g c stale = record {
+abbrev pub begun_ram : Geometry → (share : ℕ) → Claim → List ℕ → Ram
+begun_ram g share c stale = record {
   geometry = g;
   directory = c.directory;
-  mapping = begun_mapping g c stale;
+  mapping = begun_mapping g share c stale;
   blocks = begun g c.blocks;
   next = c.next;
   fault = None;
@@ -68,7 +68,7 @@ is_scarce free = nat_lt free 5
 
 -- a certificate that agrees with the image gives a memory that does
 abbrev pub BeginLaw : Type 0
-BeginLaw = (g : Geometry) (capacity : ℕ) (image : Image) (c : Claim) → IsImage g image → Agrees g capacity image c → IsTrue None (begun_ram g c (stale_sectors g image)) image
+BeginLaw = (g : Geometry) (share capacity : ℕ) (image : Image) (c : Claim) → IsImage g image → Agrees g capacity image c → IsTrue None (begun_ram g share c (stale_sectors g image)) image
 
 -- the free blocks are those that the image shows
 abbrev pub FreeLaw : Type 0

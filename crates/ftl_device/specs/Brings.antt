@@ -17,7 +17,7 @@ use Rattle.ftl_device.specs.Migrate.{FindsFrom}
 -- ROOM WAS MADE as outside a flush, by an honest die: what memory says of it, where newest pages are then, and its log. With nine blocks free nothing
 -- was done for it.
 pub record MadeRoom {N : Type 0} (view : View N) (old new : Engine N) : Type 0 where
-  pub made : HasMadeRoom false (ram old) (ram new)
+  pub made : HasMadeRoom 9 false (ram old) (ram new)
   pub rests : 9 ≤ free_count (ram old).blocks → (ram new ≡ ram old) × (view.flash new.nand ≡ view.flash old.nand)
   pub rearranged : IsRearranged (ram old) (image_in view.flash old) (ram new) (image_in view.flash new)
   pub went : Went (ram old) (view.flash old.nand) (view.recorded old.nand) (ram new) (view.flash new.nand) (view.recorded new.nand)
@@ -36,7 +36,7 @@ pub record RescuesLowest {N : Type 0} (view : View N) (old new : Engine N) : Typ
 -- had not to be copied any more
 pub record HasBrought (old new : Ram) : Type 0 where
   pub mid : Ram
-  pub room : HasMadeRoom false old mid
+  pub room : HasMadeRoom 9 false old mid
   pub on : (new ≡ mid) ⊎ HasRescuedPage mid new
 
 -- WHERE IT IS HONEST: once there is room, the page in the row is renewed, where it has to be. No newest page is touched then but that one and the

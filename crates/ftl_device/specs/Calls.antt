@@ -9,7 +9,7 @@ use Rattle.page_layout.specs.declared.record.Kind.{Kind}
 use Rattle.page_layout.specs.declared.record.Kind.TheVariants as kinds
 use Rattle.page_layout.specs.Page.{Page, Image, body_at}
 use Rattle.page_layout.specs.Counter.{HasRisen}
-use Rattle.page_layout.specs.Geometry.{need}
+use Rattle.page_layout.specs.Geometry.{need_at, flush_blocks_at}
 use Rattle.page_layout.specs.Array.{array_of, marks, zeros}
 use Rattle.page_layout.specs.Version.{AddsNoOld}
 use Rattle.page_layout.specs.Flash.{Flash}
@@ -27,6 +27,7 @@ use Rattle.collection.specs.declared.engine.Engine as engines
 use Rattle.collection.specs.State.{Ram}
 use Rattle.collection.specs.Safe.{IsRam, ram, image_in}
 use Rattle.collection.specs.Left.{IsCalm, PinHasPassed, PinIsFew, left}
+use Rattle.collection.specs.Stops.{room_of}
 use Rattle.collection.specs.Room.{Collects}
 use Rattle.collection.specs.Pages.{newest_row}
 use Rattle.collection.specs.Results.{last_record, IsLastPage}
@@ -118,7 +119,7 @@ pub record IsWell {N : Type 0} (flash : N → Flash) (d : Device N) : Type 0 whe
 pub record IsShortOf (old new : Ram) (good wanted failed : ℕ) : Type 0 where
   pub scarce : free_count new.blocks < 5
   pub good_is : good ≡ good_count new.blocks.table
-  pub wanted_is : wanted ≡ need new.geometry
+  pub wanted_is : wanted ≡ need_at new.geometry new.mapping.share
   pub failed_is : good + failed ≡ good_count old.blocks.table
 
 -- what each refusal says, from the memory as the call begins to that as it ends
@@ -138,21 +139,21 @@ pub record HasMadePlace (n : ℕ) (old new : Ram) : Type 0 where
   pub free : CanLoad old.mapping n → (new.blocks ≡ old.blocks) × (new.next ≡ old.next)
   pub taken : (CanLoad old.mapping n → ⊥) → HasPut Meta old new
 
--- ROOM WAS MADE: blocks were collected until five are free, and nine unless none is worth it. The pinned block was first, and then each time the
--- next victim; with nine free none was. Unless flushing, each translation page that was written had a moved sector. The cached sectors stay,
+-- ROOM WAS MADE: blocks were collected until five are free, and so many unless none is worth it. The pinned block was first, and then each time the
+-- next victim; with so many free none was. Unless flushing, each translation page that was written had a moved sector. The cached sectors stay,
 -- and their order; bad blocks stay as they are.
-pub record HasMadeRoom (flushing : Bool) (old new : Ram) : Type 0 where
-  pub collects : (blocks : List ℕ) × Collects flushing old blocks new
-  pub rests : 9 ≤ free_count old.blocks → new ≡ old
+pub record HasMadeRoom (many : ℕ) (flushing : Bool) (old new : Ram) : Type 0 where
+  pub collects : (blocks : List ℕ) × Collects many flushing old blocks new
+  pub rests : many ≤ free_count old.blocks → new ≡ old
   pub goes : GoesOn old new
   pub keys : KeepsKeys old.mapping new.mapping
-  pub room : HasRoom new
+  pub room : HasRoom many new
   pub calm : IsCalm new
 
 -- room was made, and then a place for a sector's entry
 pub record IsReady (n : ℕ) (old new : Ram) : Type 0 where
   pub mid : Ram
-  pub room : HasMadeRoom false old mid
+  pub room : HasMadeRoom 9 false old mid
   pub place : HasMadePlace n mid new
 
 -- one translation page is programmed, and then one page of a sector
@@ -170,7 +171,7 @@ pub record HasPutSector (n : ℕ) (old new : Ram) : Type 0 where
 -- WHAT A CALL COSTS: what making room does, and then that
 pub record HasCost (n : ℕ) (old new : Ram) : Type 0 where
   pub mid : Ram
-  pub room : HasMadeRoom false old mid
+  pub room : HasMadeRoom 9 false old mid
   pub put : HasPutSector n mid new
 
 -- plain LRU: the cached sectors after sector n was used, the most recently used first
@@ -307,7 +308,7 @@ IsMostRecent n m = slice_get (keys_of m.cached) 0 ≡ Some n
 -- what a device answers where that many blocks were good as the call began, and this is so
 abbrev pub answer_of : Ram → ℕ → Result (Unit {0}) CallFault → Result (Unit {0}) DeviceFault
 answer_of r good (Ok done) = Ok done
-answer_of r good (Err (Engine engine_fault.ReadOnly)) = Err (ReadOnly (good_count r.blocks.table) (need r.geometry) (good - good_count r.blocks.table))
+answer_of r good (Err (Engine engine_fault.ReadOnly)) = Err (ReadOnly (good_count r.blocks.table) (need_at r.geometry r.mapping.share) (good - good_count r.blocks.table))
 answer_of r good (Err (Engine engine_fault.SequenceSpent)) = Err SequenceSpent
 answer_of r good (Err (Engine engine_fault.Damaged)) = Err Damaged
 answer_of r good (Err (Engine engine_fault.Bus)) = Err BusFault
@@ -328,9 +329,9 @@ KeepsBad old new = (b : ℕ) → b < old.geometry.blocks → is_good_at old.bloc
 abbrev pub HasWorked : (old new : Ram) (erases_before erases_after : ℕ) → Type 0
 HasWorked old new erases_before erases_after = (old.next < new.next) ⊎ HasRisen erases_before erases_after
 
--- or it has done neither: then twelve blocks are free, unless too few are good
+-- or it has done neither: then twelve blocks are free, and those that a flush fills, unless too few are good
 abbrev pub IsQuiet : {N : Type 0} → (erases : N → ℕ) → (old new : engines.Engine N) → Type 0
-IsQuiet erases old new = HasWorked (ram old) (ram new) (erases old.nand) (erases new.nand) ⊎ (need new.geometry + 3 ≤ good_count (ram new).blocks.table → 12 ≤ free_count (ram new).blocks)
+IsQuiet erases old new = HasWorked (ram old) (ram new) (erases old.nand) (erases new.nand) ⊎ (need_at new.geometry new.mapping.share + 3 ≤ good_count (ram new).blocks.table → 12 + flush_blocks_at new.geometry new.mapping.share ≤ free_count (ram new).blocks)
 
 -- it has erased, or less is left of the collection under way
 abbrev pub HasLess : {N : Type 0} → (view : View N) → (old new : engines.Engine N) → Type 0
@@ -371,6 +372,6 @@ abbrev pub StaleLaw : Type 0
 StaleLaw = (r : Ram) (image : Image) (n : ℕ) → IsTrue None r image → r.mapping.moved ≡ [] → n < r.geometry.sectors → is_stale r.geometry image n ≡ true → IsSome (slot_of r.mapping n)
 
 -- A device may be started again from what it holds: of a memory that agrees with the image, the image has a certificate at the capacity of
--- the cached mapping table and the pages of a block.
+-- the cached mapping table, the moved sectors that may wait, and the pages of a block.
 abbrev pub RestartLaw : Type 0
-RestartLaw = (r : Ram) (image : Image) → IsRam r → IsTrue None r image → r.mapping.capacity + r.geometry.pages ≤ 65536 → IsMountable r.geometry (r.mapping.capacity + r.geometry.pages) image
+RestartLaw = (r : Ram) (image : Image) → IsRam r → IsTrue None r image → room_of r ≤ 65536 → IsMountable r.geometry (room_of r) image

@@ -6,7 +6,7 @@ use Rattle.page_layout.specs.View.{View}
 use Rattle.page_layout.specs.DieCalls.{AsksOnly}
 use Rattle.page_layout.specs.Counter.{HasRisen}
 use Rattle.page_layout.specs.Flash.{Flash}
-use Rattle.page_layout.specs.Geometry.{need}
+use Rattle.page_layout.specs.Geometry.{need_at}
 use Rattle.page_layout.specs.Page.{Page}
 use Rattle.page_layout.specs.Version.{AddsNoOld}
 use Rattle.bad_blocks.specs.Table.{good_count}
@@ -27,7 +27,7 @@ use Rattle.collection.specs.Cost.{HasPut}
 use Rattle.collection.specs.Settle.{HasSettled}
 use Rattle.collection.specs.Log.{Went}
 use Rattle.collection.specs.Results.{fault_after}
-use Rattle.collection.specs.Stops.{CutsSafely, StopsSafely}
+use Rattle.collection.specs.Stops.{room_of, CutsSafely, StopsSafely}
 use Rattle.ftl_device.specs.declared.device.Device.{Device}
 use Rattle.ftl_device.specs.declared.fault.CallFault.{CallFault}
 use Rattle.ftl_device.specs.declared.fault.CallFault.TheVariants as call
@@ -135,7 +135,7 @@ pub record Refuses {N : Type 0} (failed : N → ℕ) (old : Device N) (result : 
 
 -- when a device is not to be flushed, and not to have a turn: neither names a sector, and neither wants memory
 pub record RefusesUpkeep {N : Type 0} (old : Device N) (result : Result (Unit {0}) DeviceFault) (new : Device N) : Type 0 where
-  pub read_only : stop_of old.engine.fault ≡ None → old.read_only ≡ true → result ≡ Err (ReadOnly (good_count (ram old.engine).blocks.table) (need old.engine.geometry) 0)
+  pub read_only : stop_of old.engine.fault ≡ None → old.read_only ≡ true → result ≡ Err (ReadOnly (good_count (ram old.engine).blocks.table) (need_at old.engine.geometry old.engine.mapping.share) 0)
   pub spent : stop_of old.engine.fault ≡ None → old.read_only ≡ false → old.engine.next ≡ 2 ^ 64 - 1 → (result ≡ Err SequenceSpent) × (new ≡ old)
   pub within : result ≢ Err OutOfRange
   pub memory : result ≢ Err OutOfMemory
@@ -145,7 +145,7 @@ pub record RefusesSector {N : Type 0} (n : ℕ) (old : Device N) (result : Resul
   pub past : stop_of old.engine.fault ≡ None → (result ≡ Err OutOfRange) ↔ (old.engine.geometry.sectors ≤ n)
   pub untouched : result ≡ Err OutOfRange → new ≡ old
   pub read_only : stop_of old.engine.fault ≡ None → n < old.engine.geometry.sectors → old.read_only ≡ true
-      → result ≡ Err (ReadOnly (good_count (ram old.engine).blocks.table) (need old.engine.geometry) 0)
+      → result ≡ Err (ReadOnly (good_count (ram old.engine).blocks.table) (need_at old.engine.geometry old.engine.mapping.share) 0)
   pub spent : stop_of old.engine.fault ≡ None → n < old.engine.geometry.sectors → old.read_only ≡ false → old.engine.next ≡ 2 ^ 64 - 1 → (result ≡ Err SequenceSpent) × (new ≡ old)
   pub cached : IsSome (slot_of old.engine.mapping n) → result ≢ Err OutOfMemory
 
@@ -181,11 +181,11 @@ LeavesUnpinned old result new = old.engine.pinned ≡ None → IsSome new.engine
 -- THE LOG OF A CALL, and what its answer says of that log
 pub record Logs {N : Type 0} (view : View N) (command : Command) (old : Device N) (result : Result (Unit {0}) DeviceFault) (new : Device N) : Type 0 where
   pub went : Went (ram old.engine) (view.flash old.engine.nand) (view.recorded old.engine.nand) (ram new.engine) (view.flash new.engine.nand) (view.recorded new.engine.nand)
-  pub shown : IsWell view.flash old → IfErr result (IsShown old.engine.geometry (is_bad_by (ram old.engine)) old.engine.next [] went.log old.read_only (image_in view.flash new.engine))
-  pub left : IsWell view.flash old → new.read_only ≡ true → IsLeftReadOnly command old.engine.geometry (is_bad_by (ram old.engine)) [] went.log old.read_only result
+  pub shown : IsWell view.flash old → IfErr result (IsShown old.engine.geometry old.engine.mapping.share (is_bad_by (ram old.engine)) old.engine.next [] went.log old.read_only (image_in view.flash new.engine))
+  pub left : IsWell view.flash old → new.read_only ≡ true → IsLeftReadOnly command old.engine.geometry old.engine.mapping.share (is_bad_by (ram old.engine)) [] went.log old.read_only result
   pub flushed : IsWell view.flash old → is_flush command ≡ true → result ≡ Ok tt → IsFlushedOut (first_of (ram old.engine)) went.log (image_in view.flash new.engine)
   pub stopped : IsWell view.flash old
-      → SurvivesStops old.engine.geometry old.engine.mapping.capacity command result (image_in view.flash old.engine) (image_in view.flash new.engine) (view.recorded new.engine.nand) went.log
+      → SurvivesStops old.engine.geometry (room_of (ram old.engine)) command result (image_in view.flash old.engine) (image_in view.flash new.engine) (view.recorded new.engine.nand) went.log
   pub dead : IsWell view.flash old → IsSome (view.recorded new.engine.nand) → ErasesDead old.engine.geometry.pages (image_in view.flash old.engine) went.log
 
 -- what is true of the image after it: where the die has version 2, no newest page of version 1 is added
@@ -193,13 +193,12 @@ pub record Means {N : Type 0} (flash : N → Flash) (command : Command) (old : D
   pub step : ArrayStep old.engine.geometry (state_in flash old) command (reply_of result) (state_in flash new)
   pub well : IsWell flash new
   pub versions : AddsNoOld old.engine.geometry (image_in flash old.engine) (image_in flash new.engine)
-  pub mountable : old.engine.mapping.capacity + old.engine.geometry.pages ≤ 65536
-      → IsMountable old.engine.geometry (old.engine.mapping.capacity + old.engine.geometry.pages) (image_in flash new.engine)
+  pub mountable : room_of (ram old.engine) ≤ 65536 → IsMountable old.engine.geometry (room_of (ram old.engine)) (image_in flash new.engine)
 
 -- A CALL THAT A FAULT OF THE DIE ENDED, where it had not stopped before: whatever the die is left with, as its record tells, holds the array from before, or of a write or a trim the one that it would have left
 abbrev pub IsCut : {N : Type 0} → View N → Command → (old new : Device N) → Type 0
 IsCut view command old new = CutShort (view.flash old.engine.nand) (view.recorded old.engine.nand) (view.recorded new.engine.nand)
-    (SurvivesCut old.engine.geometry old.engine.mapping.capacity command (image_in view.flash old.engine))
+    (SurvivesCut old.engine.geometry (room_of (ram old.engine)) command (image_in view.flash old.engine))
 
 -- ---- the whole
 
@@ -213,7 +212,7 @@ pub record Changes {N : Type 0} (view : View N) (n : ℕ) (command : Command) (o
   pub logs : view.honest old.engine.nand ≡ true → result ≢ Err BusFault → Logs view command old result new
   pub cut : view.honest old.engine.nand ≡ true → IsWell view.flash old → stop_of old.engine.fault ≡ None → result ≡ Err BusFault → IsCut view command old new
   pub means : view.honest old.engine.nand ≡ true → IsWell view.flash old → result ≢ Err BusFault → Means view.flash command old result new
-  pub stale : view.honest old.engine.nand ≡ true → IsWell view.flash old → old.engine.pinned ≡ None → is_stale old.engine.geometry (image_in view.flash old.engine) n ≡ true → result ≢ Err OutOfMemory
+  pub stale : view.honest old.engine.nand ≡ true → IsWell view.flash old → old.engine.mapping.share ≡ 0 → old.engine.pinned ≡ None → is_stale old.engine.geometry (image_in view.flash old.engine) n ≡ true → result ≢ Err OutOfMemory
 
 -- A CALL THAT CHANGES NO SECTOR: a flush, or a turn
 pub record Upkeeps {N : Type 0} (view : View N) (command : Command) (old : Device N) (result : Result (Unit {0}) DeviceFault) (new : Device N) : Type 0 where

@@ -2,7 +2,7 @@
 use Rattle.std.specs.Prelude.{◌≡◌, ◌⊎◌, ℕ, ◌+◌, ◌-◌, ◌^◌, ◌<◌, ◌++◌, not, Bool, true, false, [], List, None, Result, Ok, Err}
 use Rattle.page_layout.specs.declared.geometry.Geometry.{Geometry}
 use Rattle.page_layout.specs.Page.{Image}
-use Rattle.page_layout.specs.Geometry.{need}
+use Rattle.page_layout.specs.Geometry.{need_at}
 use Rattle.page_layout.specs.Flash.{Operation}
 use Rattle.bad_blocks.specs.Table.{is_good_at, good_count}
 use Rattle.allocation.specs.State.{free_count}
@@ -29,23 +29,23 @@ abbrev pub good_by : Ram → ℕ
 good_by r = logs.good_count r.geometry (is_bad_by r) []
 
 -- TOO FEW FREE BLOCKS, AS THE IMAGE AND THE LOG SHOW THEM. After the call fewer than five blocks are free in the image; `good` is the number of good
--- blocks then, `wanted` the geometry's, `failed` the number of blocks that failed in the call. `bad` are the blocks that were bad before
+-- blocks then, `wanted` how many the geometry asks for at this share, `failed` the number of blocks that failed in the call. `bad` are the blocks that were bad before
 -- the log, `log` leads up to the end of the call, and `call` is its last part, that the call added.
-pub record IsShortIn (g : Geometry) (bad : ℕ → Bool) (log call : List Operation) (image : Image) (good wanted failed : ℕ) : Type 0 where
+pub record IsShortIn (g : Geometry) (share : ℕ) (bad : ℕ → Bool) (log call : List Operation) (image : Image) (good wanted failed : ℕ) : Type 0 where
   pub scarce : logs.free_count g bad log image < 5
   pub good_is : good ≡ logs.good_count g bad log
-  pub wanted_is : wanted ≡ need g
+  pub wanted_is : wanted ≡ need_at g share
   pub failed_is : failed ≡ failed_count g call
 
 -- WHAT A REFUSAL SHOWS: `ReadOnly` comes only in a shortage, and has its counts. `next` was the next sequence as the log began, `before` is the
 -- log up to the call, `call` what the call added, and `ro` whether the device was read-only before it.
-abbrev pub IsShown : Geometry → (ℕ → Bool) → ℕ → (before call : List Operation) → Bool → Image → DeviceFault → Type 0
-IsShown g bad next before call ro image OutOfRange = Unit {0}
-IsShown g bad next before call ro image (ReadOnly good wanted failed) = IsShortIn g bad (before ++ call) call image good wanted failed × IsShort g bad before call ro
-IsShown g bad next before call ro image SequenceSpent = next + programs_in (before ++ call) ≡ 2 ^ 64 - 1
-IsShown g bad next before call ro image OutOfMemory = Unit {0}
-IsShown g bad next before call ro image Damaged = ⊥
-IsShown g bad next before call ro image BusFault = ⊥
+abbrev pub IsShown : Geometry → (share : ℕ) → (ℕ → Bool) → ℕ → (before call : List Operation) → Bool → Image → DeviceFault → Type 0
+IsShown g share bad next before call ro image OutOfRange = Unit {0}
+IsShown g share bad next before call ro image (ReadOnly good wanted failed) = IsShortIn g share bad (before ++ call) call image good wanted failed × IsShort g share bad before call ro
+IsShown g share bad next before call ro image SequenceSpent = next + programs_in (before ++ call) ≡ 2 ^ 64 - 1
+IsShown g share bad next before call ro image OutOfMemory = Unit {0}
+IsShown g share bad next before call ro image Damaged = ⊥
+IsShown g share bad next before call ro image BusFault = ⊥
 
 abbrev pub is_flush : Command → Bool
 is_flush (Read sector) = false
@@ -55,14 +55,14 @@ is_flush Flush = true
 is_flush Turn = false
 
 -- WHEN A CALL LEAVES THE DEVICE READ-ONLY that isn't refused for it: in a shortage, or where it is a flush in which two blocks failed.
-abbrev pub IsLeftReadOnly : Command → Geometry → (ℕ → Bool) → (before call : List Operation) → Bool → Result (Unit {0}) DeviceFault → Type 0
-IsLeftReadOnly command g bad before call ro (Ok done) = IsShort g bad before call ro ⊎ ((is_flush command ≡ true) × (1 < failed_count g call))
-IsLeftReadOnly command g bad before call ro (Err OutOfRange) = Unit {0}
-IsLeftReadOnly command g bad before call ro (Err (ReadOnly good wanted failed)) = Unit {0}
-IsLeftReadOnly command g bad before call ro (Err SequenceSpent) = Unit {0}
-IsLeftReadOnly command g bad before call ro (Err OutOfMemory) = IsShort g bad before call ro
-IsLeftReadOnly command g bad before call ro (Err Damaged) = Unit {0}
-IsLeftReadOnly command g bad before call ro (Err BusFault) = Unit {0}
+abbrev pub IsLeftReadOnly : Command → Geometry → (share : ℕ) → (ℕ → Bool) → (before call : List Operation) → Bool → Result (Unit {0}) DeviceFault → Type 0
+IsLeftReadOnly command g share bad before call ro (Ok done) = IsShort g share bad before call ro ⊎ ((is_flush command ≡ true) × (1 < failed_count g call))
+IsLeftReadOnly command g share bad before call ro (Err OutOfRange) = Unit {0}
+IsLeftReadOnly command g share bad before call ro (Err (ReadOnly good wanted failed)) = Unit {0}
+IsLeftReadOnly command g share bad before call ro (Err SequenceSpent) = Unit {0}
+IsLeftReadOnly command g share bad before call ro (Err OutOfMemory) = IsShort g share bad before call ro
+IsLeftReadOnly command g share bad before call ro (Err Damaged) = Unit {0}
+IsLeftReadOnly command g share bad before call ro (Err BusFault) = Unit {0}
 
 -- ---- laws
 
@@ -81,6 +81,6 @@ BadNowLaw = (old new : Ram) (log : List Operation) (b : ℕ) → old.blocks.geom
 
 -- too few free blocks by the memory are too few by the image and the log of the call
 abbrev pub ShortLaw : Type 0
-ShortLaw = (old new : Ram) (log : List Operation) (image : Image) (good wanted failed : ℕ) → IsRam old → IsRam new → new.geometry ≡ old.geometry
+ShortLaw = (old new : Ram) (log : List Operation) (image : Image) (good wanted failed : ℕ) → IsRam old → IsRam new → new.geometry ≡ old.geometry → new.mapping.share ≡ old.mapping.share
     → Follows old.geometry.pages log old.blocks new.blocks → IsTrue None new image
-    → IsShortOf old new good wanted failed → IsShortIn old.geometry (is_bad_by old) log log image good wanted failed
+    → IsShortOf old new good wanted failed → IsShortIn old.geometry old.mapping.share (is_bad_by old) log log image good wanted failed

@@ -12,7 +12,7 @@ use Rattle.ftl_device.specs.declared.device.Device.{Device}
 use Rattle.ftl_device.specs.Begin.{is_scarce}
 
 -- Whatever its die does: it is read-only just where fewer than five blocks are free, and a fault that doesn't stop it is one that it
--- answers by itself. Where none stands, no translation page is marked, and with no block pinned no sector is moved.
+-- answers by itself. Where none stands, no translation page is marked, and with no block pinned no more sectors are moved than may wait for their translation pages.
 pub record IsDevice {N : Type 0} (flash : N → Flash) (d : Device N) : Type 0 where
   pub engine : IsSafe flash d.engine
   pub read_only : d.read_only ≡ is_scarce (free_count (state d.engine.blocks))

@@ -4,7 +4,7 @@ use Rattle.page_layout.specs.declared.geometry.Geometry.{Geometry}
 use Rattle.page_layout.specs.declared.record.Key.TheVariants.{Table}
 use Rattle.page_layout.specs.Page.{Image}
 use Rattle.page_layout.specs.Flash.{Operation}
-use Rattle.page_layout.specs.Geometry.{entries, translation_pages, table_pages}
+use Rattle.page_layout.specs.Geometry.{entries, translation_pages, table_pages, waiting_at}
 use Rattle.page_layout.specs.Sound.{version_for}
 use Rattle.page_layout.specs.Version.{is_old}
 use Rattle.bad_blocks.specs.Table.{wear_at, good_count, most_wear}
@@ -46,6 +46,13 @@ pub record KeepsClean (g : Geometry) (old new : MappingState) : Type 0 where
 -- so many pages more were programmed in the meta stream than before
 pub record AddsPages (count : ℕ) (old new : Ram) : Type 0 where
   pub account : (first : Counts) (pages : ℕ) → Spending old.geometry.pages first (counts_of old.blocks) 0 pages → Spending old.geometry.pages first (counts_of new.blocks) 0 (pages + count)
+
+-- at most so many
+pub record AddsAtMost (most : ℕ) (old new : Ram) : Type 0 where
+  pub pages : ℕ
+  pub few : pages ≤ most
+  pub fewer : good_count new.blocks.table ≤ good_count old.blocks.table
+  pub adds : AddsPages pages old new
 
 -- where the die has version 2, none of the first so many table pages has a newest page of version 1
 abbrev pub HasNewTables : ℕ → Geometry → Image → Type 0
@@ -118,17 +125,22 @@ MayNotFlush r ro BusFault = stop_of r.fault ≡ Some BusFault
 abbrev pub ShowsBad : Geometry → Image → ℕ → Type 0
 ShowsBad g image block = (class g image block ≡ 4) ⊎ (class g image block ≡ 5)
 
--- what a run begins with: the geometry, the capacity of the cached mapping table, the bad blocks, the erase counts and the next sequence
+-- what a run begins with: the geometry, the capacity of the cached mapping table, the share, the bad blocks, the erase counts and the next sequence
 pub record First : Type 0 where
   pub geometry : Geometry
   pub capacity : ℕ
+  pub share : ℕ
   pub bad : ℕ → Bool
   pub wear : ℕ → ℕ
   pub next : ℕ
 
+-- for how many stale entries an image mounts that is left in it
+abbrev pub room_in : First → ℕ
+room_in first = first.capacity + (waiting_at first.geometry first.share + first.geometry.pages)
+
 -- by the memory, where it begins with a device as it is
 abbrev pub first_of : Ram → First
-first_of r = record { geometry = r.geometry; capacity = r.mapping.capacity; bad = is_bad_by r; wear = wear_at r.blocks.table; next = r.next }
+first_of r = record { geometry = r.geometry; capacity = r.mapping.capacity; share = r.mapping.share; bad = is_bad_by r; wear = wear_at r.blocks.table; next = r.next }
 
 -- WHAT A FLUSH IS WORTH that is done, where `log` leads up to its end: the image has a certificate at every capacity, no entry is stale, and it
 -- shows just the blocks as bad that were so before the log or failed in it, and erase counts that went up by the erases that passed; and where the

@@ -1,5 +1,5 @@
 -- What a flush that is done has programmed, one step after another: a chain of engines, from the one before it to the one after it.
-use Rattle.std.specs.Prelude.{◌≡◌, ℕ, ◌+◌, ◌*◌, ◌<◌, ◌≤◌, true, suc, zero, List, [], ◌∷◌}
+use Rattle.std.specs.Prelude.{◌≡◌, ℕ, ◌+◌, ◌*◌, ◌<◌, ◌≤◌, true, false, suc, zero, List, [], ◌∷◌}
 use Rattle.page_layout.specs.View.{View}
 use Rattle.page_layout.specs.Geometry.{entries, translation_pages, table_pages}
 use Rattle.page_layout.specs.declared.record.Kind.TheVariants as kind
@@ -13,6 +13,8 @@ use Rattle.collection.specs.declared.engine.Engine.{Engine}
 use Rattle.collection.specs.Safe.{ram, image_in, page_in}
 use Rattle.collection.specs.Cost.{HasPut}
 use Rattle.collection.specs.Log.{Went}
+use Rattle.collection.specs.declared.engine.room.Reserve.TheVariants as reserve
+use Rattle.collection.specs.Room.{wanted}
 use Rattle.collection.specs.Results.{Goes, IsLastPage, IsWrittenBack, IsTabled}
 use Rattle.ftl_device.specs.Calls.{Knows, KeepsArray, HasMadeRoom}
 use Rattle.ftl_device.specs.Flush.{IsClean}
@@ -28,9 +30,18 @@ pub record GoesOver {N : Type 0} (view : View N) (old new : Engine N) : Type 0 w
 abbrev pub GoesHonestly : {N : Type 0} → View N → Engine N → Engine N → Type 0
 GoesHonestly view old new = view.honest old.nand ≡ true → Knows (ram old) (image_in view.flash old) → GoesOver view old new
 
--- room was made as in a flush
+-- ABOVE SHARE 0 ROOM WAS MADE FOR THE WHOLE FLUSH, by collections as outside one; with share 0 nothing was done
+pub record HasBegun {N : Type 0} (view : View N) (old new : Engine N) : Type 0 where
+  pub still : old.mapping.share ≡ 0 → new ≡ old
+  pub room : 0 < old.mapping.share → HasMadeRoom (wanted reserve.Flush (ram old)) false (ram old) (ram new)
+  pub honest_is : view.honest new.nand ≡ view.honest old.nand
+  pub goes : GoesHonestly view old new
+
+-- ROOM WAS MADE FOR A PAGE, with share 0, by collections as in a flush. Above it nothing was done, and five blocks are free: a collection would have
+-- sectors wait for translation pages that were brought up before.
 pub record HasCleared {N : Type 0} (view : View N) (old new : Engine N) : Type 0 where
-  pub room : HasMadeRoom true (ram old) (ram new)
+  pub room : old.mapping.share ≡ 0 → HasMadeRoom 9 true (ram old) (ram new)
+  pub still : 0 < old.mapping.share → (new ≡ old) × (5 ≤ free_count (ram old).blocks)
   pub honest_is : view.honest new.nand ≡ view.honest old.nand
   pub goes : GoesHonestly view old new
 
@@ -101,26 +112,30 @@ pub record WritesRounds {N : Type 0} (view : View N) (old new : Engine N) : Type
 
 -- ---- the whole
 
--- A FLUSH THAT IS DONE, whatever the die does: translation pages were brought up one after another, room was made, and the table pages were written
+-- A FLUSH THAT IS DONE, whatever the die does: room was made for it, translation pages were brought up one after another, room was made for the
+-- table pages, and these were written
 pub record HasFlushed {N : Type 0} (view : View N) (old new : Engine N) : Type 0 where
+  pub begun : Engine N
   pub back : Engine N
   pub ready : Engine N
-  pub pages : FlushesPages view (translation_pages old.geometry) old back
+  pub begins : HasBegun view old begun
+  pub pages : FlushesPages view (translation_pages old.geometry) begun back
   pub cleared : HasCleared view back ready
   pub tables : WritesRounds view ready new
 
 -- ---- laws
 
--- A FLUSH OF WHAT LACKS NOTHING, with nine free blocks, in which no block fails, programs each table page once, in the meta stream, and nothing else
+-- A FLUSH OF WHAT LACKS NOTHING, with as many free blocks as it wants, in which no block fails, programs each table page once, in the meta stream, and
+-- nothing else
 abbrev pub CleanFlushLaw : {N : Type 0} → View N → Type 0
 CleanFlushLaw {N} view = (old new : Engine N) → ((t : ℕ) → t < translation_pages old.geometry → IsClean old.geometry t old.mapping)
-    → 9 ≤ free_count (ram old).blocks → good_count (ram new).blocks.table ≡ good_count (ram old).blocks.table → HasFlushed view old new
+    → wanted reserve.Flush (ram old) ≤ free_count (ram old).blocks → good_count (ram new).blocks.table ≡ good_count (ram old).blocks.table → HasFlushed view old new
     → (new.next ≡ old.next + table_pages old.geometry) × ((counts_of (ram new).blocks).data_left ≡ (counts_of (ram old).blocks).data_left)
 
 -- AND WHERE ONE BLOCK FAILS, each table page is programmed twice, since all of them are written again, and the one whose program failed once more
 abbrev pub FailedFlushLaw : {N : Type 0} → View N → Type 0
 FailedFlushLaw {N} view = (old new : Engine N) → ((t : ℕ) → t < translation_pages old.geometry → IsClean old.geometry t old.mapping)
-    → 9 ≤ free_count (ram old).blocks → good_count (ram old).blocks.table ≡ good_count (ram new).blocks.table + 1 → HasFlushed view old new
+    → wanted reserve.Flush (ram old) ≤ free_count (ram old).blocks → good_count (ram old).blocks.table ≡ good_count (ram new).blocks.table + 1 → HasFlushed view old new
     → new.next ≡ old.next + 2 * table_pages old.geometry + 1
 
 -- A TRANSLATION PAGE THAT LACKS A ROW is programmed once, with nine free blocks, and once more for each block that fails; then it lacks none

@@ -38,7 +38,7 @@ HasWrittenBack old new = (new ≡ old) ⊎ ((page : ℕ) × (new ≡ cleaned old
 -- what the look-up of a sector finds: room was made, and then a place for the sector's entry
 pub record IsPrepared (old : Ram) (before : MappingState) : Type 0 where
   pub room : Ram
-  pub made : HasMadeRoom false old room
+  pub made : HasMadeRoom 9 false old room
   pub place : HasWrittenBack room.mapping before
 
 -- THE SECTOR WAS CACHED WITH THE ROW THAT A LOOK-UP FOUND, by memory as it was then, once there were room and a place, or by this page of entries

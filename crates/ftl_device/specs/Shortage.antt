@@ -1,6 +1,6 @@
 -- Why a call that began with nine free blocks runs short of them only where blocks fail.
 use Rattle.std.specs.Prelude.{◌≡◌, ◌⊎◌, ℕ, ◌+◌, ◌<◌, ◌≤◌, Bool, true, false, Result, Ok, Err}
-use Rattle.page_layout.specs.Geometry.{need}
+use Rattle.page_layout.specs.Geometry.{need_at}
 use Rattle.page_layout.specs.Page.{Image}
 use Rattle.bad_blocks.specs.Table.{good_count}
 use Rattle.budget.specs.declared.stream.Stream.{Stream}
@@ -18,7 +18,7 @@ use Rattle.ftl_device.specs.declared.fault.CallFault.{CallFault}
 use Rattle.ftl_device.specs.declared.fault.CallFault.TheVariants as call
 use Rattle.ftl_device.specs.declared.fault.CallFault.TheVariants.{Engine}
 use Rattle.ftl_device.specs.Calls.{Knows, HasMadeRoom}
-use Rattle.ftl_device.specs.Flush.{WritesTables}
+use Rattle.ftl_device.specs.Flush.{AddsAtMost, FailsAmong, WritesTables}
 
 -- at most so many pages were programmed, in either stream
 pub record HasUsed (most : ℕ) (old new : Ram) : Type 0 where
@@ -57,7 +57,7 @@ CallCounts old new (Err call.OutOfMemory) = (5 ≤ free_count new.blocks) ⊎ (3
 
 -- fewer blocks are good than the geometry asks for, or three have failed
 abbrev pub LacksGood : Ram → Ram → Type 0
-LacksGood old new = (good_count new.blocks.table < need old.geometry) ⊎ (3 + good_count new.blocks.table ≤ good_count old.blocks.table)
+LacksGood old new = (good_count new.blocks.table < need_at old.geometry old.mapping.share) ⊎ (3 + good_count new.blocks.table ≤ good_count old.blocks.table)
 
 -- what has to be known before a call for its free blocks to be counted: the memory is true of the image, and the pool has five blocks' pages
 abbrev pub HasFunds : Bool → Ram → Image → Type 0
@@ -66,8 +66,8 @@ HasFunds honest r image = (honest ≡ true) × Knows r image × IsFunded r.geome
 -- Room was made. Where so much is known, nine blocks are free, unless fewer are good than the geometry asks for.
 pub record AfterRoom (known : Type 0) (old new : Ram) : Type 0 where
   pub safe : IsRam new
-  pub room : HasMadeRoom false old new
-  pub nine : known → (good_count new.blocks.table < need old.geometry) ⊎ (9 ≤ free_count new.blocks)
+  pub room : HasMadeRoom 9 false old new
+  pub nine : known → (good_count new.blocks.table < need_at old.geometry old.mapping.share) ⊎ (9 ≤ free_count new.blocks)
 
 -- and then at most so many pages were programmed
 pub record UsesRoom (known : Type 0) (most : ℕ) (old new : Ram) : Type 0 where
@@ -135,16 +135,25 @@ StepCounts old new (Err engine_fault.Bus) = Unit {0}
 -- With so many failures before it the pool held five blocks' pages but for a block for each failure, and so it does now; or fewer blocks are
 -- good than the geometry asks for.
 abbrev pub FlushFunded : ℕ → Ram → Ram → Type 0
-FlushFunded failures old new = (good_count new.blocks.table < need old.geometry)
+FlushFunded failures old new = (good_count new.blocks.table < need_at old.geometry old.mapping.share)
     ⊎ ((its_failures : ℕ) × (good_count old.blocks.table ≡ good_count new.blocks.table + its_failures) × IsFunded old.geometry.pages (failures + its_failures) (counts_of new.blocks))
 
 -- translation pages that are written back, one after another
 abbrev pub FlushCounts : ℕ → Ram → Ram → Result (Unit {0}) EngineFault → Type 0
 FlushCounts failures old new (Ok done) = FlushFunded failures old new
-FlushCounts failures old new (Err engine_fault.ReadOnly) = (good_count new.blocks.table < need old.geometry) ⊎ (3 + good_count new.blocks.table ≤ failures + good_count old.blocks.table)
+FlushCounts failures old new (Err engine_fault.ReadOnly) = (good_count new.blocks.table < need_at old.geometry old.mapping.share) ⊎ (3 + good_count new.blocks.table ≤ failures + good_count old.blocks.table)
 FlushCounts failures old new (Err engine_fault.SequenceSpent) = Unit {0}
 FlushCounts failures old new (Err engine_fault.Damaged) = Unit {0}
 FlushCounts failures old new (Err engine_fault.Bus) = Unit {0}
+
+-- ABOVE SHARE 0, where nothing is collected meanwhile: at most so many translation pages, whatever the die does. Refused, some of them, and then too
+-- few blocks were free, or one found no block.
+abbrev pub SpendsPages : ℕ → Ram → Ram → Result (Unit {0}) EngineFault → Type 0
+SpendsPages most old new (Ok done) = AddsAtMost most old new
+SpendsPages most old new (Err engine_fault.ReadOnly) = (AddsAtMost most old new × (free_count new.blocks < 5)) ⊎ FailsAmong most old new
+SpendsPages most old new (Err engine_fault.SequenceSpent) = Unit {0}
+SpendsPages most old new (Err engine_fault.Damaged) = Unit {0}
+SpendsPages most old new (Err engine_fault.Bus) = Unit {0}
 
 -- a whole flush: done, it may leave fewer than five free blocks where two have failed
 abbrev pub FlushShort : Ram → Ram → Result (Unit {0}) CallFault → Type 0

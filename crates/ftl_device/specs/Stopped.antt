@@ -24,51 +24,51 @@ abbrev pub HoldsEither : Geometry → Command → Result (Unit {0}) DeviceFault 
 HoldsEither g command result before after left =
     (array_of g left ≡ array_of g before) ⊎ ((changes_sector command ≡ true) × (result ≡ Ok tt) × (array_of g left ≡ array_of g after))
 
--- AN IMAGE THAT A STOP INSIDE A CALL LEAVES, of a device with this capacity: it holds either array, and it mounts
-pub record Survives (g : Geometry) (capacity : ℕ) (command : Command) (result : Result (Unit {0}) DeviceFault) (before after left : Image) : Type 0 where
+-- AN IMAGE THAT A STOP INSIDE A CALL LEAVES, of a device that leaves at most so many stale entries: it holds either array, and it mounts
+pub record Survives (g : Geometry) (room : ℕ) (command : Command) (result : Result (Unit {0}) DeviceFault) (before after left : Image) : Type 0 where
   pub array : HoldsEither g command result before after left
-  pub mountable : capacity + g.pages ≤ 65536 → IsMountable g (capacity + g.pages) left
+  pub mountable : room ≤ 65536 → IsMountable g room left
 
 -- A CALL THAT MAY BE STOPPED AT ANY MOMENT: where the die tells a record as the call ends, so is each image that a stop may leave by the
 -- operations of the call
 abbrev pub SurvivesStops : Geometry → ℕ → Command → Result (Unit {0}) DeviceFault → (before after : Image) → Option Recording → List Operation → Type 0
-SurvivesStops g capacity command result before after told log = IsSome told → (left : Image) → MayLeave g before log left → Survives g capacity command result before after left
+SurvivesStops g room command result before after told log = IsSome told → (left : Image) → MayLeave g before log left → Survives g room command result before after left
 
 -- AN IMAGE THAT IS LEFT OF A CALL that a fault of the die ended: it holds the array from before the call, or of a write or a trim the one after it, were it done; and it mounts
-pub record SurvivesCut (g : Geometry) (capacity : ℕ) (command : Command) (before left : Image) : Type 0 where
+pub record SurvivesCut (g : Geometry) (room : ℕ) (command : Command) (before left : Image) : Type 0 where
   pub array : (array_of g left ≡ array_of g before)
       ⊎ ((changes_sector command ≡ true) × ArrayStep g (record { array = array_of g before; ro = false }) command (reply_of (Ok tt)) (record { array = array_of g left; ro = false }))
-  pub mountable : capacity + g.pages ≤ 65536 → IsMountable g (capacity + g.pages) left
+  pub mountable : room ≤ 65536 → IsMountable g room left
 
 -- ---- laws
 
 -- of a call that a fault ended too: a read, a flush and a turn change nothing, and a write no sector but its own
 abbrev pub QuietCutLaw : Type 0
-QuietCutLaw = (g : Geometry) (capacity : ℕ) (command : Command) (before left : Image) → changes_sector command ≡ false → SurvivesCut g capacity command before left → array_of g left ≡ array_of g before
+QuietCutLaw = (g : Geometry) (room : ℕ) (command : Command) (before left : Image) → changes_sector command ≡ false → SurvivesCut g room command before left → array_of g left ≡ array_of g before
 
 abbrev pub OtherSectorCutLaw : Type 0
-OtherSectorCutLaw = (g : Geometry) (capacity n m : ℕ) (body : List ℕ) (before left : Image) → m ≢ n → SurvivesCut g capacity (Write m body) before left → slice_get (array_of g left) n ≡ slice_get (array_of g before) n
+OtherSectorCutLaw = (g : Geometry) (room n m : ℕ) (body : List ℕ) (before left : Image) → m ≢ n → SurvivesCut g room (Write m body) before left → slice_get (array_of g left) n ≡ slice_get (array_of g before) n
 
 -- a read, a flush and a turn lose nothing and change nothing, whatever they are answered
 abbrev pub QuietStopLaw : Type 0
-QuietStopLaw = (g : Geometry) (capacity sector : ℕ) (result : Result (Unit {0}) DeviceFault) (before after left : Image)
-    → (Survives g capacity (Read sector) result before after left → array_of g left ≡ array_of g before)
-    × (Survives g capacity Flush result before after left → array_of g left ≡ array_of g before)
-    × (Survives g capacity Turn result before after left → array_of g left ≡ array_of g before)
+QuietStopLaw = (g : Geometry) (room sector : ℕ) (result : Result (Unit {0}) DeviceFault) (before after left : Image)
+    → (Survives g room (Read sector) result before after left → array_of g left ≡ array_of g before)
+    × (Survives g room Flush result before after left → array_of g left ≡ array_of g before)
+    × (Survives g room Turn result before after left → array_of g left ≡ array_of g before)
 
 -- nor does a command that is refused
 abbrev pub RefusedStopLaw : Type 0
-RefusedStopLaw = (g : Geometry) (capacity : ℕ) (command : Command) (fault : DeviceFault) (before after left : Image)
-    → Survives g capacity command (Err fault) before after left → array_of g left ≡ array_of g before
+RefusedStopLaw = (g : Geometry) (room : ℕ) (command : Command) (fault : DeviceFault) (before after left : Image)
+    → Survives g room command (Err fault) before after left → array_of g left ≡ array_of g before
 
--- the image mounts for as many stale sectors as the cache holds and a block has pages
+-- the image mounts for as many stale entries as the device leaves
 abbrev pub MountsStopLaw : Type 0
-MountsStopLaw = (g : Geometry) (capacity : ℕ) (command : Command) (result : Result (Unit {0}) DeviceFault) (before after left : Image)
-    → Survives g capacity command result before after left → capacity + g.pages ≤ 65536 → IsMountable g (capacity + g.pages) left
+MountsStopLaw = (g : Geometry) (room : ℕ) (command : Command) (result : Result (Unit {0}) DeviceFault) (before after left : Image)
+    → Survives g room command result before after left → room ≤ 65536 → IsMountable g room left
 
 -- WHAT WAS ANSWERED STAYS: after a write that was done, a stop inside a later write of another sector leaves its bytes
 abbrev pub AnsweredStaysLaw : Type 0
-AnsweredStaysLaw = (g : Geometry) (capacity n m : ℕ) (body other : List ℕ) (result : Result (Unit {0}) DeviceFault) (old before after left : Image) (ro mid on : Bool) → n < g.sectors → m ≢ n
+AnsweredStaysLaw = (g : Geometry) (room n m : ℕ) (body other : List ℕ) (result : Result (Unit {0}) DeviceFault) (old before after left : Image) (ro mid on : Bool) → n < g.sectors → m ≢ n
     → ArrayStep g (record { array = array_of g old; ro = ro }) (Write n body) (reply_of (Ok tt)) (record { array = array_of g before; ro = mid })
     → ArrayStep g (record { array = array_of g before; ro = mid }) (Write m other) (reply_of result) (record { array = array_of g after; ro = on })
-    → Survives g capacity (Write m other) result before after left → slice_get (array_of g left) n ≡ Some body
+    → Survives g room (Write m other) result before after left → slice_get (array_of g left) n ≡ Some body

@@ -5,6 +5,7 @@ ghost use Rattle.certificate.specs.Spelling.{Fits};
 ghost use Rattle.image_check.specs.Agrees.{IsCertificateOf};
 ghost use Rattle.image_check.specs.Rising.{IsRisingBelow};
 ghost use Rattle.mapping_cache.specs.Mapping.{IsMapping};
+ghost use Rattle.page_layout.specs.Geometry.{IsShare};
 ghost use Rattle.allocation.specs.Begun.{begun};
 ghost use Rattle.allocation.specs.View.{state};
 ghost use Rattle.ftl_device.specs.Begin.{begun_mapping};
@@ -58,13 +59,13 @@ fn load_stale(
     certificate: &Certificate,
     stale: &[u32],
 ) -> Result<(), LoadFault>
-    requires empty { mapping.old ≡ begun_mapping mapping.old.geometry certificate.now [] }
+    requires empty { mapping.old ≡ begun_mapping mapping.old.geometry mapping.old.share certificate.now [] }
     requires valid { IsMapping mapping.old }
     requires sizes { certificate.now.sizes ≡ sizes_of mapping.old.geometry }
     requires sectors { length certificate.now.sectors ≡ mapping.old.geometry.sectors }
     requires few { length stale.now ≤ certificate.now.capacity }
     requires rising { IsRisingBelow certificate.now.sizes.sectors stale.now }
-    ensures loaded { OnOk result (mapping.new ≡ begun_mapping mapping.old.geometry certificate.now stale.now) }
+    ensures loaded { OnOk result (mapping.new ≡ begun_mapping mapping.old.geometry mapping.old.share certificate.now stale.now) }
     ensures valid { OnOk result (IsMapping mapping.new) }
 {
     for sector in stale {
@@ -83,18 +84,20 @@ pub(crate) struct Known {
     pub(crate) mapping: Mapping,
 }
 
-// An empty mapping of the accepted capacity, into which the stale sectors are loaded.
+// An empty mapping of the accepted capacity and this share, into which the stale sectors are loaded.
 fn mapping_of(
     alloc: Global,
     geometry: &Geometry,
+    share: u32,
     accepted: &Accepted<'_>,
 ) -> Result<Mapping, NoMemory>
+    requires share { IsShare geometry.now share }
     requires sizes { accepted.now.claim.sizes ≡ sizes_of geometry.now }
     requires sectors { length accepted.now.claim.sectors ≡ geometry.now.sectors }
-    ensures loaded { IfOk result (λ mapping. mapping ≡ begun_mapping geometry.now accepted.now.claim accepted.now.stale) }
+    ensures loaded { IfOk result (λ mapping. mapping ≡ begun_mapping geometry.now share accepted.now.claim accepted.now.stale) }
 {
     let certificate = accepted.certificate();
-    let mut mapping = Mapping::new(alloc, geometry, certificate.capacity())?;
+    let mut mapping = Mapping::with_share(alloc, geometry, certificate.capacity(), share)?;
     load_stale(&mut mapping, certificate, accepted.stale())?;
     Ok(mapping)
 }
@@ -104,14 +107,16 @@ impl Known {
     pub(crate) fn new(
         alloc: Global,
         geometry: &Geometry,
+        share: u32,
         accepted: &Accepted<'_>,
     ) -> Result<Known, NoMemory>
+        requires share { IsShare geometry.now share }
         requires sizes { accepted.now.claim.sizes ≡ sizes_of geometry.now }
         requires sized { IsCertificateOf geometry.now accepted.now.claim }
         requires fits { Fits accepted.now.claim }
         ensures states { IfOk result (λ known. state known.blocks ≡ begun geometry.now accepted.now.claim.blocks) }
         ensures directory { IfOk result (λ known. known.directory ≡ accepted.now.claim.directory) }
-        ensures mapping { IfOk result (λ known. known.mapping ≡ begun_mapping geometry.now accepted.now.claim accepted.now.stale) }
+        ensures mapping { IfOk result (λ known. known.mapping ≡ begun_mapping geometry.now share accepted.now.claim accepted.now.stale) }
     {
         let certificate = accepted.certificate();
         let rows = geometry.translation_pages() + geometry.table_pages();
@@ -119,7 +124,7 @@ impl Known {
         Ok(Known {
             blocks: Blocks::new(alloc, geometry, &states)?,
             directory: directory_of(alloc, certificate, rows)?,
-            mapping: mapping_of(alloc, geometry, accepted)?,
+            mapping: mapping_of(alloc, geometry, share, accepted)?,
         })
     }
 }

@@ -3,6 +3,7 @@ ghost use Rattle.std.specs.Prelude.{◌≡◌, true, None, IfOk, IfErr};
 ghost use Rattle.certificate.specs.Claim.{sizes_of, good_blocks};
 ghost use Rattle.bad_blocks.specs.Table.{good_count};
 ghost use Rattle.allocation.specs.View.{state};
+ghost use Rattle.page_layout.specs.Geometry.{IsShare};
 ghost use Rattle.promises.specs.Legal.{accounts_of};
 ghost use Rattle.collection.specs.Safe.{ram, image_in};
 ghost use Rattle.collection.specs.Truth.{IsTrue};
@@ -33,7 +34,8 @@ pub struct Device<N: Nand> {
 }
 
 impl<N: Nand> Device<N> {
-    /// A device over a die whose image a checker accepted. Nothing is asked of the die. The stale
+    /// A device over a die whose image a checker accepted, with share 0: no moved sector waits for its
+    /// translation page between calls. Nothing is asked of the die. The stale
     /// sectors are cached as dirty, by rising number, and the cache has the capacity that was
     /// accepted. It begins read-only just where fewer than five blocks are free. `migrate_one` looks from
     /// row 0 on.
@@ -54,7 +56,40 @@ impl<N: Nand> Device<N> {
         ensures device { IfOk result (IsDevice N.view.flash) }
         ensures nand { IfOk result (λ d. d.engine.nand ≡ nand) }
         ensures cursor { IfOk result (λ d. d.cursor ≡ 0) }
-        ensures begun { IfOk result (λ d. ram d.engine ≡ begun_ram (N.view.flash nand).geometry accepted.entry.claim accepted.entry.stale) }
+        ensures begun { IfOk result (λ d. ram d.engine ≡ begun_ram (N.view.flash nand).geometry 0 accepted.entry.claim accepted.entry.stale) }
+        ensures good { IfOk result (λ d. good_count (state d.engine.blocks).table ≡ good_blocks accepted.entry.claim) }
+        // The truth of it, for a die that keeps its promises.
+        ensures truth { IfOk result (λ d. N.view.honest nand ≡ true → IsAcceptedFor (N.view.flash nand) accepted.entry →
+            IsTrue None (ram d.engine) (image_in N.view.flash d.engine)) }
+        ensures free { IfOk result (λ d. N.view.honest nand ≡ true → IsAcceptedFor (N.view.flash nand) accepted.entry →
+            d.read_only ≡ is_scarce (free_in (N.view.flash nand).geometry accepted.entry.claim (N.view.flash nand).image)) }
+        ensures accounts { IfOk result (λ d. N.view.honest nand ≡ true → IsAcceptedFor (N.view.flash nand) accepted.entry →
+            IsAccounted (accounts_of (N.view.flash nand).geometry (N.view.flash nand).image (is_bad_in accepted.entry.claim)) (state d.engine.blocks)) }
+        ensures fault { IfErr result (λ fault. fault ≡ StartFault.OutOfMemory nand accepted.entry) }
+    {
+        Device::start_at(alloc, nand, 0, accepted)
+    }
+
+    /// A device as `start` gives it, where up to `share` moved sectors, in the mean, wait for each
+    /// translation page between calls. A die that was filled at a share is started at that one or a
+    /// greater one: at a smaller one it may lack blocks at once. `share` is one of the geometry:
+    /// `Geometry::is_share`.
+    ///
+    /// # Errors
+    ///
+    /// `OutOfMemory` alone, as there. (This project's rules, after the batch updates of the DFTL paper.)
+    pub fn start_at<'a>(
+        alloc: Global,
+        nand: N,
+        share: u32,
+        accepted: Accepted<'a>,
+    ) -> Result<Device<N>, StartFault<'a, N>>
+        requires share { IsShare (N.view.flash nand).geometry share }
+        requires same_geometry { sizes_of (N.view.flash nand).geometry ≡ accepted.claim.sizes }
+        ensures device { IfOk result (IsDevice N.view.flash) }
+        ensures nand { IfOk result (λ d. d.engine.nand ≡ nand) }
+        ensures cursor { IfOk result (λ d. d.cursor ≡ 0) }
+        ensures begun { IfOk result (λ d. ram d.engine ≡ begun_ram (N.view.flash nand).geometry share accepted.entry.claim accepted.entry.stale) }
         ensures good { IfOk result (λ d. good_count (state d.engine.blocks).table ≡ good_blocks accepted.entry.claim) }
         // The truth of it, for a die that keeps its promises.
         ensures truth { IfOk result (λ d. N.view.honest nand ≡ true → IsAcceptedFor (N.view.flash nand) accepted.entry →
@@ -67,7 +102,7 @@ impl<N: Nand> Device<N> {
     {
         let certificate = accepted.certificate();
         let geometry = certificate.geometry();
-        let Ok(known) = Known::new(alloc, &geometry, &accepted) else {
+        let Ok(known) = Known::new(alloc, &geometry, share, &accepted) else {
             return Err(StartFault::OutOfMemory { nand, accepted });
         };
         let Known {

@@ -1,19 +1,22 @@
 //! What waits in memory is written to the die.
-ghost use Rattle.std.specs.Prelude.{◌≡◌, ◌≢◌, ℕ, ◌-◌, ◌^◌, ◌<◌, true, None, Ok, Err, IfErr, OnOk, MatchResult};
+ghost use Rattle.std.specs.Prelude.{◌≡◌, ◌≢◌, ℕ, ◌-◌, ◌^◌, ◌<◌, ◌≤◌, true, None, Ok, Err, IfErr, OnOk, MatchResult};
 ghost use Rattle.std.specs.Map.{keys_of};
 ghost use Rattle.page_layout.specs.Geometry.{translation_pages, table_pages};
 ghost use Rattle.budget.specs.Spending.{IsFunded};
 ghost use Rattle.allocation.specs.Counts.{counts_of};
 ghost use Rattle.collection.specs.Safe.{IsSafe, ram, image_in};
 ghost use Rattle.collection.specs.Left.{IsCalm, LeavesPin};
-ghost use Rattle.collection.specs.Results.{KeepsTable};
+ghost use Rattle.collection.specs.Results.{KeepsTable, fault_after};
+ghost use Rattle.collection.specs.Collect.{KeepsKeys, RoomCounts};
+ghost use Rattle.collection.specs.Room.{wanted};
+ghost use Rattle.allocation.specs.State.{free_count};
 ghost use Rattle.collection.specs.Stops.{CutsSafely};
 ghost use Rattle.ftl_device.specs.Calls.{IsWell, Knows, KeepsArray, CallRefused};
 ghost use Rattle.ftl_device.specs.Renewed.{Finishes};
 ghost use Rattle.ftl_device.specs.Flush.{IsClean, KeepsClean, HasNewTables, SpellsAll, KeepsTables, AddsPages, FailsAmong, RunsOut, IsFlushed, WritesTables, MayFlush};
 ghost use Rattle.ftl_device.specs.Flush.{MayNotFlush};
-ghost use Rattle.ftl_device.specs.FlushSteps.{FlushesPage, FlushesPages, HasRound, WritesRounds, HasFlushed};
-ghost use Rattle.ftl_device.specs.Shortage.{HasFunds, FlushCounts, FlushShort};
+ghost use Rattle.ftl_device.specs.FlushSteps.{HasBegun, HasCleared, FlushesPage, FlushesPages, HasRound, WritesRounds, HasFlushed};
+ghost use Rattle.ftl_device.specs.Shortage.{HasFunds, SpendsPages, FlushCounts, FlushShort};
 ghost use Rattle.mapping_cache.specs.Mapping.{HasLimitsOf};
 ghost use Rattle.promises.specs.Step.{Flush};
 ghost use Rattle.ftl_device.specs.Device.{IsDevice};
@@ -22,8 +25,53 @@ ghost use Rattle.ftl_device.specs.Changes.{EngineLeaves, EndsCall, Upkeeps, Leav
 use crate::device::Device;
 use crate::fault::{CallFault, DeviceFault};
 use crate::ready::make_room;
-use collection::{Engine, EngineFault};
+use collection::{Engine, EngineFault, LEAST_FREE, Reserve};
 use onfi_cycles::Nand;
+
+// Sees that five blocks are free. Nothing else is done.
+fn require_free<N: Nand>(engine: &mut Engine<N>) -> Result<(), EngineFault>
+    requires safe { IsSafe N.view.flash engine.old }
+    requires going { engine.old.fault ≡ None }
+    ensures leaves { EngineLeaves N.view engine.old result engine.new }
+    ensures memory { ram engine.new ≡ record (ram engine.old) { fault = fault_after None result } }
+    ensures still { OnOk result ((engine.new ≡ engine.old) × (5 ≤ free_count (ram engine.old).blocks)) }
+    ensures scarce { IfErr result (λ fault. (fault ≡ EngineFault.ReadOnly) × (free_count (ram engine.old).blocks < 5)) }
+    ensures same { image_in N.view.flash engine.new ≡ image_in N.view.flash engine.old }
+{
+    if engine.blocks.free() < LEAST_FREE {
+        engine.fault = Some(EngineFault::ReadOnly);
+        return Err(EngineFault::ReadOnly);
+    }
+    Ok(())
+}
+
+// Sees that there is room for a page. With share 0 blocks are collected for it. Above share 0 none is,
+// since room for the whole flush was made: a sector that a collection moves might wait for a translation
+// page that was brought up before.
+fn make_flush_room<N: Nand>(engine: &mut Engine<N>) -> Result<(), EngineFault>
+    requires safe { IsSafe N.view.flash engine.old }
+    requires going { engine.old.fault ≡ None }
+    requires calm { IsCalm (ram engine.old) }
+    ensures leaves { EngineLeaves N.view engine.old result engine.new }
+    ensures keys { KeepsKeys engine.old.mapping engine.new.mapping }
+    ensures calm { OnOk result (IsCalm (ram engine.new)) }
+    ensures pins { OnOk result (engine.old.pinned ≡ None → engine.new.pinned ≡ None) }
+    ensures cleans { OnOk result (KeepsClean engine.old.geometry engine.old.mapping engine.new.mapping) }
+    ensures cleared { OnOk result (HasCleared N.view engine.old engine.new) }
+    ensures spends { 0 < engine.old.mapping.share → SpendsPages 0 (ram engine.old) (ram engine.new) result }
+    ensures count { engine.old.mapping.share ≡ 0 → N.view.honest engine.old.nand ≡ true → Knows (ram engine.old) (image_in N.view.flash engine.old) →
+        (failures : ℕ) → IsFunded engine.old.geometry.pages failures (counts_of (ram engine.old).blocks) →
+        RoomCounts 9 failures (ram engine.old) (ram engine.new) result }
+    ensures truth { N.view.honest engine.old.nand ≡ true → Knows (ram engine.old) (image_in N.view.flash engine.old) →
+        MatchResult result
+        (λ _. KeepsArray engine.old.geometry (image_in N.view.flash engine.old) (ram engine.new) (image_in N.view.flash engine.new))
+        (λ fault. CallRefused engine.old.geometry (image_in N.view.flash engine.old) (ram engine.new) (image_in N.view.flash engine.new) (CallFault.Engine fault)) }
+{
+    if engine.mapping.share() > 0 {
+        return require_free(engine);
+    }
+    make_room(engine, Reserve::Flush, true)
+}
 
 // Writes translation page `t` back where it lacks a row. Whether it does is asked before room is made.
 fn flush_translation<N: Nand>(engine: &mut Engine<N>, t: u32) -> Result<(), EngineFault>
@@ -39,7 +87,8 @@ fn flush_translation<N: Nand>(engine: &mut Engine<N>, t: u32) -> Result<(), Engi
     ensures clean { OnOk result (IsClean engine.old.geometry t engine.new.mapping) }
     ensures cleans { OnOk result (KeepsClean engine.old.geometry engine.old.mapping engine.new.mapping) }
     ensures page { OnOk result (FlushesPage N.view t engine.old engine.new) }
-    ensures count { N.view.honest engine.old.nand ≡ true → Knows (ram engine.old) (image_in N.view.flash engine.old) →
+    ensures spends { 0 < engine.old.mapping.share → SpendsPages 1 (ram engine.old) (ram engine.new) result }
+    ensures count { engine.old.mapping.share ≡ 0 → N.view.honest engine.old.nand ≡ true → Knows (ram engine.old) (image_in N.view.flash engine.old) →
         (failures : ℕ) → IsFunded engine.old.geometry.pages failures (counts_of (ram engine.old).blocks) →
         FlushCounts failures (ram engine.old) (ram engine.new) result }
     ensures truth { N.view.honest engine.old.nand ≡ true → Knows (ram engine.old) (image_in N.view.flash engine.old) →
@@ -50,7 +99,7 @@ fn flush_translation<N: Nand>(engine: &mut Engine<N>, t: u32) -> Result<(), Engi
     if !engine.mapping.lacks(t) {
         return Ok(());
     }
-    make_room(engine, true)?;
+    make_flush_room(engine)?;
     engine.write_back(t)
 }
 
@@ -66,7 +115,8 @@ fn flush_translations<N: Nand>(engine: &mut Engine<N>) -> Result<(), EngineFault
     ensures calm { engine.new.fault ≡ None → IsCalm (ram engine.new) }
     ensures clean { OnOk result ((t : ℕ) → t < translation_pages engine.old.geometry → IsClean engine.old.geometry t engine.new.mapping) }
     ensures pages { OnOk result (FlushesPages N.view (translation_pages engine.old.geometry) engine.old engine.new) }
-    ensures count { N.view.honest engine.old.nand ≡ true → Knows (ram engine.old) (image_in N.view.flash engine.old) →
+    ensures spends { 0 < engine.old.mapping.share → SpendsPages (translation_pages engine.old.geometry) (ram engine.old) (ram engine.new) result }
+    ensures count { engine.old.mapping.share ≡ 0 → N.view.honest engine.old.nand ≡ true → Knows (ram engine.old) (image_in N.view.flash engine.old) →
         (failures : ℕ) → IsFunded engine.old.geometry.pages failures (counts_of (ram engine.old).blocks) →
         FlushCounts failures (ram engine.old) (ram engine.new) result }
     ensures truth { N.view.honest engine.old.nand ≡ true → Knows (ram engine.old) (image_in N.view.flash engine.old) →
@@ -126,6 +176,31 @@ fn write_tables<N: Nand>(engine: &mut Engine<N>) -> Result<(), EngineFault>
     Ok(())
 }
 
+// Above share 0 sees that there is room for a whole flush. With share 0 nothing is done.
+fn begin_flush<N: Nand>(engine: &mut Engine<N>) -> Result<(), EngineFault>
+    requires safe { IsSafe N.view.flash engine.old }
+    requires going { engine.old.fault ≡ None }
+    requires calm { IsCalm (ram engine.old) }
+    ensures leaves { EngineLeaves N.view engine.old result engine.new }
+    ensures keys { KeepsKeys engine.old.mapping engine.new.mapping }
+    ensures calm { OnOk result (IsCalm (ram engine.new)) }
+    ensures pins { OnOk result (engine.old.pinned ≡ None → engine.new.pinned ≡ None) }
+    ensures begins { OnOk result (HasBegun N.view engine.old engine.new) }
+    ensures shared { IfErr result (λ fault. 0 < engine.old.mapping.share) }
+    ensures count { 0 < engine.old.mapping.share → N.view.honest engine.old.nand ≡ true → Knows (ram engine.old) (image_in N.view.flash engine.old) →
+        (failures : ℕ) → IsFunded engine.old.geometry.pages failures (counts_of (ram engine.old).blocks) →
+        RoomCounts (wanted Reserve.Flush (ram engine.old)) failures (ram engine.old) (ram engine.new) result }
+    ensures truth { N.view.honest engine.old.nand ≡ true → Knows (ram engine.old) (image_in N.view.flash engine.old) →
+        MatchResult result
+        (λ _. KeepsArray engine.old.geometry (image_in N.view.flash engine.old) (ram engine.new) (image_in N.view.flash engine.new))
+        (λ fault. CallRefused engine.old.geometry (image_in N.view.flash engine.old) (ram engine.new) (image_in N.view.flash engine.new) (CallFault.Engine fault)) }
+{
+    if engine.mapping.share() == 0 {
+        return Ok(());
+    }
+    make_room(engine, Reserve::Flush, false)
+}
+
 // Writes back what waits, and then the table.
 pub(crate) fn flush_ready<N: Nand>(engine: &mut Engine<N>) -> Result<(), CallFault>
     requires safe { IsSafe N.view.flash engine.old }
@@ -149,8 +224,9 @@ pub(crate) fn flush_ready<N: Nand>(engine: &mut Engine<N>) -> Result<(), CallFau
     ensures renewed { N.view.honest engine.old.nand ≡ true → Knows (ram engine.old) (image_in N.view.flash engine.old) →
         OnOk result (HasNewTables (table_pages engine.old.geometry) engine.old.geometry (image_in N.view.flash engine.new)) }
 {
+    begin_flush(engine)?;
     flush_translations(engine)?;
-    make_room(engine, true)?;
+    make_flush_room(engine)?;
     write_tables(engine)?;
     Ok(())
 }
@@ -180,7 +256,10 @@ impl<N: Nand> Device<N> {
     ///
     /// The translation pages are gone through in rising order: for each that lacks a row, which is asked
     /// first, room is made, and one page is programmed; for each other one nothing is. Room is made
-    /// once more, and the table pages are written in rising order, one page each. They are written
+    /// once more, and the table pages are written in rising order, one page each. Above share 0 room for
+    /// all of them is made as the flush begins, for which `Geometry::flush_blocks_at` more blocks are
+    /// wanted than nine; after that nothing is collected, and five blocks have to be free before each
+    /// translation page, and before the table pages. They are written
     /// again, all of them, as long as a program fails meanwhile. A page whose program fails is
     /// programmed again in another block. The sectors that are cached stay, and their order. Where the power goes inside it, each sector holds
     /// what it held.

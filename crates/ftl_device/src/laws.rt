@@ -59,7 +59,7 @@ pub fn flushed_laws()
 {}
 
 /// What calls program: a write programs no page that a trim might have programmed, and its page has the
-/// bytes that were written; and a flush of a device that lacks no row, with nine free blocks, programs
+/// bytes that were written; and a flush of a device that lacks no row, with as many free blocks as it wants, programs
 /// each table page once and nothing else, where no block fails, and twice where one does; and a
 /// translation page that lacks a row is programmed once. (This project.)
 pub fn program_laws<N: Nand>()

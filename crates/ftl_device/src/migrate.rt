@@ -19,7 +19,7 @@ ghost use Rattle.ftl_device.specs.Brings.{BringsOne, BringsPage, HasBrought};
 use crate::device::Device;
 use crate::fault::{CallFault, DeviceFault};
 use crate::ready::make_room;
-use collection::{Engine, EngineFault};
+use collection::{Engine, EngineFault, Reserve};
 use onfi_cycles::Nand;
 
 // The least spare area that has room for a record of version 2.
@@ -47,7 +47,7 @@ fn renew_ready<N: Nand>(engine: &mut Engine<N>, row: u32) -> Result<(), CallFaul
     ensures brings { N.view.honest engine.old.nand ≡ true → Knows (ram engine.old) (image_in N.view.flash engine.old) →
         OnOk result (BringsPage N.view row engine.old engine.new) }
 {
-    make_room(engine, false)?;
+    make_room(engine, Reserve::Call, false)?;
     engine.renew_at(row)?;
     Ok(())
 }

@@ -15,6 +15,7 @@ ghost use Rattle.collection.specs.Safe.{ram, image_in, page_in};
 ghost use Rattle.collection.specs.Truth.{IsTrue};
 ghost use Rattle.collection.specs.Pages.{newest_row};
 ghost use Rattle.collection.specs.Looks.{IsReadFault};
+ghost use Rattle.collection.specs.Stops.{room_of};
 ghost use Rattle.ftl_device.specs.Device.{IsDevice};
 ghost use Rattle.ftl_device.specs.Calls.{IsWell, stop_of, state_in, read_reply_of};
 ghost use Rattle.ftl_device.specs.Stopped.{SurvivesStops};
@@ -121,15 +122,15 @@ impl<N: Nand> Device<N> {
         ensures cut { N.view.honest self.old.engine.nand ≡ true → stop_of self.old.engine.fault ≡ None → result ≡ Err DeviceFault.BusFault →
             EndsAt [] (N.view.recorded self.old.engine.nand) (N.view.recorded self.new.engine.nand) }
         ensures survives { N.view.honest self.old.engine.nand ≡ true → IsWell N.view.flash self.old → result ≢ Err DeviceFault.BusFault →
-            SurvivesStops self.old.engine.geometry self.old.engine.mapping.capacity (Read sector) result
+            SurvivesStops self.old.engine.geometry (room_of (ram self.old.engine)) (Read sector) result
             (image_in N.view.flash self.old.engine) (image_in N.view.flash self.new.engine) (N.view.recorded self.new.engine.nand) [] }
         ensures well { N.view.honest self.old.engine.nand ≡ true → IsWell N.view.flash self.old → result ≢ Err DeviceFault.BusFault →
             IsWell N.view.flash self.new }
         ensures step { N.view.honest self.old.engine.nand ≡ true → IsWell N.view.flash self.old → result ≢ Err DeviceFault.BusFault →
             ArrayStep self.old.engine.geometry (state_in N.view.flash self.old) (Read sector) (read_reply_of out.new result) (state_in N.view.flash self.new) }
         ensures mountable { N.view.honest self.old.engine.nand ≡ true → IsWell N.view.flash self.old → result ≢ Err DeviceFault.BusFault →
-            self.old.engine.mapping.capacity + self.old.engine.geometry.pages ≤ 65536 →
-            IsMountable self.old.engine.geometry (self.old.engine.mapping.capacity + self.old.engine.geometry.pages) (image_in N.view.flash self.new.engine) }
+            room_of (ram self.old.engine) ≤ 65536 →
+            IsMountable self.old.engine.geometry (room_of (ram self.old.engine)) (image_in N.view.flash self.new.engine) }
     {
         self.going()?;
         if sector >= self.engine.geometry.sectors() {

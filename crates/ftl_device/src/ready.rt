@@ -19,6 +19,7 @@ ghost use Rattle.collection.specs.Settle.{HasNoMore};
 ghost use Rattle.collection.specs.Looks.{FindsRow, IsReadFault};
 ghost use Rattle.collection.specs.Results.{IsSame, Refused, fault_after};
 ghost use Rattle.collection.specs.Collect.{KeepsKeys, IsRearranged, RoomRefused, RoomCounts};
+ghost use Rattle.collection.specs.Room.{wanted};
 ghost use Rattle.collection.specs.Stops.{Cuts, CutsSafely, IsPutByStop};
 ghost use Rattle.ftl_device.specs.Calls.{Knows, IsFound, KeepsArray, HoldsSector, CallRefused, HasMadeRoom};
 ghost use Rattle.ftl_device.specs.Calls.{HasMadePlace, IsReady, HasCost, HasPageOf, IsLastOf};
@@ -32,17 +33,22 @@ ghost use Rattle.ftl_device.specs.Shortage.{HasFunds, PlaceCosts, RoomCosts};
 ghost use Rattle.ftl_device.specs.Changes.{EngineLeaves, EndsCall, Readies, HasLookedUp};
 
 use crate::fault::CallFault;
-use collection::{Engine, EngineFault};
+use collection::{Engine, EngineFault, Reserve};
 use onfi_cycles::Nand;
 
-// Sees that there are free blocks enough for a call that programs.
-pub(crate) fn make_room<N: Nand>(engine: &mut Engine<N>, flushing: bool) -> Result<(), EngineFault>
+// Sees that there are free blocks enough for a call that programs, or for a flush.
+pub(crate) fn make_room<N: Nand>(
+    engine: &mut Engine<N>,
+    reserve: Reserve,
+    flushing: bool,
+) -> Result<(), EngineFault>
     requires safe { IsSafe N.view.flash engine.old }
+    requires flushes { flushing ≡ true → engine.old.mapping.share ≡ 0 }
     requires going { engine.old.fault ≡ None }
     requires calm { IsCalm (ram engine.old) }
     ensures leaves { EngineLeaves N.view engine.old result engine.new }
-    ensures made { OnOk result (HasMadeRoom flushing (ram engine.old) (ram engine.new)) }
-    ensures rests { 9 ≤ free_count (ram engine.old).blocks → IsOk result × (engine.new ≡ engine.old) }
+    ensures made { OnOk result (HasMadeRoom (wanted reserve (ram engine.old)) flushing (ram engine.old) (ram engine.new)) }
+    ensures rests { wanted reserve (ram engine.old) ≤ free_count (ram engine.old).blocks → IsOk result × (engine.new ≡ engine.old) }
     ensures erases { OnOk result (RestsOrErases N.view.erases engine.old engine.new) }
     ensures keys { KeepsKeys engine.old.mapping engine.new.mapping }
     ensures cleans { flushing ≡ true → OnOk result (KeepsClean engine.old.geometry engine.old.mapping engine.new.mapping) }
@@ -56,9 +62,9 @@ pub(crate) fn make_room<N: Nand>(engine: &mut Engine<N>, flushing: bool) -> Resu
         (λ fault. fault ≢ EngineFault.Bus → PinIsFew 0 (ram engine.new)) }
     ensures count { N.view.honest engine.old.nand ≡ true → Knows (ram engine.old) (image_in N.view.flash engine.old) →
         (failures : ℕ) → IsFunded engine.old.geometry.pages failures (counts_of (ram engine.old).blocks) →
-        RoomCounts failures (ram engine.old) (ram engine.new) result }
+        RoomCounts (wanted reserve (ram engine.old)) failures (ram engine.old) (ram engine.new) result }
 {
-    engine.make_room(flushing)
+    engine.make_room(reserve, flushing)
 }
 
 // Writes back the translation page of the least recently used sector, where caching this one would
@@ -148,7 +154,7 @@ fn prepare<N: Nand>(engine: &mut Engine<N>, sector: u32) -> Result<Option<u32>, 
         (λ row. IsFound sector row engine.old.geometry (image_in N.view.flash engine.old) (ram engine.new) (image_in N.view.flash engine.new))
         (λ fault. CallRefused engine.old.geometry (image_in N.view.flash engine.old) (ram engine.new) (image_in N.view.flash engine.new) (CallFault.Engine fault)) }
 {
-    make_room(engine, false)?;
+    make_room(engine, Reserve::Call, false)?;
     make_place(engine, sector)?;
     find_row(engine, sector)
 }

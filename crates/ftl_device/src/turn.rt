@@ -4,6 +4,7 @@ ghost use Rattle.promises.specs.Step.{Turn};
 ghost use Rattle.bad_blocks.specs.Table.{good_count};
 ghost use Rattle.collection.specs.Safe.{IsSafe, ram, image_in};
 ghost use Rattle.collection.specs.Stops.{CutsSafely};
+ghost use Rattle.collection.specs.Room.{wanted};
 ghost use Rattle.collection.specs.Left.{IsCalm};
 ghost use Rattle.collection.specs.Collect.{HasAiling, HasNoneAiling};
 ghost use Rattle.ftl_device.specs.Device.{IsDevice};
@@ -37,15 +38,15 @@ fn step_pinned<N: Nand>(engine: &mut Engine<N>) -> Result<(), EngineFault>
     Ok(())
 }
 
-// Goes on with the collection under way; with none, one begins where fewer than twelve blocks are free
-// and one is worth it.
+// Goes on with the collection under way; with none, one begins where fewer blocks are free than a turn
+// wants and one is worth it.
 fn collect_on<N: Nand>(engine: &mut Engine<N>) -> Result<(), EngineFault>
     requires safe { IsSafe N.view.flash engine.old }
     requires going { engine.old.fault ≡ None }
     requires calm { IsCalm (ram engine.old) }
     ensures collects { CollectsOn N.view engine.old result engine.new }
     ensures gone_on { OnOk result (((ram engine.new ≡ ram engine.old) × HasNoneToCollect (ram engine.old)) ⊎ HasGoneOn (ram engine.old) (ram engine.new)) }
-    ensures rests { engine.old.pinned ≡ None → 12 ≤ free_count (ram engine.old).blocks → IsOk result × (engine.new ≡ engine.old) }
+    ensures rests { engine.old.pinned ≡ None → wanted Reserve.Turn (ram engine.old) ≤ free_count (ram engine.old).blocks → IsOk result × (engine.new ≡ engine.old) }
     ensures quiet { N.view.honest engine.old.nand ≡ true → Knows (ram engine.old) (image_in N.view.flash engine.old) →
         OnOk result (IsQuiet N.view.erases engine.old engine.new) }
     ensures falls { N.view.honest engine.old.nand ≡ true → Knows (ram engine.old) (image_in N.view.flash engine.old) →
@@ -75,7 +76,7 @@ fn turn_ready<N: Nand>(engine: &mut Engine<N>) -> Result<(), CallFault>
     ensures turned { OnOk result (HasTurned (ram engine.old) (ram engine.new)) }
     ensures count { HasFunds (N.view.honest engine.old.nand) (ram engine.old) (image_in N.view.flash engine.old) →
         5 ≤ free_count (ram engine.old).blocks → CallShort (ram engine.old) (ram engine.new) result }
-    ensures rests { HasNoneAiling (ram engine.old).blocks → engine.old.pinned ≡ None → 12 ≤ free_count (ram engine.old).blocks →
+    ensures rests { HasNoneAiling (ram engine.old).blocks → engine.old.pinned ≡ None → wanted Reserve.Turn (ram engine.old) ≤ free_count (ram engine.old).blocks →
         IsOk result × (engine.new ≡ engine.old) }
     ensures quiet { N.view.honest engine.old.nand ≡ true → Knows (ram engine.old) (image_in N.view.flash engine.old) →
         OnOk result (IsQuiet N.view.erases engine.old engine.new) }
@@ -92,7 +93,7 @@ fn turn_ready<N: Nand>(engine: &mut Engine<N>) -> Result<(), CallFault>
     ensures worked { N.view.honest engine.old.nand ≡ true → Knows (ram engine.old) (image_in N.view.flash engine.old) → HasAiling (ram engine.old).blocks →
         OnOk result (HasWorked (ram engine.old) (ram engine.new) (N.view.erases engine.old.nand) (N.view.erases engine.new.nand)) }
 {
-    make_room(engine, false)?;
+    make_room(engine, Reserve::Call, false)?;
     if engine.needs_rescue() {
         engine.rescue_one()?;
         return Ok(());
@@ -106,12 +107,12 @@ impl<N: Nand> Device<N> {
     /// newest page, the one of lowest row is copied out; where its sector is then moved and not cached,
     /// its translation page is written back. Else, where a block is being collected, its collection
     /// goes one step further: one page is copied, or one translation page is written back, or the
-    /// block is erased. Else, where fewer than twelve blocks are free and the closed block of fewest
-    /// newest pages has at most `Geometry::vmax`, its collection begins with such a step. Else nothing
-    /// is asked of the die: so with twelve free blocks, no collection under way and no newest page in a
-    /// bad block.
+    /// block is erased. Else, where fewer blocks are free than a turn wants and the closed block of fewest
+    /// newest pages has at most `Geometry::vmax_at`, its collection begins with such a step. Else nothing
+    /// is asked of the die: so with as many free blocks, no collection under way and no newest page in a
+    /// bad block. A turn wants twelve free blocks, and `Geometry::flush_blocks_at` more above share 0.
     ///
-    /// A turn that is done without programming or erasing leaves twelve free blocks, where three more
+    /// A turn that is done without programming or erasing leaves so many free blocks, where three more
     /// are good than the geometry asks for. Turns without failures in between which all program have
     /// an erase among as many of them as a block has pages. Where the power goes inside one, each sector
     /// holds what it held.
@@ -130,7 +131,7 @@ impl<N: Nand> Device<N> {
         ensures cursor { self.new.cursor ≡ self.old.cursor }
         ensures upkeeps { Upkeeps N.view Turn self.old result self.new }
         ensures turned { OnOk result (HasTurned (ram self.old.engine) (ram self.new.engine)) }
-        ensures rests { HasNoneAiling (ram self.old.engine).blocks → self.old.engine.pinned ≡ None → 12 ≤ free_count (ram self.old.engine).blocks →
+        ensures rests { HasNoneAiling (ram self.old.engine).blocks → self.old.engine.pinned ≡ None → wanted Reserve.Turn (ram self.old.engine) ≤ free_count (ram self.old.engine).blocks →
             OnOk result (self.new.engine ≡ self.old.engine) }
         ensures quiet { N.view.honest self.old.engine.nand ≡ true → IsWell N.view.flash self.old →
             OnOk result (IsQuiet N.view.erases self.old.engine self.new.engine) }

@@ -1,7 +1,7 @@
 //! Sectors are written and trimmed.
 ghost use Rattle.std.specs.Prelude.{◌≡◌, ◌-◌, ◌<◌, ◌≤◌, ◌^◌, length, Ok, Err, Some, None, IsOk, IfErr, OnOk};
 ghost use Rattle.std.specs.Prelude.{MatchOption};
-ghost use Rattle.page_layout.specs.Geometry.{need};
+ghost use Rattle.page_layout.specs.Geometry.{need_at};
 ghost use Rattle.bad_blocks.specs.Table.{good_count};
 ghost use Rattle.allocation.specs.State.{free_count};
 ghost use Rattle.promises.specs.Step.{Write, Trim};
@@ -33,12 +33,12 @@ impl<N: Nand> Device<N> {
     pub(crate) fn short_of(&self, good: u32) -> DeviceFault
         requires fewer { good_count (ram self.now.engine).blocks.table ≤ good }
         ensures { result ≡ DeviceFault.ReadOnly (good_count (ram self.now.engine).blocks.table)
-            (need self.now.engine.geometry) (good - good_count (ram self.now.engine).blocks.table) }
+            (need_at self.now.engine.geometry self.now.engine.mapping.share) (good - good_count (ram self.now.engine).blocks.table) }
     {
         let left = self.engine.blocks.good();
         DeviceFault::ReadOnly {
             good: left,
-            need: self.engine.geometry.need(),
+            need: self.engine.geometry.need_at(self.engine.mapping.share()),
             failed: good - left,
         }
     }
@@ -118,7 +118,8 @@ impl<N: Nand> Device<N> {
     ///   `SequenceSpent`, `ReadOnly` or `BusFault` as it is programmed.
     /// - while the row that the sector has so far is looked up: `Damaged` or `BusFault`.
     /// - `OutOfMemory` where a growth was refused as the sector was to be cached, which never is where
-    ///   it is cached, nor where it is stale in the image and no block was pinned as the call began.
+    ///   it is cached, nor, with share 0, where it is stale in the image and no block was pinned as the
+    ///   call began.
     ///   Nothing of the sector was programmed.
     /// - while its page is programmed: `SequenceSpent`, `ReadOnly` or `BusFault`.
     ///
@@ -126,7 +127,7 @@ impl<N: Nand> Device<N> {
     ///
     /// - `ReadOnly`: the device is read-only until it is started anew, or no block is left for a page,
     ///   after which it is so. The array is as it was. `good` counts the good blocks as the call ends,
-    ///   `need` is the geometry's, and `failed` counts the blocks that failed in the call.
+    ///   `need` is the geometry's at this share, and `failed` counts the blocks that failed in the call.
     /// - `SequenceSpent`: the next page would have no sequence. The array is as it was.
     /// - `OutOfMemory`: the array is as it was, and so is the order of the cached sectors.
     /// - `Damaged`: a translation page isn't sound or not of its key, or names a row that the die

@@ -17,7 +17,8 @@ use Rattle.page_layout.specs.Word.{IsRow}
 use Rattle.mapping_cache.specs.declared.slot.Slot.{Slot}
 use Rattle.mapping_cache.specs.Mapping.{MappingState, IsMapping, per_page, slot_of, moved_row, pending_by, dirty_row, pending, dirty_from, moved_in}
 use Rattle.mapping_cache.specs.Mapping.{some_rows, lacking, AreRowsOf, AreLacking}
-use Rattle.mapping_cache.proofs.Entries.{by_test, eqb_self, IsDistinct-filter}
+use Rattle.mapping_cache.proofs.Entries.{by_test, eqb_self}
+use Rattle.mapping_cache.proofs.Places.{IsDistinct-by_sector, IsBySector-filter}
 use Rattle.mapping_cache.proofs.Clean.{passes_from_keys, of_page_at, in_page_at}
 use Rattle.mapping_cache.proofs.Steps.{pending-at, known-pending}
 
@@ -202,7 +203,7 @@ module _ (m : MappingState) (t : ℕ) (v : IsMapping m) where
   moved_pends n r h = pending-at m n (slot_of m n) (Some r) refl h
 
   moved_rows : AllByRecursion (λ e. (e.0 / per_page m ≡ t) × ((moved_row m e.0 ≡ Some e.1))) (moved_in (per_page m) t m.moved)
-  moved_rows = each-moved_in (λ n r. moved_row m n ≡ Some r) (per_page m) t m.moved (each_from_lookup (λ n r. moved_row m n ≡ Some r) m.moved v.moved_distinct (λ n r h. h))
+  moved_rows = each-moved_in (λ n r. moved_row m n ≡ Some r) (per_page m) t m.moved (each_from_lookup (λ n r. moved_row m n ≡ Some r) m.moved (IsDistinct-by_sector m.moved v.by_sector) (λ n r h. h))
 
   in_page : (n : ℕ) → n / per_page m ≡ t → (t * per_page m ≤ n) × (n < t * per_page m + per_page m)
   in_page n e = in_page_at (per_page m) t n (some_entries m.geometry) e
@@ -214,7 +215,7 @@ module _ (m : MappingState) (t : ℕ) (v : IsMapping m) where
   pub AreRowsOf-lacking : AreRowsOf (per_page m) t (lacking m t)
   AreRowsOf-lacking = (
     IsDistinct-append (some_rows (moved_in (per_page m) t m.moved)) (dirty_from m.cached (t * per_page m) (per_page m))
-        (rw (keys-some_rows (moved_in (per_page m) t m.moved)) (IsDistinct-filter _ m.moved v.moved_distinct))
+        (rw (keys-some_rows (moved_in (per_page m) t m.moved)) (IsDistinct-by_sector _ (IsBySector-filter _ m.moved v.by_sector)))
         (IsDistinct-dirty_from m.cached (t * per_page m) (per_page m))
         (each-some_rows _ (moved_in (per_page m) t m.moved) (All-from _ _ (moved_in (per_page m) t m.moved) (λ e h. not_dirty e.0 e.1 h.0 h.1) moved_rows)),
     All-append _ (some_rows (moved_in (per_page m) t m.moved)) (dirty_from m.cached (t * per_page m) (per_page m))

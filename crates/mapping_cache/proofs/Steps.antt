@@ -1,6 +1,6 @@
 -- What each step of the mapping does to the rows that it knows.
 use Rattle.std.proofs.Common.{◌≡◌, ◌≢◌, ℕ, suc, ◌+◌, ◌-◌, ◌/◌, ◌<◌, ◌≤◌, ◌∙◌, Bool, true, false, not, cond, eqb, List, [], ◌∷◌, length, take, map}
-use Rattle.std.proofs.Common.{Option, Some, None, refl, sym, ap, subst, ◌⊎◌, inl, inr, arith, unwrap_or, IsSome, length-append, take_all}
+use Rattle.std.proofs.Common.{Option, Some, None, refl, sym, ap, subst, ◌⊎◌, inl, inr, arith, unwrap_or, IsSome, take_all}
 use Rattle.std.proofs.Common.{length-take}
 use Rattle.std.specs.Cmp.{nat_eq_equiv}
 use Rattle.std.specs.List.{IsDistinct}
@@ -10,13 +10,15 @@ use Rattle.std.proofs.lemmas.Bool.{eqb-true, eqb-false, eq-eqb, ne_eqb, cond-tru
 use Rattle.std.proofs.lemmas.Map.{lookup-set_value, keys-set_value, length-set_value}
 use Rattle.std.proofs.lemmas.Map.Entries.{lookup-filter-keys}
 use Rattle.page_layout.specs.declared.geometry.Geometry.{Geometry}
+use Rattle.page_layout.specs.Geometry.{IsShare}
 use Rattle.lru.specs.LruCache.{last_entry}
 use Rattle.mapping_cache.specs.declared.slot.Slot.{Slot}
-use Rattle.mapping_cache.specs.Mapping.{MappingState, IsMapping, IsEntryOf, CanMove, per_page, slot_of, moved_row, known_by, pending_by, known}
-use Rattle.mapping_cache.specs.Mapping.{pending, new_slot, without, inserted, used, with_dirty, dropped, with_moved, clean_entry, cleaned}
-use Rattle.mapping_cache.proofs.Entries.{by_test, one_key, eqb_self, IsDistinct-take, IsDistinct-filter, IsDistinct-first, IsDistinct-last}
-use Rattle.mapping_cache.proofs.Entries.{IsDistinct-promoted, lookup-promoted, length-promoted, lookup-take_none, lookup-front, lookup-last}
-use Rattle.mapping_cache.proofs.Entries.{filter-without, length-filter, length-filter_less}
+use Rattle.mapping_cache.specs.Mapping.{MappingState, IsMapping, IsEntryOf, CanMove, moved_room, per_page, slot_of, moved_row, known_by, pending_by, known}
+use Rattle.mapping_cache.specs.Mapping.{pending, new_slot, placed, inserted, used, with_dirty, dropped, with_moved, clean_entry, cleaned}
+use Rattle.mapping_cache.proofs.Entries.{by_test, one_key, eqb_self, IsDistinct-take, IsDistinct-first}
+use Rattle.mapping_cache.proofs.Entries.{IsDistinct-promoted, lookup-promoted, length-promoted, lookup-take_none, lookup-front}
+use Rattle.mapping_cache.proofs.Entries.{filter-without, length-filter}
+use Rattle.mapping_cache.proofs.Places.{IsBySector-filter, IsBySector-placed, lookup-placed, length-placed, length-placed_again}
 
 -- what a state knows goes by the slot and the moved row
 pub known-same : (m' m : MappingState) (n : ℕ) → slot_of m' n ≡ slot_of m n → moved_row m' n ≡ moved_row m n → known m' n ≡ known m n
@@ -89,7 +91,8 @@ IsMapping-used m k v = record {
   distinct = IsDistinct-promoted k m.cached v.distinct;
   within = rw (length-promoted (eqb k) m.cached) v.within;
   holds_one = v.holds_one;
-  moved_distinct = v.moved_distinct;
+  has_share = v.has_share;
+  by_sector = v.by_sector;
   moved_within = v.moved_within;
   apart = λ n r h. slot_of-used m k n v ∙ v.apart n r h;
   known_in = λ n r h. v.known_in n r (sym (known-used m k n v) ∙ h);
@@ -137,7 +140,8 @@ module _ (m : MappingState) (k : ℕ) (row : Option ℕ) (v : IsMapping m) (h : 
     distinct = rw (keys-set_value (eqb k) m.cached (record { row = row; dirty = true })) v.distinct;
     within = rw (length-set_value (eqb k) m.cached (record { row = row; dirty = true })) v.within;
     holds_one = v.holds_one;
-    moved_distinct = v.moved_distinct;
+    has_share = v.has_share;
+    by_sector = v.by_sector;
     moved_within = v.moved_within;
     apart = λ n r e. by_test (eqb k n)
         (λ t. let no = not_moved m k v h in let here = subst (λ z. moved_row m z ≡ Some r) (sym (eqb-true k n t)) e in cc)
@@ -174,7 +178,8 @@ module _ (m : MappingState) (v : IsMapping m) where
     distinct = IsDistinct-take (length m.cached - 1) m.cached v.distinct;
     within = let w = v.within in let t = length-take (length m.cached - 1) m.cached in omega arith;
     holds_one = v.holds_one;
-    moved_distinct = v.moved_distinct;
+    has_share = v.has_share;
+    by_sector = v.by_sector;
     moved_within = v.moved_within;
     apart = λ n r e. lookup-take_none (length m.cached - 1) n m.cached (v.apart n r e);
     known_in = λ n r e. v.known_in n r (known-dropped n r e);
@@ -232,7 +237,8 @@ module _ (m : MappingState) (k : ℕ) (row : Option ℕ) (v : IsMapping m) (new 
     distinct = IsDistinct-first k (new_slot (moved_row m k) row) (take (m.capacity - 1) m.cached) (lookup-take_none (m.capacity - 1) k m.cached new) (IsDistinct-take (m.capacity - 1) m.cached v.distinct);
     within = let c = v.holds_one in let t = length-take (m.capacity - 1) m.cached in omega arith;
     holds_one = v.holds_one;
-    moved_distinct = IsDistinct-filter _ m.moved v.moved_distinct;
+    has_share = v.has_share;
+    by_sector = IsBySector-filter _ m.moved v.by_sector;
     moved_within = let w = v.moved_within in let f = length-filter (λ e. not (eqb e.0 k)) m.moved in omega arith;
     apart = λ n r e. by_test (eqb n k)
         (λ t. let no = moved_after n ∙ cond-true _ _ _ t in cc)
@@ -254,27 +260,24 @@ module _ (m : MappingState) (k : ℕ) (row : Option ℕ) (v : IsMapping m) (new 
 
 -- ---- a new row for a sector that isn't cached
 module _ (m : MappingState) (k row : ℕ) (v : IsMapping m) (uncached : slot_of m k ≡ None) where
-  gone : lookup (eqb k) (without k m.moved) ≡ None
-  gone = filter-without k k m.moved ∙ cond-true _ _ _ (eqb_self k)
-
-  moved_set : (n : ℕ) → moved_row (with_moved m k row) n ≡ cond (eqb n k) (Some row) (lookup (eqb n) (without k m.moved))
-  moved_set n = lookup-last (without k m.moved) k row n gone
+  moved_set : (n : ℕ) → moved_row (with_moved m k row) n ≡ cond (eqb n k) (Some row) (moved_row m n)
+  moved_set n = lookup-placed k row n m.moved
 
   set_here : moved_row (with_moved m k row) k ≡ Some row
   set_here = moved_set k ∙ cond-true _ _ _ (eqb_self k)
 
   set_other : (n : ℕ) → n ≢ k → moved_row (with_moved m k row) n ≡ moved_row m n
-  set_other n ne = let f = ne_eqb n k ne in moved_set n ∙ cond-false _ _ _ f ∙ filter-without k n m.moved ∙ cond-false _ _ _ f
+  set_other n ne = moved_set n ∙ cond-false _ _ _ (ne_eqb n k ne)
 
-  pub length-without : CanMove m k → length (without k m.moved) < m.geometry.pages
-  length-without room = at (moved_row m k) refl
+  length-with_moved_room : CanMove m k → length (with_moved m k row).moved ≤ moved_room m.geometry m.share
+  length-with_moved_room room = at (moved_row m k) refl
     where
-      at : (o : Option ℕ) → moved_row m k ≡ o → length (without k m.moved) < m.geometry.pages
-      at None e = let r = room e in let f = length-filter (λ e. not (eqb e.0 k)) m.moved in omega arith
-      at (Some r) e = let w = v.moved_within in let f = length-filter_less k m.moved r e in omega arith
+      at : (o : Option ℕ) → moved_row m k ≡ o → length (placed k row m.moved) ≤ moved_room m.geometry m.share
+      at None e = let r = room e in let more = length-placed k row m.moved in omega arith
+      at (Some r) e = let w = v.moved_within in let same = length-placed_again k row m.moved r v.by_sector e in omega arith
 
   pub length-with_moved : length (with_moved m k row).moved ≤ length m.moved + 1
-  length-with_moved = let f = length-filter (λ e. not (eqb e.0 k)) m.moved in let n = length-append (without k m.moved) ((k, row) ∷ []) in omega arith
+  length-with_moved = length-placed k row m.moved
 
   pub known-with_moved : known (with_moved m k row) k ≡ Some (Some row)
   known-with_moved = known-at (with_moved m k row) k None (Some row) uncached set_here
@@ -293,8 +296,9 @@ module _ (m : MappingState) (k row : ℕ) (v : IsMapping m) (uncached : slot_of 
     distinct = v.distinct;
     within = v.within;
     holds_one = v.holds_one;
-    moved_distinct = IsDistinct-last (without k m.moved) k row gone (IsDistinct-filter _ m.moved v.moved_distinct);
-    moved_within = let l = length-without room in let n = length-append (without k m.moved) ((k, row) ∷ []) in omega arith;
+    has_share = v.has_share;
+    by_sector = IsBySector-placed k row m.moved v.by_sector;
+    moved_within = length-with_moved_room room;
     apart = λ n r e. by_test (eqb n k)
         (λ t. rw (eqb-true n k t) uncached)
         (λ f. v.apart n r (sym (set_other n (eqb-false n k f)) ∙ e));
@@ -366,7 +370,8 @@ module _ (m : MappingState) (t : ℕ) (v : IsMapping m) where
     distinct = rw (keys-clean (per_page m) t m.cached) v.distinct;
     within = rw (length-clean (per_page m) t m.cached) v.within;
     holds_one = v.holds_one;
-    moved_distinct = IsDistinct-filter _ m.moved v.moved_distinct;
+    has_share = v.has_share;
+    by_sector = IsBySector-filter _ m.moved v.by_sector;
     moved_within = let w = v.moved_within in let f = length-filter (λ e. not (eqb (e.0 / per_page m) t)) m.moved in omega arith;
     apart = λ n r e. by_test (eqb (n / per_page m) t)
         (λ y. let no = moved_cleaned n ∙ cond-false _ _ _ (ap not y) in cc)
@@ -375,16 +380,17 @@ module _ (m : MappingState) (t : ℕ) (v : IsMapping m) where
   }
 
 -- a mapping that holds nothing
-abbrev pub empty : Geometry → ℕ → MappingState
-empty g capacity = record { geometry = g; capacity = capacity; cached = []; moved = [] }
+abbrev pub empty : Geometry → ℕ → ℕ → MappingState
+empty g capacity share = record { geometry = g; capacity = capacity; share = share; cached = []; moved = [] }
 
-pub IsMapping-empty : (g : Geometry) (capacity : ℕ) → 0 < capacity → IsMapping (empty g capacity)
+pub IsMapping-empty : (g : Geometry) (capacity share : ℕ) → 0 < capacity → IsShare g share → IsMapping (empty g capacity share)
 unfolding known IsDistinct
-IsMapping-empty g capacity c = record {
+IsMapping-empty g capacity share c fits = record {
   distinct = tt;
   within = omega arith;
   holds_one = c;
-  moved_distinct = tt;
+  has_share = fits;
+  by_sector = tt;
   moved_within = omega arith;
   apart = λ n r h. refl;
   known_in = λ n r h. cc;

@@ -1,12 +1,12 @@
 -- What contracts see of the cached mapping table.
 use Rattle.std.specs.Prelude.{◌≡◌, ℕ, ◌-◌, ◌*◌, ◌/◌, ◌<◌, ◌≤◌, ◌==◌, false, true, List, [], ◌∷◌, ◌++◌, length, take, map, filter, Option, Some, None}
 use Rattle.std.specs.Prelude.{nat_eq, option_map, option_and_then, not, ◌+◌, nat_le, nat_lt, ◌&&◌, if◌then◌else◌}
-use Rattle.std.specs.List.{IsDistinct, AllByRecursion, filter_map, range_with_len}
+use Rattle.std.specs.List.{IsDistinct, AllByRecursion, AllWithin, filter_map, range_with_len}
 use Rattle.std.specs.Option.{ForSome}
 use Rattle.std.specs.Map.{keys_of, lookup, set_value}
 use Rattle.lru.specs.LruCache.{promoted, last_entry}
 use Rattle.page_layout.specs.declared.geometry.Geometry.{Geometry}
-use Rattle.page_layout.specs.Geometry.{entries, row_count}
+use Rattle.page_layout.specs.Geometry.{entries, row_count, waiting_at, IsShare}
 use Rattle.page_layout.specs.Word.{IsRow}
 use Rattle.mapping_cache.specs.declared.slot.Slot.{Slot}
 
@@ -14,9 +14,11 @@ pub record MappingState : Type 0 where
   pub geometry : Geometry
   -- the most sectors that are cached
   pub capacity : ℕ
+  -- how many moved sectors may wait for each translation page, in the mean
+  pub share : ℕ
   -- the cached sectors with their slots, the most recently used first
   pub cached : List (ℕ × Slot)
-  -- the moved sectors, none of them cached, with their new rows
+  -- the moved sectors, none of them cached, with their new rows, by sector
   pub moved : List (ℕ × ℕ)
 
 -- the entries of a translation page: sector n is of page n / per_page
@@ -29,6 +31,28 @@ slot_of m n = lookup (nat_eq n) m.cached
 
 abbrev pub moved_row : MappingState → ℕ → Option ℕ
 moved_row m n = lookup (nat_eq n) m.moved
+
+-- how many sectors the moved list has a place for: for those that may wait, and one more for each page of a block
+abbrev pub moved_room : Geometry → ℕ → ℕ
+moved_room g share = waiting_at g share + g.pages
+
+-- ---- lists by sector
+
+-- EACH SECTOR IS BELOW ALL THAT COME AFTER IT
+abbrev pub IsBySector : List (ℕ × ℕ) → Type 0
+IsBySector [] = Unit {0}
+IsBySector (e ∷ es) = AllByRecursion (λ f. e.0 < f.0) es × IsBySector es
+
+-- THE PLACE OF SECTOR n: those before it are below n, and no other is
+pub record IsPlace (ms : List (ℕ × ℕ)) (n i : ℕ) : Type 0 where
+  pub within : i ≤ length ms
+  pub before : AllWithin (λ e. e.0 < n) ms 0 i
+  pub after : AllWithin (λ e. n ≤ e.0) ms i (length ms)
+
+-- THE LIST WITH THIS ROW FOR SECTOR n, in place of an older one: every other sector keeps its row, and a list by sector stays one
+abbrev pub placed : ℕ → ℕ → List (ℕ × ℕ) → List (ℕ × ℕ)
+placed n row [] = (n, row) ∷ []
+placed n row (e ∷ es) = if nat_lt n e.0 then (n, row) ∷ e ∷ es else if n == e.0 then (n, row) ∷ es else e ∷ placed n row es
 
 -- ---- what the mapping knows, and what translation pages lack
 
@@ -64,15 +88,17 @@ pub record IsMapping (m : MappingState) : Type 0 where
   pub distinct : IsDistinct nat_eq (keys_of m.cached)
   pub within : length m.cached ≤ m.capacity
   pub holds_one : 0 < m.capacity
-  pub moved_distinct : IsDistinct nat_eq (keys_of m.moved)
-  pub moved_within : length m.moved ≤ m.geometry.pages
+  pub has_share : IsShare m.geometry m.share
+  pub by_sector : IsBySector m.moved
+  pub moved_within : length m.moved ≤ moved_room m.geometry m.share
   pub apart : (n r : ℕ) → moved_row m n ≡ Some r → slot_of m n ≡ None
   pub known_in : (n : ℕ) → ForSome (known m n) (IsEntryOf m.geometry n)
 
--- the new mapping is of the same die, and as large as the old one
+-- the new mapping is of the same die, as large as the old one, and as many sectors may wait
 pub record HasLimitsOf (old new : MappingState) : Type 0 where
   pub geometry : new.geometry ≡ old.geometry
   pub capacity : new.capacity ≡ old.capacity
+  pub share : new.share ≡ old.share
 
 -- ---- the conditions of calls
 
@@ -82,7 +108,7 @@ CanLoad m n = slot_of m n ≡ None → length m.cached ≡ m.capacity → ForSom
 
 -- the row of a sector has a place on the moved list
 abbrev pub CanMove : MappingState → ℕ → Type 0
-CanMove m n = moved_row m n ≡ None → length m.moved < m.geometry.pages
+CanMove m n = moved_row m n ≡ None → length m.moved < moved_room m.geometry m.share
 
 -- ---- what a call makes of a mapping
 
@@ -125,7 +151,7 @@ dropped m = record m { cached = take (length m.cached - 1) m.cached }
 
 -- a moved sector has this row
 abbrev pub with_moved : MappingState → ℕ → ℕ → MappingState
-with_moved m n row = record m { moved = without n m.moved ++ (n, row) ∷ [] }
+with_moved m n row = record m { moved = placed n row m.moved }
 
 -- an entry, clean if it is of page t
 abbrev pub clean_entry : ℕ → ℕ → ℕ × Slot → ℕ × Slot
@@ -141,9 +167,15 @@ cleaned m t = record m { cached = map (clean_entry (per_page m) t) m.cached; mov
 
 -- ---- the rows that a translation page lacks
 
--- the moved sectors of page t, with their rows
+-- the moved sectors of page t, with their rows, in the order of the list
 abbrev pub moved_in : ℕ → ℕ → List (ℕ × ℕ) → List (ℕ × ℕ)
 moved_in per_page t ms = filter (λ e. e.0 / per_page == t) ms
+
+-- THE LOWEST PAGE THAT MORE THAN `share` SECTORS OF THE LIST ARE OF; none where no page has more
+pub record IsLowestOver (per_page share : ℕ) (ms : List (ℕ × ℕ)) (page : Option ℕ) : Type 0 where
+  pub none : page ≡ None → (t : ℕ) → length (moved_in per_page t ms) ≤ share
+  pub over : ForSome page (λ t. share < length (moved_in per_page t ms))
+  pub lowest : ForSome page (λ t. (u : ℕ) → u < t → length (moved_in per_page u ms) ≤ share)
 
 -- the moved rows, as rows that an entry may have
 abbrev pub some_rows : List (ℕ × ℕ) → List (ℕ × Option ℕ)
@@ -157,7 +189,7 @@ dirty_entry es n = option_map (λ row. (n, row)) (option_and_then dirty_row (loo
 abbrev pub dirty_from : List (ℕ × Slot) → ℕ → ℕ → List (ℕ × Option ℕ)
 dirty_from es first count = filter_map (dirty_entry es) (range_with_len first count)
 
--- the moved sectors of page t in the order of the moved list, then its dirty cached ones, rising
+-- the moved sectors of page t, rising, then its dirty cached ones, rising
 abbrev pub lacking : MappingState → ℕ → List (ℕ × Option ℕ)
 lacking m t = some_rows (moved_in (per_page m) t m.moved) ++ dirty_from m.cached (t * per_page m) (per_page m)
 

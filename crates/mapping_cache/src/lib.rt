@@ -3,6 +3,7 @@
 #![tactic(auto)]
 
 mod mapping;
+mod moved;
 mod pages;
 mod slot;
 

@@ -4,10 +4,10 @@ ghost use Rattle.std.specs.Prelude.{nat_eq, is_some, unwrap_or, true, false, IsT
 ghost use Rattle.std.specs.Option.{ForSome};
 ghost use Rattle.std.specs.Map.{keys_of, lookup};
 ghost use Rattle.lru.specs.LruCache.{lru_cache, last_entry};
-ghost use Rattle.std.specs.Vec.{vec_capacity};
 ghost use Rattle.std.specs.List.{IsDistinct};
-ghost use Rattle.mapping_cache.specs.Mapping.{new_slot, clean_between, without, without_page};
+ghost use Rattle.mapping_cache.specs.Mapping.{IsBySector, new_slot, clean_between};
 
+use crate::moved::{forget_page, forget_sector, list_sector, lowest_over, places_in, row_in};
 use crate::pages::{DirtyOf, MovedOf, write_rows};
 use crate::slot::Slot;
 use lru::LruCache;
@@ -37,13 +37,14 @@ pub enum LoadFault {
 pub struct Mapping {
     geometry: Geometry,
     cache: LruCache<u32, Slot>,
+    share: u32,
     moved: Vec<(u32, u32)>,
 }
 
 impl Model for Mapping {
     ghost use Rattle.std.specs.Prelude.{◌≤◌};
     ghost use Rattle.std.specs.Vec.{vec_capacity};
-    ghost use Rattle.mapping_cache.specs.Mapping.{MappingState, IsMapping};
+    ghost use Rattle.mapping_cache.specs.Mapping.{MappingState, IsMapping, moved_room};
 
     ghost Value = { MappingState };
 
@@ -51,21 +52,12 @@ impl Model for Mapping {
 
     ghost view = { mapping_state };
 
-    ghost invariant = { λ m. IsMapping (mapping_state m) × (m.geometry.pages ≤ vec_capacity m.moved) };
-}
-
-// The row of a sector on the moved list.
-fn row_in(moved: &[(u32, u32)], sector: u32) -> Option<u32>
-    ensures { result ≡ lookup (nat_eq sector) moved.now }
-{
-    match moved.iter().find(|m| m.0 == sector) {
-        Some(m) => Some(m.1),
-        None => None,
-    }
+    ghost invariant = { λ m. IsMapping (mapping_state m) × (moved_room m.geometry m.share ≤ vec_capacity m.moved) };
 }
 
 // The slot with which an uncached sector is cached: a moved row is dirty.
 fn slot_for(moved: &[(u32, u32)], sector: u32, row: Option<u32>) -> Slot
+    requires { IsBySector moved.now }
     ensures { result ≡ new_slot (lookup (nat_eq sector) moved.now) row }
 {
     match row_in(moved, sector) {
@@ -90,33 +82,6 @@ fn insert_new(cache: &mut LruCache<u32, Slot>, sector: u32, slot: Slot) -> Resul
     }
 }
 
-// Takes a sector off the moved list.
-fn forget_sector(moved: &mut Vec<(u32, u32)>, sector: u32)
-    ensures items { moved.new.items ≡ without sector moved.old.items }
-    ensures capacity { vec_capacity moved.new ≡ vec_capacity moved.old }
-{
-    moved.retain(|m| m.0 != sector);
-}
-
-// Takes the sectors of translation page `t` off the moved list.
-fn forget_page(moved: &mut Vec<(u32, u32)>, per_page: u32, t: u32)
-    requires { 0 < per_page }
-    ensures items { moved.new.items ≡ without_page per_page t moved.old.items }
-    ensures capacity { vec_capacity moved.new ≡ vec_capacity moved.old }
-{
-    moved.retain(|m| m.0 / per_page != t);
-}
-
-// Puts a sector on the moved list, with this row alone.
-fn list_sector(moved: &mut Vec<(u32, u32)>, sector: u32, row: u32)
-    requires { length (without sector moved.old.items) < vec_capacity moved.old }
-    ensures items { moved.new.items ≡ without sector moved.old.items ++ (sector, row) ∷ [] }
-    ensures capacity { vec_capacity moved.old ≤ vec_capacity moved.new }
-{
-    forget_sector(moved, sector);
-    let _ = moved.push((sector, row));
-}
-
 // Makes so many cached sectors clean, from the first on. The order stays.
 fn clean_sectors(cache: &mut LruCache<u32, Slot>, first: u32, count: u32)
     requires fits { first + count < 2 ^ 32 }
@@ -132,27 +97,50 @@ fn clean_sectors(cache: &mut LruCache<u32, Slot>, first: u32, count: u32)
 }
 
 impl Mapping {
-    ghost use Rattle.page_layout.specs.Geometry.{translation_pages, row_count};
+    ghost use Rattle.page_layout.specs.Geometry.{IsShare, translation_pages, row_count};
     ghost use Rattle.translation_pages.specs.TranslationPage.{entry_at};
     ghost use Rattle.mapping_cache.specs.Mapping.{IsMapping, IsEntryOf, HasLimitsOf, per_page, slot_of, moved_row, known, pending, CanLoad, CanMove};
-    ghost use Rattle.mapping_cache.specs.Mapping.{used, loaded, dropped, with_dirty, with_moved, cleaned, lacking, moved_in, AreLacking};
+    ghost use Rattle.mapping_cache.specs.Mapping.{used, loaded, dropped, with_dirty, with_moved, cleaned, lacking, moved_in, moved_room, AreLacking, IsLowestOver};
 
     /// An empty mapping of a die, with room for so many cached sectors and for a moved sector for
-    /// each page of a block.
+    /// each page of a block: one of share 0.
     ///
     /// It fails for want of memory alone. The room of the moved list is taken here; of the cache's
     /// entries, as they come.
     pub fn new(alloc: Global, geometry: &Geometry, capacity: u32) -> Result<Mapping, AllocError>
         requires { 0 < capacity }
         ensures empty { IfOk result (λ m. m ≡
-            record { geometry = geometry.now; capacity = capacity; cached = []; moved = [] }) }
+            record { geometry = geometry.now; capacity = capacity; share = 0; cached = []; moved = [] }) }
+        ensures valid { IfOk result IsMapping }
+    {
+        Mapping::with_share(alloc, geometry, capacity, 0)
+    }
+
+    /// An empty mapping of a die, with room for so many cached sectors, where up to `share` moved
+    /// sectors, in the mean, wait for each translation page: with a place on the moved list for each
+    /// of those, and for each page of a block.
+    ///
+    /// It fails for want of memory alone. The room of the moved list is taken here, and nothing is
+    /// taken for it later; of the cache's entries, as they come.
+    pub fn with_share(
+        alloc: Global,
+        geometry: &Geometry,
+        capacity: u32,
+        share: u32,
+    ) -> Result<Mapping, AllocError>
+        requires holds_one { 0 < capacity }
+        requires share { IsShare geometry.now share }
+        ensures empty { IfOk result (λ m. m ≡
+            record { geometry = geometry.now; capacity = capacity; share = share; cached = []; moved = [] }) }
         ensures valid { IfOk result IsMapping }
     {
         let most = NonZeroUsize::new(capacity as usize).unwrap();
+        let room = geometry.waiting_at(share) + geometry.pages();
         Ok(Mapping {
             geometry: *geometry,
             cache: LruCache::new(alloc, most)?,
-            moved: Vec::with_capacity(alloc, geometry.pages() as usize)?,
+            share,
+            moved: Vec::with_capacity(alloc, room as usize)?,
         })
     }
 
@@ -200,7 +188,7 @@ impl Mapping {
         self.cache.contains(&sector)
     }
 
-    /// Whether a sector is on the moved list. It takes no memory, and a walk looks at the list.
+    /// Whether a sector is on the moved list. It takes no memory; a binary search looks at the list.
     pub fn is_moved(&self, sector: u32) -> bool
         ensures { result ≡ is_some (moved_row self.now sector) }
     {
@@ -237,6 +225,13 @@ impl Mapping {
         }
     }
 
+    /// How many moved sectors, in the mean, may wait for each translation page.
+    pub fn share(&self) -> u32
+        ensures { result ≡ self.now.share }
+    {
+        self.share
+    }
+
     /// How many sectors are moved.
     pub fn moved_count(&self) -> u32
         ensures { result ≡ length self.now.moved }
@@ -244,11 +239,27 @@ impl Mapping {
         self.moved.len() as u32
     }
 
+    /// How many of them are sectors of translation page `t`. A binary search finds them.
+    pub fn moved_count_of(&self, t: u32) -> u32
+        ensures { result ≡ length (moved_in (per_page self.now) t self.now.moved) }
+    {
+        let places = places_in(&self.moved, self.geometry.entries(), t);
+        (places.end - places.start) as u32
+    }
+
+    /// Whether the moved list has a place for one more sector.
+    pub fn has_place(&self) -> bool
+        ensures { IsTrue result ↔ (length self.now.moved < moved_room self.now.geometry self.now.share) }
+    {
+        let room = self.geometry.waiting_at(self.share) + self.geometry.pages();
+        self.moved.len() < room as usize
+    }
+
     /// Whether the new row of a sector has a place on the moved list.
     pub fn can_move(&self, sector: u32) -> bool
         ensures { IsTrue result ↔ CanMove self.now sector }
     {
-        row_in(&self.moved, sector).is_some() || self.moved.len() < self.geometry.pages() as usize
+        self.has_place() || self.is_moved(sector)
     }
 
     /// Caches a sector with its row so far, and makes it the most recently used. A cached sector
@@ -334,8 +345,8 @@ impl Mapping {
     }
 
     /// The rows that translation page `t` lacks, each with its sector: first those of moved
-    /// sectors, in the order in which they were moved, then those of dirty cached sectors, rising.
-    /// It takes no memory, and a walk looks at the moved list and at the sectors of the page.
+    /// sectors, rising, then those of dirty cached sectors, rising. It takes no memory, and a walk
+    /// looks at the moved sectors of the page and at all its sectors.
     pub fn dirty_of(&self, t: u32) -> DirtyOf<'_>
         requires { t < translation_pages self.now.geometry }
         ensures is { result ≡ lacking self.now t }
@@ -350,16 +361,23 @@ impl Mapping {
         }
     }
 
-    /// The moved sectors of translation page `t`, with their new rows, in the order in which they
-    /// were moved. It takes no memory, and a walk looks at the moved list.
+    /// The moved sectors of translation page `t`, with their new rows, rising. It takes no memory;
+    /// a binary search finds them, and a walk looks at them alone.
     pub fn moved_of(&self, t: u32) -> MovedOf<'_>
         ensures { result ≡ moved_in (per_page self.now) t self.now.moved }
     {
+        let places = places_in(&self.moved, self.geometry.entries(), t);
         MovedOf {
-            rest: &self.moved,
-            per_page: self.geometry.entries(),
-            page: t,
+            rest: &self.moved[places],
         }
+    }
+
+    /// The lowest translation page that more than `share` moved sectors wait for, if there is one.
+    /// It takes no memory, and looks at each sector of the moved list at most once.
+    pub fn overdue(&self) -> Option<u32>
+        ensures { IsLowestOver (per_page self.now) self.now.share self.now.moved result }
+    {
+        lowest_over(&self.moved, self.geometry.entries(), self.share)
     }
 
     /// Whether translation page `t` lacks a row.

@@ -11,23 +11,18 @@ use lru::LruCache;
 use std::marker::Model;
 use translation_pages::patch;
 
-/// The moved sectors of a translation page, with their new rows.
+/// The moved sectors of a translation page, with their new rows, rising.
 #[derive(Drop)]
 pub struct MovedOf<'a> {
     pub(crate) rest: &'a [(u32, u32)],
-    pub(crate) per_page: u32,
-    pub(crate) page: u32,
 }
 
 impl<'a> Model for MovedOf<'a> {
-    ghost use Rattle.std.specs.Prelude.{ℕ, List, ◌<◌};
-    ghost use Rattle.mapping_cache.specs.Mapping.{moved_in};
+    ghost use Rattle.std.specs.Prelude.{ℕ, List};
 
     ghost Value = { List (ℕ × ℕ) };
 
-    ghost view = { λ a. moved_in a.per_page a.page a.rest.now };
-
-    ghost invariant = { λ a. 0 < a.per_page };
+    ghost view = { λ a. a.rest.now };
 }
 
 impl<'a> Iterator for MovedOf<'a> {
@@ -38,13 +33,9 @@ impl<'a> Iterator for MovedOf<'a> {
     ghost remaining = { λ s. at_most (length s) };
 
     fn next(&mut self) -> Option<(u32, u32)> {
-        while let Some((first, others)) = self.rest.split_first() {
-            self.rest = others;
-            if first.0 / self.per_page == self.page {
-                return Some(*first);
-            }
-        }
-        None
+        let (first, others) = self.rest.split_first()?;
+        self.rest = others;
+        Some(*first)
     }
 }
 

@@ -5,7 +5,7 @@ use Rattle.page_layout.specs.Geometry.{translation_pages, table_pages}
 use Rattle.mount.specs.declared.mount_image.Room.{Room}
 
 -- there is room for all words of a certificate and for each sector, and one page
-pub record HasRoom (g : Geometry) (room : Room) : Type 0 where
+pub record HasMountRoom (g : Geometry) (room : Room) : Type 0 where
   pub no_sector : room.sectors.items ≡ []
   pub sectors : g.sectors ≤ vec_capacity room.sectors
   pub no_page : room.directory.items ≡ []

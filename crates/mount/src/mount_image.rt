@@ -8,7 +8,7 @@ ghost use Rattle.image_check.specs.Agrees.{IsAsked};
 ghost use Rattle.image_check.specs.Rising.{IsRisingBelow};
 ghost use Rattle.image_check.specs.Stale.{stale_sectors};
 ghost use Rattle.mount.specs.Mounted.{IsMounted, Refuses, IsOfMounting};
-ghost use Rattle.mount.specs.Room.{HasRoom};
+ghost use Rattle.mount.specs.Room.{HasMountRoom};
 ghost use Rattle.mount.specs.Shown.{IsShownSized, HasWords};
 
 use crate::mount_pages::{Shown, show_pages};
@@ -69,7 +69,7 @@ struct Room {
 }
 
 fn take_room(alloc: Global, geometry: &Geometry) -> Result<Room, AllocError>
-    ensures { IfOk result (HasRoom geometry.now) }
+    ensures { IfOk result (HasMountRoom geometry.now) }
 {
     let pages = geometry.translation_pages() + geometry.table_pages();
     Ok(Room {

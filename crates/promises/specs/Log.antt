@@ -3,7 +3,7 @@ use Rattle.std.specs.Prelude.{◌≡◌, ◌≢◌, ◌↔◌, ◌⊎◌, ◌<�
 use Rattle.std.specs.Prelude.{sum_by, slice_get, Some, ◌^◌}
 use Rattle.std.specs.List.{list_all, range_with_len}
 use Rattle.page_layout.specs.declared.geometry.Geometry.{Geometry}
-use Rattle.page_layout.specs.Geometry.{need}
+use Rattle.page_layout.specs.Geometry.{need_at}
 use Rattle.page_layout.specs.Page.{Page, Image}
 use Rattle.page_layout.specs.Sound.{is_erased_page}
 use Rattle.page_layout.specs.Block.{block_pages}
@@ -79,10 +79,10 @@ free_count g bad log image = blocks_that g (free_of g bad log image)
 abbrev pub failed_count : Geometry → List Operation → ℕ
 failed_count g log = blocks_that g (failed_in g.pages log)
 
--- A SHORTAGE. After the call fewer than `need` blocks are good, or more than two failed in the call, or the device was read-only
+-- A SHORTAGE. After the call fewer than `need_at` blocks are good, or more than two failed in the call, or the device was read-only
 -- before it. `before` is the log up to the call, `call` what the call added.
-abbrev pub IsShort : Geometry → (ℕ → Bool) → (before call : List Operation) → Bool → Type 0
-IsShort g bad before call ro = (good_count g bad (before ++ call) < need g) ⊎ (2 < failed_count g call) ⊎ (ro ≡ true)
+abbrev pub IsShort : Geometry → (share : ℕ) → (ℕ → Bool) → (before call : List Operation) → Bool → Type 0
+IsShort g share bad before call ro = (good_count g bad (before ++ call) < need_at g share) ⊎ (2 < failed_count g call) ⊎ (ro ≡ true)
 
 -- ---- laws
 
@@ -187,24 +187,24 @@ failing blocks = map (λ block. Erase block false []) blocks
 
 -- 5 blocks are good
 abbrev pub FewGoodLaw : Type 0
-FewGoodLaw = (g : Geometry) → g.blocks ≡ 24 → need g ≡ 17 → IsShort g (bad_from 5) [] [] false
+FewGoodLaw = (g : Geometry) (share : ℕ) → g.blocks ≡ 24 → need_at g share ≡ 17 → IsShort g share (bad_from 5) [] [] false
 
 -- 21 blocks are good, and three failed in the call
 abbrev pub ThreeFailedLaw : Type 0
-ThreeFailedLaw = (g : Geometry) → g.blocks ≡ 24 → need g ≡ 17 → IsShort g (bad_from 24) [] (failing (1 ∷ 2 ∷ 3 ∷ [])) false
+ThreeFailedLaw = (g : Geometry) (share : ℕ) → g.blocks ≡ 24 → need_at g share ≡ 17 → IsShort g share (bad_from 24) [] (failing (1 ∷ 2 ∷ 3 ∷ [])) false
 
 -- 18 blocks were good before the call, and two failed in it: 16 are left
 abbrev pub FewLeftLaw : Type 0
-FewLeftLaw = (g : Geometry) → g.blocks ≡ 24 → need g ≡ 17 → IsShort g (bad_from 18) [] (failing (1 ∷ 2 ∷ [])) false
+FewLeftLaw = (g : Geometry) (share : ℕ) → g.blocks ≡ 24 → need_at g share ≡ 17 → IsShort g share (bad_from 18) [] (failing (1 ∷ 2 ∷ [])) false
 
 -- two erases failed in the call, and a program of a third block, that of the last page of block 3
 abbrev pub FailedProgramLaw : Type 0
-FailedProgramLaw = (g : Geometry) (page left : Page) → g.blocks ≡ 24 → g.pages ≡ 8 → need g ≡ 17 → IsShort g (bad_from 24) [] (Program 31 page false left ∷ failing (1 ∷ 2 ∷ [])) false
+FailedProgramLaw = (g : Geometry) (share : ℕ) (page left : Page) → g.blocks ≡ 24 → g.pages ≡ 8 → need_at g share ≡ 17 → IsShort g share (bad_from 24) [] (Program 31 page false left ∷ failing (1 ∷ 2 ∷ [])) false
 
 -- the device was read-only before
 abbrev pub ReadOnlyBeforeLaw : Type 0
-ReadOnlyBeforeLaw = (g : Geometry) → IsShort g (bad_from 24) [] [] true
+ReadOnlyBeforeLaw = (g : Geometry) (share : ℕ) → IsShort g share (bad_from 24) [] [] true
 
 -- No shortage: just 17 blocks are good, and two failed in the call, one of them twice. A third had failed before it.
 abbrev pub TwoFailedLaw : Type 0
-TwoFailedLaw = (g : Geometry) → g.blocks ≡ 24 → need g ≡ 17 → IsShort g (bad_from 20) (failing (0 ∷ [])) (failing (1 ∷ 2 ∷ 2 ∷ [])) false → ⊥
+TwoFailedLaw = (g : Geometry) (share : ℕ) → g.blocks ≡ 24 → need_at g share ≡ 17 → IsShort g share (bad_from 20) (failing (0 ∷ [])) (failing (1 ∷ 2 ∷ 2 ∷ [])) false → ⊥

@@ -1,12 +1,12 @@
 //! A block is collected: what counts is copied out of it, and it is erased.
 ghost use Rattle.std.specs.Prelude.{◌≡◌, ◌≢◌, ◌+◌, ◌-◌, ◌*◌, ◌<◌, ◌≤◌, true, false, min, replicate, Some, None, Ok, Err, OnOk, MatchResult};
 ghost use Rattle.page_layout.specs.Counter.{counted};
-ghost use Rattle.page_layout.specs.Geometry.{translation_pages, vmax};
+ghost use Rattle.page_layout.specs.Geometry.{translation_pages, vmax_at};
 ghost use Rattle.allocation.specs.State.{is_closed, live_at};
 ghost use Rattle.collection.specs.Safe.{IsSafe, IsIdle, ram, image_in};
 ghost use Rattle.collection.specs.Truth as truth;
 ghost use Rattle.collection.specs.Results.{Refused};
-ghost use Rattle.collection.specs.Collect.{KeepsKeys, Refreshes, GoesBut, IsReleased, IsEmptied, CollectCosts, CollectsFew, CollectCounts, IsThrifty, due_count};
+ghost use Rattle.collection.specs.Collect.{KeepsKeys, Refreshes, GoesBut, IsReleased, IsEmptied, CollectCosts, CollectsFew, CollectCounts, IsThrifty, OwesNone};
 ghost use Rattle.collection.specs.Whole.{next_of, step_within, work_left};
 ghost use Rattle.collection.specs.Left.{IsHalfDone, IsFew, HasPassed, PinIsFew};
 ghost use Rattle.collection.specs.Acts.{EngineActs, Stands};
@@ -43,6 +43,7 @@ impl<N: Nand> Engine<N> {
     // Goes on with the collection of the pinned block until it is erased, whatever fault stands.
     pub(crate) fn collect_from(&mut self, pinned: Pinned, flushing: bool) -> Result<(), EngineFault>
         requires safe { IsSafe N.view.flash self.old }
+        requires flushes { flushing ≡ true → self.old.mapping.share ≡ 0 }
         requires pinned { self.old.pinned ≡ Some pinned }
         requires half_done { IsHalfDone (ram self.old) pinned }
         requires unmarked { (ram self.old).pin.marks ≡ replicate (translation_pages self.old.geometry) false }
@@ -55,7 +56,7 @@ impl<N: Nand> Engine<N> {
         ensures refreshes { flushing ≡ true → Refreshes (ram self.old) (ram self.new) }
         ensures cost { CollectCosts flushing pinned.block (ram self.old) (ram self.new) result }
         ensures sparing { N.view.honest self.old.nand ≡ true → truth.IsTrue None (ram self.old) (image_in N.view.flash self.old) →
-            HasPassed (ram self.old) (image_in N.view.flash self.old) pinned → due_count flushing (ram self.old) ≡ 0 →
+            HasPassed (ram self.old) (image_in N.view.flash self.old) pinned → OwesNone flushing (ram self.old) →
             OnOk result (CollectsFew flushing pinned.block (ram self.old) (ram self.new)) }
         ensures reads { N.view.reads self.new.nand ≤
             N.view.reads self.old.nand + (2 * (self.old.geometry.pages - pinned.first) + min self.old.geometry.pages (translation_pages self.old.geometry)) }
@@ -98,6 +99,7 @@ impl<N: Nand> Engine<N> {
     // Collects a closed block, whatever fault stands: it is pinned, and unpinned once it is erased.
     pub(crate) fn collect_block(&mut self, block: u32, flushing: bool) -> Result<(), EngineFault>
         requires safe { IsSafe N.view.flash self.old }
+        requires flushes { flushing ≡ true → self.old.mapping.share ≡ 0 }
         requires idle { IsIdle (ram self.old) }
         requires block { block < self.old.geometry.blocks }
         requires closed { is_closed (ram self.old).blocks block ≡ true }
@@ -120,12 +122,12 @@ impl<N: Nand> Engine<N> {
             (λ _. IsEmptied block (ram self.old) (image_in N.view.flash self.old) (ram self.new) (image_in N.view.flash self.new))
             (Refused (ram self.old) (image_in N.view.flash self.old) (ram self.new) (image_in N.view.flash self.new)) }
         ensures count { N.view.honest self.old.nand ≡ true → truth.IsTrue None (ram self.old) (image_in N.view.flash self.old) →
-            live_at (ram self.old).blocks block ≤ vmax self.old.geometry → CollectCounts (ram self.old) (ram self.new) result }
+            live_at (ram self.old).blocks block ≤ vmax_at self.old.geometry self.old.mapping.share → CollectCounts (ram self.old) (ram self.new) result }
         ensures thrifty { N.view.honest self.old.nand ≡ true → truth.IsTrue None (ram self.old) (image_in N.view.flash self.old) →
-            live_at (ram self.old).blocks block ≤ vmax self.old.geometry → result ≢ Err EngineFault.Bus →
+            live_at (ram self.old).blocks block ≤ vmax_at self.old.geometry self.old.mapping.share → result ≢ Err EngineFault.Bus →
             IsThrifty (ram self.old) (ram self.new) }
         ensures few { N.view.honest self.old.nand ≡ true → truth.IsTrue None (ram self.old) (image_in N.view.flash self.old) →
-            live_at (ram self.old).blocks block ≤ vmax self.old.geometry → result ≢ Err EngineFault.Bus → PinIsFew 0 (ram self.new) }
+            live_at (ram self.old).blocks block ≤ vmax_at self.old.geometry self.old.mapping.share → result ≢ Err EngineFault.Bus → PinIsFew 0 (ram self.new) }
         ensures stops { N.view.honest self.old.nand ≡ true → truth.IsTrue None (ram self.old) (image_in N.view.flash self.old) →
             result ≢ Err EngineFault.Bus → StopsSafely N.view self.old self.new }
         ensures cut { N.view.honest self.old.nand ≡ true → truth.IsTrue None (ram self.old) (image_in N.view.flash self.old) →
@@ -138,15 +140,17 @@ impl<N: Nand> Engine<N> {
 
     /// Collects a closed block. Its pages that are the newest of their keys are copied by rising row,
     /// each in its stream; the rows of cached sectors become dirty, and the other sectors are moved
-    /// ones for the time being. Then each translation page of a moved sector is written back, rising,
-    /// and while flushing also each of another sector that was copied. Then the block is erased: it
-    /// is free, with an erase count of one more, or where the erase fails it is grown bad.
+    /// ones for the time being. Then, while more sectors are moved than may wait, the lowest translation
+    /// page is written back that more than the share of them wait for: with share 0 each one of a moved
+    /// sector, rising. While flushing, which is for share 0, each of another sector that was copied is
+    /// too. Then the block is erased: it is free, with an erase count of one more, or where the erase
+    /// fails it is grown bad.
     ///
     /// The array stays, and so do the sectors that are cached, and their order. Closed and bad blocks
-    /// stay so. No sector is moved afterwards; while flushing, a translation page that lacked no row
-    /// lacks none.
+    /// stay so. No more sectors are moved afterwards than may wait, with share 0 none; while flushing, a
+    /// translation page that lacked no row lacks none.
     ///
-    /// A block with at most `Geometry::vmax` newest pages costs fewer programs than a block has pages,
+    /// A block with at most `Geometry::vmax_at` newest pages costs fewer programs than a block has pages,
     /// and one more for each failure: the erased pages in free and open blocks grow, or fall by at most
     /// a block's pages for each failure.
     ///
@@ -165,6 +169,7 @@ impl<N: Nand> Engine<N> {
     /// moved sectors and flushing are this project's.
     pub fn collect(&mut self, block: u32, flushing: bool) -> Result<(), WriteFault>
         requires safe { IsSafe N.view.flash self.old }
+        requires flushes { flushing ≡ true → self.old.mapping.share ≡ 0 }
         requires idle { self.old.fault ≡ None → IsIdle (ram self.old) }
         requires unpinned { self.old.fault ≡ None → self.old.pinned ≡ None }
         requires block { block < self.old.geometry.blocks }
@@ -187,9 +192,9 @@ impl<N: Nand> Engine<N> {
             (λ _. IsEmptied block (ram self.old) (image_in N.view.flash self.old) (ram self.new) (image_in N.view.flash self.new))
             (Refused (ram self.old) (image_in N.view.flash self.old) (ram self.new) (image_in N.view.flash self.new)) }
         ensures count { N.view.honest self.old.nand ≡ true → self.old.fault ≡ None → truth.IsTrue None (ram self.old) (image_in N.view.flash self.old) →
-            live_at (ram self.old).blocks block ≤ vmax self.old.geometry → CollectCounts (ram self.old) (ram self.new) result }
+            live_at (ram self.old).blocks block ≤ vmax_at self.old.geometry self.old.mapping.share → CollectCounts (ram self.old) (ram self.new) result }
         ensures thrifty { N.view.honest self.old.nand ≡ true → self.old.fault ≡ None → truth.IsTrue None (ram self.old) (image_in N.view.flash self.old) →
-            live_at (ram self.old).blocks block ≤ vmax self.old.geometry → result ≢ Err EngineFault.Bus →
+            live_at (ram self.old).blocks block ≤ vmax_at self.old.geometry self.old.mapping.share → result ≢ Err EngineFault.Bus →
             IsThrifty (ram self.old) (ram self.new) }
         ensures stops { N.view.honest self.old.nand ≡ true → self.old.fault ≡ None → truth.IsTrue None (ram self.old) (image_in N.view.flash self.old) →
             result ≢ Err EngineFault.Bus → StopsSafely N.view self.old self.new }

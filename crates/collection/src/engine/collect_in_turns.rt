@@ -7,7 +7,7 @@ ghost use Rattle.allocation.specs.State.{is_closed, live_at};
 ghost use Rattle.collection.specs.Safe.{IsSafe, IsIdle, ram, image_in};
 ghost use Rattle.collection.specs.Truth as truth;
 ghost use Rattle.collection.specs.Results.{Refused, Goes};
-ghost use Rattle.collection.specs.Collect.{due_count, Refreshes, KeepsKeys, GoesBut, IsReleased, StepCosts, IsStepped};
+ghost use Rattle.collection.specs.Collect.{excess, OwesPage, Refreshes, KeepsKeys, GoesBut, IsReleased, StepCosts, IsStepped};
 ghost use Rattle.collection.specs.Whole.{step_within, erases_after};
 ghost use Rattle.collection.specs.Left.{IsCalm, IsHalfDone, HasPassed, PinHasPassed, TouchesNoMore, pin_after, told};
 ghost use Rattle.collection.specs.Acts.{EngineActs, Stands};
@@ -72,8 +72,8 @@ impl<N: Nand> Engine<N> {
     }
 
     /// Begins the collection of a closed block, where none is pinned: each `step` takes it further, if
-    /// no sector is moved yet and no translation page is marked. Nothing is asked of the die. (This
-    /// project.)
+    /// no more sectors are moved yet than may wait and no translation page is marked. Nothing is asked
+    /// of the die. (This project.)
     pub fn pin(&mut self, block: u32)
         requires safe { IsSafe N.view.flash self.old }
         requires unpinned { self.old.pinned ≡ None }
@@ -110,10 +110,10 @@ impl<N: Nand> Engine<N> {
         ensures idle { result ≡ Ok Progress.Erased → IsIdle (ram self.new) }
         ensures released { result ≡ Ok Progress.Erased → IsReleased pinned.block (ram self.old).blocks (ram self.new).blocks }
         ensures reads { N.view.reads self.new.nand ≤
-            N.view.reads self.old.nand + (2 * (self.old.geometry.pages - pinned.first) + min (due_count flushing (ram self.old)) 1) }
+            N.view.reads self.old.nand + (2 * (self.old.geometry.pages - pinned.first) + min (excess flushing (ram self.old)) 1) }
         ensures copied_reads { (page : ℕ) → result ≡ Ok (Progress.Copied page) → N.view.reads self.new.nand ≤ N.view.reads self.old.nand + 2 * (page + 1 - pinned.first) }
         ensures erases { IfOk result (λ progress. N.view.erases self.new.nand ≡ erases_after progress (N.view.erases self.old.nand)) }
-        ensures owed { result ≡ Err EngineFault.ReadOnly → (0 < live_at (ram self.old).blocks pinned.block) ⊎ (0 < due_count flushing (ram self.old)) }
+        ensures owed { result ≡ Err EngineFault.ReadOnly → (0 < live_at (ram self.old).blocks pinned.block) ⊎ OwesPage flushing (ram self.old) }
         ensures cost { StepCosts flushing pinned.block pinned.first (ram self.old) (ram self.new) result }
         ensures truth { N.view.honest self.old.nand ≡ true → truth.IsTrue None (ram self.old) (image_in N.view.flash self.old) →
             HasPassed (ram self.old) (image_in N.view.flash self.old) pinned →
@@ -122,7 +122,7 @@ impl<N: Nand> Engine<N> {
             (Refused (ram self.old) (image_in N.view.flash self.old) (ram self.new) (image_in N.view.flash self.new)) }
         ensures touched { N.view.honest self.old.nand ≡ true → truth.IsTrue None (ram self.old) (image_in N.view.flash self.old) →
             (page : ℕ) → result ≡ Ok (Progress.Copied page) →
-            TouchesNoMore flushing pinned.block (ram self.old) (image_in N.view.flash self.old) (ram self.new) }
+            TouchesNoMore flushing pinned.block (ram self.old) (image_in N.view.flash self.old) (ram self.new) (image_in N.view.flash self.new) }
         ensures stops { N.view.honest self.old.nand ≡ true → truth.IsTrue None (ram self.old) (image_in N.view.flash self.old) →
             HasPassed (ram self.old) (image_in N.view.flash self.old) pinned → result ≢ Err EngineFault.Bus →
             StopsSafely N.view self.old self.new }
@@ -154,9 +154,10 @@ impl<N: Nand> Engine<N> {
     }
 
     /// Takes the collection of the pinned block one step further: its page of lowest row that is the
-    /// newest of its key is copied; with none left, the lowest translation page of a moved sector is
-    /// written back, and while flushing also one of another sector that was copied; with none left,
-    /// the block is erased, and no block is pinned any more. It is free then, with an erase count of
+    /// newest of its key is copied; with none left, while more sectors are moved than may wait, the
+    /// lowest translation page is written back that more than the share of them wait for, and while
+    /// flushing also one of another sector that was copied; with none left, the block is erased, and
+    /// no block is pinned any more. It is free then, with an erase count of
     /// one more, or where the erase fails it is grown bad.
     ///
     /// The array stays, and so do the sectors that are cached, and their order. Each step but the
@@ -164,7 +165,7 @@ impl<N: Nand> Engine<N> {
     /// reads each page of the block once at most, from where the last step ended, and with it the
     /// translation page that tells whether it is the newest of its sector; a copy reads no page past
     /// the one that it copies. Where a translation page is written back, that is read too. Unless
-    /// flushing, a sector of it was moved.
+    /// flushing, more of its sectors than the share were moved.
     ///
     /// # Errors
     ///

@@ -13,7 +13,7 @@ ghost use Rattle.collection.specs.Truth as truth;
 ghost use Rattle.collection.specs.Live.{HoldsNoneIn, IsLivePage};
 ghost use Rattle.collection.specs.Results.{IsSame, IsImageKept, Refused, Goes, IsLastPage};
 ghost use Rattle.collection.specs.Whole.{erases_after};
-ghost use Rattle.collection.specs.Collect.{has_moved, due_count, marks_after, IsLowestDue, HasNoneDue, Refreshes, KeepsKeys};
+ghost use Rattle.collection.specs.Collect.{is_over as over, waiting, excess, OwesPage, marks_after, IsLowestDue, OwesNone, Refreshes, KeepsKeys};
 ghost use Rattle.collection.specs.Settle.{SetsMapping};
 ghost use Rattle.collection.specs.Left.{TouchesNoMore};
 ghost use Rattle.collection.specs.Collect.{GoesBut, HasCopied, HasWritten, HasErased, IsReleased, FaultCosts, StepCosts, IsMovedOut, IsRenewed};
@@ -38,11 +38,11 @@ pub(crate) enum Progress {
     Erased,
 }
 
-// Whether a sector of translation page `t` is on the moved list.
-fn is_moved(mapping: &Mapping, t: u32) -> bool
-    ensures { result ≡ has_moved mapping.now t }
+// Whether more than the share of the sectors of translation page `t` are on the moved list.
+fn is_over(mapping: &Mapping, t: u32) -> bool
+    ensures { result ≡ over mapping.now t }
 {
-    mapping.moved_of(t).next().is_some()
+    mapping.moved_count_of(t) > mapping.share()
 }
 
 // Takes all marks off.
@@ -86,7 +86,7 @@ impl<N: Nand> Engine<N> {
         requires safe { IsSafe N.view.flash self.old }
         requires key { IsKeyOf self.old.geometry (key_of found.now) }
         requires row { row < row_count self.old.geometry }
-        requires room { length self.old.mapping.moved < self.old.geometry.pages }
+        requires room { length self.old.mapping.moved < waiting (ram self.old) + self.old.geometry.pages }
         ensures acts { EngineActs N.view self.old self.new result }
         ensures goes { Goes (ram self.old) (ram self.new) }
         ensures only_programs { OnlyPrograms N.view self.old.nand self.new.nand }
@@ -98,8 +98,9 @@ impl<N: Nand> Engine<N> {
         ensures settled { OnOk result ((at : ℕ) × SetsMapping (key_of found.now) at self.old.mapping self.new.mapping) }
         ensures unmoved { OnErr result (self.new.mapping ≡ self.old.mapping) }
         ensures touched { N.view.honest self.old.nand ≡ true → truth.IsTrue None (ram self.old) (image_in N.view.flash self.old) →
+            is_shut (ram self.old).blocks (row / self.old.geometry.pages) ≡ true →
             IsLivePage row self.old.page.body.items found.now (image_in N.view.flash self.old) →
-            OnOk result (TouchesNoMore flushing (row / self.old.geometry.pages) (ram self.old) (image_in N.view.flash self.old) (ram self.new)) }
+            OnOk result (TouchesNoMore flushing (row / self.old.geometry.pages) (ram self.old) (image_in N.view.flash self.old) (ram self.new) (image_in N.view.flash self.new)) }
         ensures programmed { OnOk result (IsLastPage found.now.kind found.now.number (ram self.new) (page_in self.new.page)) }
         ensures truth { N.view.honest self.old.nand ≡ true → truth.IsTrue None (ram self.old) (image_in N.view.flash self.old) →
             is_shut (ram self.old).blocks (row / self.old.geometry.pages) ≡ true →
@@ -135,7 +136,7 @@ impl<N: Nand> Engine<N> {
         requires safe { IsSafe N.view.flash self.old }
         requires block { block < self.old.geometry.blocks }
         requires closed { is_closed (ram self.old).blocks block ≡ true }
-        requires room { length self.old.mapping.moved ≤ first }
+        requires room { length self.old.mapping.moved ≤ waiting (ram self.old) + first }
         ensures acts { EngineActs N.view self.old self.new result }
         ensures goes { Goes (ram self.old) (ram self.new) }
         ensures reads { N.view.reads self.new.nand ≤ N.view.reads self.old.nand + 2 * (self.old.geometry.pages - first) }
@@ -150,7 +151,7 @@ impl<N: Nand> Engine<N> {
         ensures owed { result ≡ Err EngineFault.ReadOnly → 0 < live_at (ram self.old).blocks block }
         ensures unmarked { flushing ≡ false → OnOk result ((ram self.new).pin ≡ (ram self.old).pin) }
         ensures touched { N.view.honest self.old.nand ≡ true → truth.IsTrue None (ram self.old) (image_in N.view.flash self.old) →
-            IfOk result (λ copied. IfSome copied (λ _. TouchesNoMore flushing block (ram self.old) (image_in N.view.flash self.old) (ram self.new))) }
+            IfOk result (λ copied. IfSome copied (λ _. TouchesNoMore flushing block (ram self.old) (image_in N.view.flash self.old) (ram self.new) (image_in N.view.flash self.new))) }
         ensures cost { MatchResult result (λ copied. ForSome copied (λ _. HasCopied flushing (ram self.old) (ram self.new))) (FaultCosts (ram self.old) (ram self.new)) }
         ensures truth { N.view.honest self.old.nand ≡ true → truth.IsTrue None (ram self.old) (image_in N.view.flash self.old) →
             HoldsNoneIn self.old.geometry.pages block 0 first (image_in N.view.flash self.old) →
@@ -174,17 +175,33 @@ impl<N: Nand> Engine<N> {
         Ok(Some(page))
     }
 
-    // The lowest translation page that has to be written before a block is erased.
-    fn lowest_due(&self, flushing: bool) -> Option<u32>
+    // The lowest translation page that is due in a flush.
+    fn lowest_in_flush(&self) -> Option<u32>
         requires safe { IsSafe N.view.flash self.now }
-        ensures { MatchOption result (HasNoneDue flushing (ram self.now)) (IsLowestDue flushing (ram self.now)) }
+        ensures { MatchOption result (OwesNone true (ram self.now)) (IsLowestDue true (ram self.now)) }
     {
         'pages: for t in 0..self.geometry.translation_pages() {
-            if is_moved(&self.mapping, t) || flushing && self.marks[t as usize] {
+            if is_over(&self.mapping, t) || self.marks[t as usize] {
                 return Some(t);
             }
         }
         None
+    }
+
+    // The lowest translation page that has to be written back before a block is erased: but in a
+    // flush, none while no more sectors are moved than may wait.
+    fn lowest_due(&self, flushing: bool) -> Option<u32>
+        requires safe { IsSafe N.view.flash self.now }
+        ensures { MatchOption result (OwesNone flushing (ram self.now)) (IsLowestDue flushing (ram self.now)) }
+    {
+        let most = self.geometry.waiting_at(self.mapping.share());
+        if flushing {
+            self.lowest_in_flush()
+        } else if self.mapping.moved_count() > most {
+            self.mapping.overdue()
+        } else {
+            None
+        }
     }
 
     // Writes it. Answers whether there was one.
@@ -192,16 +209,16 @@ impl<N: Nand> Engine<N> {
         requires safe { IsSafe N.view.flash self.old }
         ensures acts { EngineActs N.view self.old self.new result }
         ensures goes { Goes (ram self.old) (ram self.new) }
-        ensures reads { N.view.reads self.new.nand ≤ N.view.reads self.old.nand + min (due_count flushing (ram self.old)) 1 }
+        ensures reads { N.view.reads self.new.nand ≤ N.view.reads self.old.nand + min (excess flushing (ram self.old)) 1 }
         ensures erases { N.view.erases self.new.nand ≡ N.view.erases self.old.nand }
         ensures keys { KeepsKeys self.old.mapping self.new.mapping }
         ensures refreshes { flushing ≡ true → Refreshes (ram self.old) (ram self.new) }
-        ensures none { result ≡ Ok false → HasNoneDue flushing (ram self.old) × (self.new ≡ self.old) }
+        ensures none { result ≡ Ok false → OwesNone flushing (ram self.old) × (self.new ≡ self.old) }
         ensures pin { (ram self.new).pin.block ≡ (ram self.old).pin.block }
         ensures unmoved { OnErr result (self.new.mapping ≡ self.old.mapping) }
         ensures unmarked { (ram self.old).pin.marks ≡ replicate (translation_pages self.old.geometry) false →
             OnOk result ((ram self.new).pin.marks ≡ replicate (translation_pages self.old.geometry) false) }
-        ensures owed { result ≡ Err EngineFault.ReadOnly → 0 < due_count flushing (ram self.old) }
+        ensures owed { result ≡ Err EngineFault.ReadOnly → OwesPage flushing (ram self.old) }
         ensures cost { MatchResult result (λ written. written ≡ true → HasWritten flushing (ram self.old) (ram self.new)) (FaultCosts (ram self.old) (ram self.new)) }
         ensures truth { N.view.honest self.old.nand ≡ true → truth.IsTrue None (ram self.old) (image_in N.view.flash self.old) →
             MatchResult result
@@ -274,7 +291,7 @@ impl<N: Nand> Engine<N> {
         requires safe { IsSafe N.view.flash self.old }
         requires block { block < self.old.geometry.blocks }
         requires closed { is_closed (ram self.old).blocks block ≡ true }
-        requires room { length self.old.mapping.moved ≤ first }
+        requires room { length self.old.mapping.moved ≤ waiting (ram self.old) + first }
         ensures acts { EngineActs N.view self.old self.new result }
         ensures goes { GoesBut block (ram self.old) (ram self.new) }
         ensures goes_still { result ≢ Ok Progress.Erased → Goes (ram self.old) (ram self.new) }
@@ -287,10 +304,10 @@ impl<N: Nand> Engine<N> {
         ensures idle { result ≡ Ok Progress.Erased → IsIdle (ram self.new) }
         ensures released { result ≡ Ok Progress.Erased → IsReleased block (ram self.old).blocks (ram self.new).blocks }
         ensures reads { N.view.reads self.new.nand ≤
-            N.view.reads self.old.nand + (2 * (self.old.geometry.pages - first) + min (due_count flushing (ram self.old)) 1) }
+            N.view.reads self.old.nand + (2 * (self.old.geometry.pages - first) + min (excess flushing (ram self.old)) 1) }
         ensures copied_reads { (page : ℕ) → result ≡ Ok (Progress.Copied page) → N.view.reads self.new.nand ≤ N.view.reads self.old.nand + 2 * (page + 1 - first) }
         ensures erases { IfOk result (λ step. N.view.erases self.new.nand ≡ erases_after step (N.view.erases self.old.nand)) }
-        ensures owed { result ≡ Err EngineFault.ReadOnly → (0 < live_at (ram self.old).blocks block) ⊎ (0 < due_count flushing (ram self.old)) }
+        ensures owed { result ≡ Err EngineFault.ReadOnly → (0 < live_at (ram self.old).blocks block) ⊎ OwesPage flushing (ram self.old) }
         ensures cost { StepCosts flushing block first (ram self.old) (ram self.new) result }
         ensures truth { N.view.honest self.old.nand ≡ true → truth.IsTrue None (ram self.old) (image_in N.view.flash self.old) →
             HoldsNoneIn self.old.geometry.pages block 0 first (image_in N.view.flash self.old) →
@@ -299,7 +316,7 @@ impl<N: Nand> Engine<N> {
             (Refused (ram self.old) (image_in N.view.flash self.old) (ram self.new) (image_in N.view.flash self.new)) }
         ensures touched { N.view.honest self.old.nand ≡ true → truth.IsTrue None (ram self.old) (image_in N.view.flash self.old) →
             (page : ℕ) → result ≡ Ok (Progress.Copied page) →
-            TouchesNoMore flushing block (ram self.old) (image_in N.view.flash self.old) (ram self.new) }
+            TouchesNoMore flushing block (ram self.old) (image_in N.view.flash self.old) (ram self.new) (image_in N.view.flash self.new) }
         ensures stops { N.view.honest self.old.nand ≡ true → truth.IsTrue None (ram self.old) (image_in N.view.flash self.old) →
             HoldsNoneIn self.old.geometry.pages block 0 first (image_in N.view.flash self.old) → result ≢ Err EngineFault.Bus →
             StopsSafely N.view self.old self.new }

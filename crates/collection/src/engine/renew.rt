@@ -9,7 +9,7 @@ ghost use Rattle.collection.specs.Truth as truth;
 ghost use Rattle.collection.specs.Live.{IsFoundIn};
 ghost use Rattle.collection.specs.Looks.{IsReadFault};
 ghost use Rattle.collection.specs.Results.{Refused, Goes};
-ghost use Rattle.collection.specs.Collect.{KeepsKeys, RescueCosts};
+ghost use Rattle.collection.specs.Collect.{waiting, KeepsKeys, RescueCosts};
 ghost use Rattle.page_layout.specs.Version.{is_1};
 ghost use Rattle.collection.specs.Renew.{is_table, is_due_page, LooksAtDue, FindsDue, IsRenewedAt};
 ghost use Rattle.collection.specs.Acts.{EngineLooks, EngineActs, Stands};
@@ -107,10 +107,10 @@ impl<N: Nand> Engine<N> {
         ensures beside { OnOk result (LeavesPin (ram self.old) (ram self.new)) }
         ensures pin { (ram self.new).pin ≡ (ram self.old).pin }
         ensures one_more { length self.new.mapping.moved ≤ length self.old.mapping.moved + 1 }
-        ensures full { length self.old.mapping.moved ≡ self.old.geometry.pages → (result ≡ Err EngineFault.Damaged) × (self.new ≡ self.old) }
+        ensures full { length self.old.mapping.moved ≡ waiting (ram self.old) + self.old.geometry.pages → (result ≡ Err EngineFault.Damaged) × (self.new ≡ self.old) }
         ensures cost { RescueCosts (ram self.old) (ram self.new) result }
         ensures truth { N.view.honest self.old.nand ≡ true → truth.IsTrue None (ram self.old) (image_in N.view.flash self.old) →
-            length self.old.mapping.moved < self.old.geometry.pages →
+            length self.old.mapping.moved < waiting (ram self.old) + self.old.geometry.pages →
             MatchResult result
             (IsRenewedAt row (ram self.old) (image_in N.view.flash self.old) (ram self.new) (image_in N.view.flash self.new))
             (Refused (ram self.old) (image_in N.view.flash self.old) (ram self.new) (image_in N.view.flash self.new)) }
@@ -119,7 +119,7 @@ impl<N: Nand> Engine<N> {
         ensures cut { N.view.honest self.old.nand ≡ true → truth.IsTrue None (ram self.old) (image_in N.view.flash self.old) → result ≡ Err EngineFault.Bus →
             CutsSafely N.view self.old self.new }
     {
-        if self.mapping.moved_count() >= self.geometry.pages() {
+        if !self.mapping.has_place() {
             return Err(EngineFault::Damaged);
         }
         let due = self.due_record(row)?;
@@ -178,14 +178,14 @@ impl<N: Nand> Engine<N> {
         ensures beside { OnOk result (LeavesPin (ram self.old) (ram self.new)) }
         ensures pin { (ram self.new).pin ≡ (ram self.old).pin }
         ensures one_more { length self.new.mapping.moved ≤ length self.old.mapping.moved + 1 }
-        ensures full { self.old.fault ≡ None → length self.old.mapping.moved ≡ self.old.geometry.pages →
+        ensures full { self.old.fault ≡ None → length self.old.mapping.moved ≡ waiting (ram self.old) + self.old.geometry.pages →
             (result ≡ Err EngineFault.Damaged) × (self.new ≡ record self.old { fault = Some EngineFault.Damaged }) }
         ensures goes { Goes (ram self.old) (ram self.new) }
         ensures erases { N.view.erases self.new.nand ≡ N.view.erases self.old.nand }
         ensures keys { KeepsKeys self.old.mapping self.new.mapping }
         ensures cost { self.old.fault ≡ None → RescueCosts (ram self.old) (ram self.new) result }
         ensures truth { N.view.honest self.old.nand ≡ true → self.old.fault ≡ None → truth.IsTrue None (ram self.old) (image_in N.view.flash self.old) →
-            length self.old.mapping.moved < self.old.geometry.pages →
+            length self.old.mapping.moved < waiting (ram self.old) + self.old.geometry.pages →
             MatchResult result
             (IsRenewedAt row (ram self.old) (image_in N.view.flash self.old) (ram self.new) (image_in N.view.flash self.new))
             (Refused (ram self.old) (image_in N.view.flash self.old) (ram self.new) (image_in N.view.flash self.new)) }

@@ -11,7 +11,7 @@ ghost use Rattle.collection.specs.Left.{LeavesPin};
 ghost use Rattle.collection.specs.Truth as truth;
 ghost use Rattle.collection.specs.Live.{IsFoundIn};
 ghost use Rattle.collection.specs.Results.{Refused, Goes};
-ghost use Rattle.collection.specs.Collect.{KeepsKeys, IsAiling, HasAiling, HasNoneAiling, FollowCosts, IsFollowed, RescueCosts, IsFollowedBy, IsRescued, FindsAiling};
+ghost use Rattle.collection.specs.Collect.{waiting, KeepsKeys, IsAiling, HasAiling, HasNoneAiling, FollowCosts, IsFollowed, RescueCosts, IsFollowedBy, IsRescued, FindsAiling};
 ghost use Rattle.collection.specs.Acts.{EngineLooks, EngineActs, Stands};
 ghost use Rattle.collection.specs.Stops.{CutsSafely, StopsSafely};
 
@@ -113,10 +113,10 @@ impl<N: Nand> Engine<N> {
         ensures beside { OnOk result (LeavesPin (ram self.old) (ram self.new)) }
         ensures pin { (ram self.new).pin ≡ (ram self.old).pin }
         ensures one_more { length self.new.mapping.moved ≤ length self.old.mapping.moved + 1 }
-        ensures full { length self.old.mapping.moved ≡ self.old.geometry.pages → (result ≡ Err EngineFault.Damaged) × (self.new ≡ self.old) }
+        ensures full { length self.old.mapping.moved ≡ waiting (ram self.old) + self.old.geometry.pages → (result ≡ Err EngineFault.Damaged) × (self.new ≡ self.old) }
         ensures cost { RescueCosts (ram self.old) (ram self.new) result }
         ensures truth { N.view.honest self.old.nand ≡ true → truth.IsTrue None (ram self.old) (image_in N.view.flash self.old) →
-            length self.old.mapping.moved < self.old.geometry.pages →
+            length self.old.mapping.moved < waiting (ram self.old) + self.old.geometry.pages →
             MatchResult result
             (IsRescued (ram self.old) (image_in N.view.flash self.old) (ram self.new) (image_in N.view.flash self.new))
             (Refused (ram self.old) (image_in N.view.flash self.old) (ram self.new) (image_in N.view.flash self.new)) }
@@ -125,7 +125,7 @@ impl<N: Nand> Engine<N> {
         ensures cut { N.view.honest self.old.nand ≡ true → truth.IsTrue None (ram self.old) (image_in N.view.flash self.old) →
             result ≡ Err EngineFault.Bus → CutsSafely N.view self.old self.new }
     {
-        if self.mapping.moved_count() >= self.geometry.pages() {
+        if !self.mapping.has_place() {
             return Err(EngineFault::Damaged);
         }
         let ailing = self.first_ailing()?;
@@ -146,9 +146,9 @@ impl<N: Nand> Engine<N> {
     ///
     /// # Errors
     ///
-    /// Those of `write_back`, as there; each stands. `Damaged` also where as many sectors are moved as a
-    /// block has pages: the die isn't asked then. It is never so where the pinned block had at most
-    /// `Geometry::vmax` live pages.
+    /// Those of `write_back`, as there; each stands. `Damaged` also where as many sectors are moved as may
+    /// wait and a block has pages: the die isn't asked then. It is never so where the pinned block had at most
+    /// `Geometry::vmax_at` live pages.
     ///
     /// It takes no memory. (This project.)
     pub fn rescue_one(&mut self) -> Result<bool, WriteFault>
@@ -157,14 +157,14 @@ impl<N: Nand> Engine<N> {
         ensures beside { OnOk result (LeavesPin (ram self.old) (ram self.new)) }
         ensures pin { (ram self.new).pin ≡ (ram self.old).pin }
         ensures one_more { length self.new.mapping.moved ≤ length self.old.mapping.moved + 1 }
-        ensures full { self.old.fault ≡ None → length self.old.mapping.moved ≡ self.old.geometry.pages →
+        ensures full { self.old.fault ≡ None → length self.old.mapping.moved ≡ waiting (ram self.old) + self.old.geometry.pages →
             (result ≡ Err EngineFault.Damaged) × (self.new ≡ record self.old { fault = Some EngineFault.Damaged }) }
         ensures goes { Goes (ram self.old) (ram self.new) }
         ensures erases { N.view.erases self.new.nand ≡ N.view.erases self.old.nand }
         ensures keys { KeepsKeys self.old.mapping self.new.mapping }
         ensures cost { self.old.fault ≡ None → RescueCosts (ram self.old) (ram self.new) result }
         ensures truth { N.view.honest self.old.nand ≡ true → self.old.fault ≡ None → truth.IsTrue None (ram self.old) (image_in N.view.flash self.old) →
-            length self.old.mapping.moved < self.old.geometry.pages →
+            length self.old.mapping.moved < waiting (ram self.old) + self.old.geometry.pages →
             MatchResult result
             (IsRescued (ram self.old) (image_in N.view.flash self.old) (ram self.new) (image_in N.view.flash self.new))
             (Refused (ram self.old) (image_in N.view.flash self.old) (ram self.new) (image_in N.view.flash self.new)) }

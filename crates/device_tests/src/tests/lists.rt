@@ -132,7 +132,7 @@ fn run_on_die(
     requires same { driver.geometry ≡ geometry.now }
     requires whole { AreWhole geometry.now calls.old }
     ensures rose { IfOk result (λ d. AreKnown (exchanges_of calls.new) ⊎ HasRisen driver.failures d.engine.nand.failures) }
-    ensures ran { IfOk result (λ d. AreKnown (exchanges_of calls.new) → RanFrom ⟦<Driver<Die> as PageSource>⟧.view (flash_by (λ die. die.state) driver) certificate.now (exchanges_of calls.new) d) }
+    ensures ran { IfOk result (λ d. AreKnown (exchanges_of calls.new) → RanFrom ⟦<Driver<Die> as PageSource>⟧.view (flash_by (λ die. die.state) driver) 0 certificate.now (exchanges_of calls.new) d) }
 {
     let accepted = check(alloc, &mut driver, geometry, 4, certificate)?;
     match run_accepted(alloc, driver, accepted, calls) {

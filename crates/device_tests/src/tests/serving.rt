@@ -1,7 +1,7 @@
 //! A die that is mounted and served.
 ghost use Rattle.std.specs.Prelude.{◌≡◌, IfOk};
 
-use block_server::{RunFault, Served, serve_checked};
+use block_server::{RunFault, Served, serve_checked_at};
 use device_fixtures::bench::mounted;
 use onfi_cycles::Nand;
 use page_layout::geometry::Geometry;
@@ -16,7 +16,7 @@ pub type Answer = Result<Served, ServeFault>;
 // Serves a stream over a die with a cache of so many entries, and gives the die back.
 pub fn serve_on<N: Nand + Drop, R: Read, W: Write>(
     alloc: Global,
-    mut nand: N,
+    nand: N,
     geometry: &Geometry,
     capacity: u32,
     reader: &mut R,
@@ -25,11 +25,31 @@ pub fn serve_on<N: Nand + Drop, R: Read, W: Write>(
     requires { (N.view.flash nand).geometry ≡ geometry.now }
     ensures { IfOk result (λ pair. (N.view.flash pair.1).geometry ≡ geometry.now) }
 {
+    serve_at(alloc, nand, geometry, 0, capacity, reader, writer)
+}
+
+// The same, with a device at this share.
+pub fn serve_at<N: Nand + Drop, R: Read, W: Write>(
+    alloc: Global,
+    mut nand: N,
+    geometry: &Geometry,
+    share: u32,
+    capacity: u32,
+    reader: &mut R,
+    writer: &mut W,
+) -> Result<(Answer, N), Fail>
+    requires { (N.view.flash nand).geometry ≡ geometry.now }
+    ensures { IfOk result (λ pair. (N.view.flash pair.1).geometry ≡ geometry.now) }
+{
+    if !geometry.is_share(share) {
+        return Err(Fail::new("no share of the die"));
+    }
     let certificate = mounted(alloc, &mut nand, geometry, capacity)?;
-    match serve_checked(
+    match serve_checked_at(
         alloc,
         nand,
         geometry,
+        share,
         capacity,
         &certificate,
         reader,

@@ -99,14 +99,14 @@ const SCRIPTS: [Script; 4] = [
             Step::SetDirty(3, 20),
             Step::SetDirty(4, 21),
             Step::SetDirty(5, 22),
-            Step::Moved(0, &[(7, 16), (0, 17), (1, 18)]),
+            Step::Moved(0, &[(0, 17), (1, 18), (7, 16)]),
             Step::Moved(1, &[]),
             Step::Lacks(
                 0,
                 &[
-                    (7, Some(16)),
                     (0, Some(17)),
                     (1, Some(18)),
+                    (7, Some(16)),
                     (2, Some(19)),
                     (3, Some(20)),
                     (4, Some(21)),

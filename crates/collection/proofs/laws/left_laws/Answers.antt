@@ -1,5 +1,5 @@
 use Rattle.collection.proofs.HalfDone.{idle_law}
-use Rattle.collection.proofs.Lefts.{pin_law, left_law, kept_law, calm_law, passed_law, few_law, copy_law, write_law}
+use Rattle.collection.proofs.Lefts.{pin_law, left_law, unshared_left_law, touched_law, kept_law, calm_law, passed_law, few_law, copy_law, write_law}
 use Rattle.collection.proofs.laws.left_laws.Goals as goal
 
 pub returns-clause-idle : goal.returns-clause-idle
@@ -10,6 +10,12 @@ returns-clause-pinned c = pin_law
 
 pub returns-clause-below : goal.returns-clause-below
 returns-clause-below c = left_law
+
+pub returns-clause-unshared : goal.returns-clause-unshared
+returns-clause-unshared c = unshared_left_law
+
+pub returns-clause-touched : goal.returns-clause-touched
+returns-clause-touched c = touched_law
 
 pub returns-clause-kept : goal.returns-clause-kept
 returns-clause-kept c = kept_law

@@ -19,11 +19,11 @@ returns-in-Write-clause-happened g c = λ honest w ne.
     let means = c.write.ensures.changes.means honest w ne in
     rw c.in-Write.is
     (changed g.N.PageSource.view c.args.device.now c.write.new.self c.write.result ne c.requires.device.engine.memory
-    c.write.ensures.device.engine.memory c.write.ensures.geometry w means.well logs.went c.write.ensures.changes.refuses.says (logs.shown w)
+    c.write.ensures.device.engine.memory c.write.ensures.changes.stays.limits.share c.write.ensures.geometry w means.well logs.went c.write.ensures.changes.refuses.says (logs.shown w)
     (step.Write c.in-Write.sector c.in-Write.body.now) c.args.bytes.now refl (λ turn. (let no : ⊥ = cc in absurd no))
     (λ turn. (let no : ⊥ = cc in absurd no)) (logs.flushed w) (logs.left w)
     (write_sound _ _ _ c.in-Write.sector c.in-Write.body.now c.write.result means.step)
-    (λ need. (let its = unpinned_stale c.args.device.now.engine.pinned _ need in c.write.ensures.changes.stale honest w its.0 its.1)) means.step
+    (λ need. (let its = unpinned_stale c.args.device.now.engine.mapping.share c.args.device.now.engine.pinned _ need in c.write.ensures.changes.stale honest w its.0 its.1 its.2)) means.step
     (logs.stopped w) means.versions)
 
 pub returns-in-Trim-clause-happened : goal.returns-in-Trim-clause-happened
@@ -32,10 +32,10 @@ returns-in-Trim-clause-happened g c = λ honest w ne.
     let means = c.trim.ensures.changes.means honest w ne in
     rw c.in-Trim.is
     (changed g.N.PageSource.view c.args.device.now c.trim.new.self c.trim.result ne c.requires.device.engine.memory
-    c.trim.ensures.device.engine.memory c.trim.ensures.geometry w means.well logs.went c.trim.ensures.changes.refuses.says (logs.shown w)
+    c.trim.ensures.device.engine.memory c.trim.ensures.changes.stays.limits.share c.trim.ensures.geometry w means.well logs.went c.trim.ensures.changes.refuses.says (logs.shown w)
     (step.Trim c.in-Trim.sector) c.args.bytes.now refl (λ turn. (let no : ⊥ = cc in absurd no)) (λ turn. (let no : ⊥ = cc in absurd no))
     (logs.flushed w) (logs.left w) (write_sound _ _ _ c.in-Trim.sector (zeros c.args.device.now.engine.geometry) c.trim.result means.step)
-    (λ need. (let its = unpinned_stale c.args.device.now.engine.pinned _ need in c.trim.ensures.changes.stale honest w its.0 its.1)) means.step
+    (λ need. (let its = unpinned_stale c.args.device.now.engine.mapping.share c.args.device.now.engine.pinned _ need in c.trim.ensures.changes.stale honest w its.0 its.1 its.2)) means.step
     (logs.stopped w) means.versions)
 
 pub returns-in-Flush-clause-happened : goal.returns-in-Flush-clause-happened
@@ -44,7 +44,7 @@ returns-in-Flush-clause-happened g c = λ honest w ne.
     let means = c.flush.ensures.upkeeps.means honest w ne in
     rw c.in-Flush.is
     (changed g.N.PageSource.view c.args.device.now c.flush.new.self c.flush.result ne c.requires.device.engine.memory
-    c.flush.ensures.device.engine.memory c.flush.ensures.geometry w means.well logs.went c.flush.ensures.upkeeps.refuses.says (logs.shown w)
+    c.flush.ensures.device.engine.memory c.flush.ensures.upkeeps.stays.limits.share c.flush.ensures.geometry w means.well logs.went c.flush.ensures.upkeeps.refuses.says (logs.shown w)
     step.Flush c.args.bytes.now refl (λ turn. (let no : ⊥ = cc in absurd no)) (λ turn. (let no : ⊥ = cc in absurd no)) (logs.flushed w) (logs.left w)
     (quiet_sound _ _ c.flush.result means.step) (λ any. c.flush.ensures.upkeeps.refuses_upkeep.memory) means.step (logs.stopped w) means.versions)
 
@@ -54,7 +54,7 @@ returns-in-Turn-clause-happened g c = λ honest w ne.
     let means = c.turn.ensures.upkeeps.means honest w ne in
     rw c.in-Turn.is
     (changed g.N.PageSource.view c.args.device.now c.turn.new.self c.turn.result ne c.requires.device.engine.memory
-    c.turn.ensures.device.engine.memory c.turn.ensures.geometry w means.well logs.went c.turn.ensures.upkeeps.refuses.says (logs.shown w)
+    c.turn.ensures.device.engine.memory c.turn.ensures.upkeeps.stays.limits.share c.turn.ensures.geometry w means.well logs.went c.turn.ensures.upkeeps.refuses.says (logs.shown w)
     step.Turn c.args.bytes.now refl (λ turn. c.turn.ensures.rescued honest w) (λ turn. c.turn.ensures.turned) (logs.flushed w) (logs.left w)
     (quiet_sound _ _ c.turn.result means.step) (λ any. c.turn.ensures.upkeeps.refuses_upkeep.memory) means.step (logs.stopped w) means.versions)
 
@@ -105,3 +105,15 @@ returns-in-Flush-clause-pins g c = λ no. c.flush.ensures.pins
 
 pub returns-in-Turn-clause-pins : goal.returns-in-Turn-clause-pins
 returns-in-Turn-clause-pins g c = rw c.in-Turn.is (λ no. (let never : ⊥ = cc in absurd never))
+
+pub returns-in-Write-clause-well : goal.returns-in-Write-clause-well
+returns-in-Write-clause-well g c = λ honest w ne. (c.write.ensures.changes.means honest w ne).well
+
+pub returns-in-Trim-clause-well : goal.returns-in-Trim-clause-well
+returns-in-Trim-clause-well g c = λ honest w ne. (c.trim.ensures.changes.means honest w ne).well
+
+pub returns-in-Flush-clause-well : goal.returns-in-Flush-clause-well
+returns-in-Flush-clause-well g c = λ honest w ne. (c.flush.ensures.upkeeps.means honest w ne).well
+
+pub returns-in-Turn-clause-well : goal.returns-in-Turn-clause-well
+returns-in-Turn-clause-well g c = λ honest w ne. (c.turn.ensures.upkeeps.means honest w ne).well

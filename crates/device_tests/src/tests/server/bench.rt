@@ -2,7 +2,7 @@
 ghost use Rattle.std.specs.Prelude.{◌≡◌, IfOk};
 
 use super::streams::{Narrow, Pieces};
-use crate::tests::serving::{Answer, serve_on};
+use crate::tests::serving::{Answer, serve_at, serve_on};
 use device_fixtures::bench::{formatted_die, small};
 use device_fixtures::dies::image_of;
 use nand_die::Die;
@@ -25,11 +25,12 @@ pub struct Row {
     pub left: usize,
 }
 
-// Serves a stream to its end over a die with a cache of so many entries, and gives the die back.
+// Serves a stream to its end over a die, at this share and with a cache of so many entries, and gives the die back.
 pub fn served<N: Nand + Drop>(
     alloc: Global,
     nand: N,
     geometry: &Geometry,
+    share: u32,
     capacity: u32,
     input: &[u8],
     writer: &mut Narrow,
@@ -43,7 +44,7 @@ pub fn served<N: Nand + Drop>(
         failing: 0,
         reads: 0,
     };
-    match serve_on(alloc, nand, geometry, capacity, &mut reader, writer)? {
+    match serve_at(alloc, nand, geometry, share, capacity, &mut reader, writer)? {
         (Ok(_), nand) => Ok(nand),
         (Err(_), _) => Err(Fail::new("not served")),
     }

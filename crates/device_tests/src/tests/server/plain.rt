@@ -1,4 +1,4 @@
-//! Reads, writes, trims, flushes, turns and restarts with smaller and smaller caches, held against a plain list of sectors.
+//! Reads, writes, trims, flushes, turns and restarts with smaller and smaller caches, at several shares, held against a plain list of sectors.
 ghost use Rattle.std.specs.Prelude.{◌≡◌, IfOk};
 
 use super::bench::served;
@@ -91,12 +91,13 @@ impl Plain {
     }
 }
 
-// So many requests from this number on, over a die with a cache of so many entries, which is then given back.
+// So many requests from this number on, over a die at this share with a cache of so many entries, which is then given back.
 fn hold_requests<N: Nand + Drop>(
     rt: &impl Abort,
     alloc: Global,
     nand: N,
     geometry: &Geometry,
+    share: u32,
     capacity: u32,
     plain: &mut Plain,
     first: u8,
@@ -106,10 +107,18 @@ fn hold_requests<N: Nand + Drop>(
 {
     plain.ask_all(first)?;
     let mut writer = Narrow::new(alloc, 5, 0);
-    let nand = served(alloc, nand, geometry, capacity, &plain.input, &mut writer)?;
+    let nand = served(
+        alloc,
+        nand,
+        geometry,
+        share,
+        capacity,
+        &plain.input,
+        &mut writer,
+    )?;
     assert!(rt;
         writer.bytes.as_slice() == plain.output.as_slice(),
-        "{capacity}"
+        "{share} {capacity}"
     );
     Ok(nand)
 }
@@ -117,12 +126,16 @@ fn hold_requests<N: Nand + Drop>(
 // The capacities of the caches, and the number of the first request of each.
 static RESTARTS: [(u32, u8); 5] = [(16, 0), (8, 24), (4, 48), (2, 72), (1, 96)];
 
+// The shares at which it is all done.
+static SHARES: [u32; 4] = [0, 1, 3, 15];
+
 // A die goes from cache to cache.
 fn hold_restarts<N: Nand + Drop>(
     rt: &impl Abort,
     alloc: Global,
     mut nand: N,
     geometry: &Geometry,
+    share: u32,
 ) -> Result<(), Fail>
     requires { (N.view.flash nand).geometry ≡ geometry.now }
 {
@@ -132,7 +145,9 @@ fn hold_restarts<N: Nand + Drop>(
         output: Vec::new(alloc),
     };
     for (capacity, first) in &RESTARTS {
-        nand = hold_requests(rt, alloc, nand, geometry, *capacity, &mut plain, *first)?;
+        nand = hold_requests(
+            rt, alloc, nand, geometry, share, *capacity, &mut plain, *first,
+        )?;
     }
     Ok(())
 }
@@ -140,6 +155,9 @@ fn hold_restarts<N: Nand + Drop>(
 #[test]
 fn replies_are_a_plain_lists(rt: HostRuntime) -> Result<(), Fail> {
     let geometry = small()?;
-    let driver = formatted_die(rt.alloc(), geometry, &[], 0)?;
-    hold_restarts(&rt, rt.alloc(), driver, &geometry)
+    for share in &SHARES {
+        let driver = formatted_die(rt.alloc(), geometry, &[], 0)?;
+        hold_restarts(&rt, rt.alloc(), driver, &geometry, *share)?;
+    }
+    Ok(())
 }

@@ -191,7 +191,7 @@ fn prepared(alloc: Global, geometry: &Geometry, before: &[u8]) -> Result<Driver<
 {
     let driver = formatted_die(alloc, *geometry, &[], 0)?;
     let mut writer = Narrow::new(alloc, 1000, 0);
-    served(alloc, driver, geometry, 4, before, &mut writer)
+    served(alloc, driver, geometry, 0, 4, before, &mut writer)
 }
 
 // The first so many programs and erases fail.

@@ -1,4 +1,6 @@
-use Rattle.std.proofs.Common.{inl}
+use Rattle.std.proofs.Common.{◌≡◌, true, IfOk, inl, subst}
+use Rattle.disk_server.specs.Disk.{holds}
+use Rattle.disk_server.specs.Opened.{is_honest_in}
 use Rattle.disk_server.proofs.StoppedLemmas.{by_reads, by_writes, last_fault, later, opened_later, unwritten, was_stale}
 use Rattle.disk_server.proofs.stopped.open_stopped.Goals as goal
 
@@ -7,6 +9,10 @@ returns-in-Ok-clause-entries g c = inl c.in-Ok.ensures.entries
 
 pub returns-in-None-clause-fault : goal.returns-in-None-clause-fault
 returns-in-None-clause-fault g c = inl ((c.in-Err.back.0, c.in-Err.ensures.fault), c.in-None.ensures)
+
+pub returns-then-writes-clause-honest : goal.returns-then-writes-clause-honest
+returns-then-writes-clause-honest g c =
+    subst (λ b. IfOk c.open_stale.result (λ d. b ≡ true → holds (is_honest_in g.S.Store.honest) d ≡ true)) c.in-Err.ensures.given.as_honest c.open_stale.ensures.honest
 
 pub returns-then-writes-clause-fault : goal.returns-then-writes-clause-fault
 returns-then-writes-clause-fault g c =

@@ -5,6 +5,6 @@ use Rattle.ftl_device.proofs.begin.load_stale.Given as goal
 
 abbrev pub invariant-loop-sector : goal.invariant-loop-sector
 invariant-loop-sector l = record {
-  loaded : l.mapping ≡ begun_mapping l.fn.mapping.geometry l.certificate (take l.sector-index l.stale);
+  loaded : l.mapping ≡ begun_mapping l.fn.mapping.geometry l.fn.mapping.share l.certificate (take l.sector-index l.stale);
   valid : IsMapping l.mapping;
 }

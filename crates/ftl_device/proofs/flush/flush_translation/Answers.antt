@@ -1,75 +1,88 @@
-use Rattle.std.proofs.Common.{◌∙◌, refl, ap}
+use Rattle.std.proofs.Common.{◌∙◌, Err, refl, ap, arith}
 use Rattle.std.proofs.lemmas.Result.{err_from_is_err_and}
 use Rattle.collection.specs.Safe.{ram}
 use Rattle.collection.proofs.Lefts.{calm_law}
 use Rattle.ftl_device.proofs.PinLemmas.{beside_back}
-use Rattle.ftl_device.proofs.RoomLemmas.{keeps_room, refused_room, room_pins, ok_any}
+use Rattle.ftl_device.proofs.RoomLemmas.{ok_any}
+use Rattle.ftl_device.proofs.FlushRooms.{adds_none, spends_then, spends_most, spends_back}
 use Rattle.ftl_device.proofs.FlushLoops.{keeps_cleaned, keeps_same, back_after}
 use Rattle.ftl_device.proofs.SpentLemmas.{funded_here, written_counts, unroomed_counts}
-use Rattle.ftl_device.proofs.FlushStepLemmas.{clean_by, lacks_by, page_clean, cleared_by, written_back, page_flushed}
+use Rattle.ftl_device.proofs.FlushStepLemmas.{clean_by, lacks_by, page_clean, written_back, page_flushed}
 use Rattle.ftl_device.proofs.LeaveLemmas.{leaves_by, leaves_same, leaves_then, back_told}
 use Rattle.ftl_device.proofs.flush.flush_translation.Goals as goal
 
 pub returns-clause-calm : goal.returns-clause-calm
-returns-clause-calm g c = λ none. calm_law (ram c.make_room.new.engine) (ram c.write_back.new.self)
-    (beside_back c.write_back.result (ram c.make_room.new.engine) (ram c.write_back.new.self) _ c.write_back.ensures.pin c.write_back.ensures.goes
-    c.write_back.ensures.cleaned c.write_back.ensures.mapping) c.in_ok-make_room.ensures.made.calm
+returns-clause-calm g c = λ none. calm_law (ram c.make_flush_room.new.engine) (ram c.write_back.new.self)
+    (beside_back c.write_back.result (ram c.make_flush_room.new.engine) (ram c.write_back.new.self) _ c.write_back.ensures.pin c.write_back.ensures.goes
+    c.write_back.ensures.cleaned c.write_back.ensures.mapping) c.in_ok-make_flush_room.ensures.calm
 
 pub returns-then-not-lacks-clause-truth : goal.returns-then-not-lacks-clause-truth
 returns-then-not-lacks-clause-truth g c = λ honest w. keeps_same (ram c.args.engine.now) _ w
 
-pub returns-in_err-make_room-clause-truth : goal.returns-in_err-make_room-clause-truth
-returns-in_err-make_room-clause-truth g c =
+pub returns-in_err-make_flush_room-clause-truth : goal.returns-in_err-make_flush_room-clause-truth
+returns-in_err-make_flush_room-clause-truth g c =
     let p = err_from_is_err_and c.from_residual.result c.from_residual.ensures.1 in
-    rw (p.1, p.2) (λ honest w. refused_room (ram c.args.engine.now) (ram c.make_room.new.engine) _ _ _ (c.in_err-make_room.ensures.truth honest w) (c.in_err-make_room.ensures.pinned honest w))
+    rw (p.1, p.2) c.in_err-make_flush_room.ensures.truth
 
 pub returns-clause-truth : goal.returns-clause-truth
 returns-clause-truth g c = λ honest w.
-    let room = c.in_ok-make_room.ensures.truth honest w in
-    back_after c.write_back.result _ c.args.engine.now.geometry (ram c.make_room.new.engine) (ram c.write_back.new.self) _ _ _
-    c.make_room.ensures.leaves.geometry c.make_room.ensures.leaves.safe.memory c.write_back.ensures.stands.safe.memory
-    (beside_back c.write_back.result (ram c.make_room.new.engine) (ram c.write_back.new.self) _ c.write_back.ensures.pin c.write_back.ensures.goes
+    let room = c.in_ok-make_flush_room.ensures.truth honest w in
+    back_after c.write_back.result _ c.args.engine.now.geometry (ram c.make_flush_room.new.engine) (ram c.write_back.new.self) _ _ _
+    c.make_flush_room.ensures.leaves.geometry c.make_flush_room.ensures.leaves.safe.memory c.write_back.ensures.stands.safe.memory
+    (beside_back c.write_back.result (ram c.make_flush_room.new.engine) (ram c.write_back.new.self) _ c.write_back.ensures.pin c.write_back.ensures.goes
     c.write_back.ensures.cleaned c.write_back.ensures.mapping)
-    (keeps_room (ram c.args.engine.now) (ram c.make_room.new.engine) _ _ room (c.in_ok-make_room.ensures.pinned honest w)) (c.write_back.ensures.truth (c.make_room.ensures.leaves.honest_is ∙ honest) c.in_ok-make_room.ensures.leaves.fault room.truth)
+    room (c.write_back.ensures.truth (c.make_flush_room.ensures.leaves.honest_is ∙ honest) c.in_ok-make_flush_room.ensures.leaves.fault room.truth.truth)
 
 pub returns-clause-cleans : goal.returns-clause-cleans
-returns-clause-cleans g c = keeps_cleaned c.write_back.result c.args.engine.now.geometry c.args.engine.now.mapping c.make_room.new.engine.mapping c.write_back.new.self.mapping c.args.t (c.in_ok-make_room.ensures.cleans refl) c.write_back.ensures.cleans
+returns-clause-cleans g c = keeps_cleaned c.write_back.result c.args.engine.now.geometry c.args.engine.now.mapping c.make_flush_room.new.engine.mapping c.write_back.new.self.mapping c.args.t c.in_ok-make_flush_room.ensures.cleans c.write_back.ensures.cleans
 
 pub returns-then-not-lacks-clause-count : goal.returns-then-not-lacks-clause-count
-returns-then-not-lacks-clause-count g c = λ honest w failures funded. funded_here failures (ram c.args.engine.now) funded
+returns-then-not-lacks-clause-count g c = λ none honest w failures funded. funded_here failures (ram c.args.engine.now) funded
 
-pub returns-in_err-make_room-clause-count : goal.returns-in_err-make_room-clause-count
-returns-in_err-make_room-clause-count g c =
+pub returns-in_err-make_flush_room-clause-count : goal.returns-in_err-make_flush_room-clause-count
+returns-in_err-make_flush_room-clause-count g c =
     let p = err_from_is_err_and c.from_residual.result c.from_residual.ensures.1 in
-    rw (p.1, p.2) (λ honest w failures funded. unroomed_counts failures _ (ram c.args.engine.now) (ram c.make_room.new.engine) (c.in_err-make_room.ensures.count honest w failures funded))
+    rw (p.1, p.2) (λ none honest w failures funded. unroomed_counts failures _ (ram c.args.engine.now) (ram c.make_flush_room.new.engine) (c.in_err-make_flush_room.ensures.count none honest w failures funded))
 
 pub returns-clause-count : goal.returns-clause-count
-returns-clause-count g c = λ honest w failures funded. written_counts failures c.write_back.result (ram c.args.engine.now)
-    (ram c.make_room.new.engine) (ram c.write_back.new.self) c.make_room.ensures.leaves.safe.memory c.make_room.ensures.leaves.geometry
-    (c.in_ok-make_room.ensures.count honest w failures funded) (c.write_back.ensures.cost c.in_ok-make_room.ensures.leaves.fault)
+returns-clause-count g c = λ none honest w failures funded. written_counts failures c.write_back.result (ram c.args.engine.now)
+    (ram c.make_flush_room.new.engine) (ram c.write_back.new.self) c.make_flush_room.ensures.leaves.safe.memory c.make_flush_room.ensures.leaves.geometry
+    (c.in_ok-make_flush_room.ensures.count none honest w failures funded) (c.write_back.ensures.cost c.in_ok-make_flush_room.ensures.leaves.fault)
+
+pub returns-then-not-lacks-clause-spends : goal.returns-then-not-lacks-clause-spends
+returns-then-not-lacks-clause-spends g c = λ some. adds_none 1 (ram c.args.engine.now)
+
+pub returns-in_err-make_flush_room-clause-spends : goal.returns-in_err-make_flush_room-clause-spends
+returns-in_err-make_flush_room-clause-spends g c =
+    let p = err_from_is_err_and c.from_residual.result c.from_residual.ensures.1 in
+    rw (p.1, p.2) (λ some. spends_most 0 1 (Err _) (ram c.args.engine.now) (ram c.make_flush_room.new.engine) (omega arith) (c.in_err-make_flush_room.ensures.spends some))
+
+pub returns-clause-spends : goal.returns-clause-spends
+returns-clause-spends g c = λ some. spends_then 0 1 c.write_back.result (ram c.args.engine.now) (ram c.make_flush_room.new.engine) (ram c.write_back.new.self) c.make_flush_room.ensures.leaves.geometry
+    (c.in_ok-make_flush_room.ensures.spends some) (spends_back c.write_back.result (ram c.make_flush_room.new.engine) (ram c.write_back.new.self) (c.write_back.ensures.cost c.in_ok-make_flush_room.ensures.leaves.fault))
 
 pub returns-then-not-lacks-clause-leaves : goal.returns-then-not-lacks-clause-leaves
 returns-then-not-lacks-clause-leaves g c = leaves_same g.N.PageSource.view c.args.engine.now c.requires.safe c.requires.going
 
-pub returns-in_err-make_room-clause-leaves : goal.returns-in_err-make_room-clause-leaves
-returns-in_err-make_room-clause-leaves g c =
+pub returns-in_err-make_flush_room-clause-leaves : goal.returns-in_err-make_flush_room-clause-leaves
+returns-in_err-make_flush_room-clause-leaves g c =
     let p = err_from_is_err_and c.from_residual.result c.from_residual.ensures.1 in
-    rw (p.1, p.2) (c.in_err-make_room.ensures.leaves)
+    rw (p.1, p.2) (c.in_err-make_flush_room.ensures.leaves)
 
 pub returns-clause-leaves : goal.returns-clause-leaves
-returns-clause-leaves g c = leaves_then g.N.PageSource.view c.args.engine.now c.make_room.new.engine c.write_back.new.self _ c.write_back.result
-    (λ honest k. keeps_room (ram c.args.engine.now) (ram c.make_room.new.engine) _ _ (c.in_ok-make_room.ensures.truth honest k) (c.in_ok-make_room.ensures.pinned honest k)) c.make_room.ensures.keys.limits
-    c.in_ok-make_room.ensures.leaves
-    (leaves_by g.N.PageSource.view c.make_room.new.engine
-    c.write_back.new.self c.write_back.result c.in_ok-make_room.ensures.leaves.fault c.write_back.ensures.stands
+returns-clause-leaves g c = leaves_then g.N.PageSource.view c.args.engine.now c.make_flush_room.new.engine c.write_back.new.self _ c.write_back.result
+    (λ honest k. c.in_ok-make_flush_room.ensures.truth honest k) c.make_flush_room.ensures.keys.limits
+    c.in_ok-make_flush_room.ensures.leaves
+    (leaves_by g.N.PageSource.view c.make_flush_room.new.engine
+    c.write_back.new.self c.write_back.result c.in_ok-make_flush_room.ensures.leaves.fault c.write_back.ensures.stands
     c.write_back.ensures.goes.geometry
-    (back_told c.write_back.result (ram c.make_room.new.engine) (ram c.write_back.new.self)
-    (c.write_back.ensures.cost c.in_ok-make_room.ensures.leaves.fault))
-    (λ honest k ne. c.write_back.ensures.stops honest c.in_ok-make_room.ensures.leaves.fault k.truth ne)
-    (λ honest k bus. c.write_back.ensures.cut honest c.in_ok-make_room.ensures.leaves.fault k.truth bus))
+    (back_told c.write_back.result (ram c.make_flush_room.new.engine) (ram c.write_back.new.self)
+    (c.write_back.ensures.cost c.in_ok-make_flush_room.ensures.leaves.fault))
+    (λ honest k ne. c.write_back.ensures.stops honest c.in_ok-make_flush_room.ensures.leaves.fault k.truth ne)
+    (λ honest k bus. c.write_back.ensures.cut honest c.in_ok-make_flush_room.ensures.leaves.fault k.truth bus))
 
 pub returns-clause-pins : goal.returns-clause-pins
-returns-clause-pins g c = ok_any c.write_back.result (λ none. ap (λ p. p.block) c.write_back.ensures.pin ∙ room_pins g.N.PageSource.view.erases c.args.engine.now c.make_room.new.engine c.in_ok-make_room.ensures.erases none)
+returns-clause-pins g c = ok_any c.write_back.result (λ none. ap (λ p. p.block) c.write_back.ensures.pin ∙ c.in_ok-make_flush_room.ensures.pins none)
 
 pub returns-then-not-lacks-clause-page : goal.returns-then-not-lacks-clause-page
 returns-then-not-lacks-clause-page g c = page_clean g.N.PageSource.view c.args.t c.args.engine.now
@@ -78,14 +91,12 @@ returns-then-not-lacks-clause-page g c = page_clean g.N.PageSource.view c.args.t
 
 pub returns-clause-page : goal.returns-clause-page
 returns-clause-page g c =
-    let cleared = cleared_by g.N.PageSource.view c.args.engine.now c.make_room.new.engine _ c.in_ok-make_room.ensures.leaves c.in_ok-make_room.ensures.made
-    (λ honest k. keeps_room (ram c.args.engine.now) (ram c.make_room.new.engine) _ _ (c.in_ok-make_room.ensures.truth honest k) (c.in_ok-make_room.ensures.pinned honest k)) in
     let back = written_back g.N.PageSource.view c.args.t
-    c.make_room.new.engine c.write_back.new.self c.write_back.result c.make_room.ensures.leaves.safe.memory
+    c.make_flush_room.new.engine c.write_back.new.self c.write_back.result c.make_flush_room.ensures.leaves.safe.memory
     c.write_back.ensures.stands.safe.memory
-    (beside_back c.write_back.result (ram c.make_room.new.engine) (ram c.write_back.new.self) _ c.write_back.ensures.pin c.write_back.ensures.goes
+    (beside_back c.write_back.result (ram c.make_flush_room.new.engine) (ram c.write_back.new.self) _ c.write_back.ensures.pin c.write_back.ensures.goes
     c.write_back.ensures.cleaned c.write_back.ensures.mapping) c.write_back.ensures.goes c.write_back.ensures.stands
     c.write_back.ensures.cleaned c.write_back.ensures.programmed
-    (c.write_back.ensures.cost c.in_ok-make_room.ensures.leaves.fault) (λ honest true_of. c.write_back.ensures.truth honest c.in_ok-make_room.ensures.leaves.fault true_of) in
-    page_flushed g.N.PageSource.view c.args.t c.args.engine.now c.make_room.new.engine c.write_back.new.self c.write_back.result
-    (lacks_by c.args.engine.now.geometry c.args.t c.args.engine.now.mapping c.requires.safe.memory.mapping_of (c.lacks.ensures.some c.if-not-lacks.false)) cleared back
+    (c.write_back.ensures.cost c.in_ok-make_flush_room.ensures.leaves.fault) (λ honest true_of. c.write_back.ensures.truth honest c.in_ok-make_flush_room.ensures.leaves.fault true_of) in
+    page_flushed g.N.PageSource.view c.args.t c.args.engine.now c.make_flush_room.new.engine c.write_back.new.self c.write_back.result
+    (lacks_by c.args.engine.now.geometry c.args.t c.args.engine.now.mapping c.requires.safe.memory.mapping_of (c.lacks.ensures.some c.if-not-lacks.false)) c.in_ok-make_flush_room.ensures.cleared back

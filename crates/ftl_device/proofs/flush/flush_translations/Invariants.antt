@@ -6,7 +6,7 @@ use Rattle.collection.specs.Safe.{ram, image_in}
 use Rattle.collection.specs.Left.{IsCalm}
 use Rattle.mapping_cache.specs.Mapping.{HasLimitsOf}
 use Rattle.ftl_device.specs.Calls.{Knows, KeepsArray}
-use Rattle.ftl_device.specs.Flush.{IsClean}
+use Rattle.ftl_device.specs.Flush.{IsClean, AddsAtMost}
 use Rattle.ftl_device.specs.FlushSteps.{FlushesPages}
 use Rattle.ftl_device.specs.Shortage.{FlushFunded}
 use Rattle.ftl_device.specs.Changes.{EngineLeaves}
@@ -21,7 +21,8 @@ invariant-translations g l = record {
   calm : IsCalm (ram l.engine);
   clean : (t : ℕ) → t < l.t → IsClean l.initial.engine.geometry t l.engine.mapping;
   pages : FlushesPages g.N.PageSource.view l.t l.initial.engine l.engine;
-  count : g.N.PageSource.view.honest l.initial.engine.nand ≡ true → Knows (ram l.initial.engine) (image_in g.N.PageSource.view.flash l.initial.engine)
+  spends : 0 < l.initial.engine.mapping.share → AddsAtMost l.t (ram l.initial.engine) (ram l.engine);
+  count : l.initial.engine.mapping.share ≡ 0 → g.N.PageSource.view.honest l.initial.engine.nand ≡ true → Knows (ram l.initial.engine) (image_in g.N.PageSource.view.flash l.initial.engine)
       → (failures : ℕ) → IsFunded l.initial.engine.geometry.pages failures (counts_of (ram l.initial.engine).blocks)
       → FlushFunded failures (ram l.initial.engine) (ram l.engine);
   truth : g.N.PageSource.view.honest l.initial.engine.nand ≡ true → Knows (ram l.initial.engine) (image_in g.N.PageSource.view.flash l.initial.engine)

@@ -3,7 +3,7 @@ use Rattle.ftl_device.proofs.BeginLemmas.{true_from_agreement}
 use Rattle.ftl_device.proofs.laws.begin_laws.Goals as goal
 
 pub returns-clause-truth : goal.returns-clause-truth
-returns-clause-truth c = λ g capacity image claim whole agrees. true_from_agreement g capacity image claim whole agrees
+returns-clause-truth c = λ g share capacity image claim whole agrees. true_from_agreement g share capacity image claim whole agrees
 
 pub returns-clause-free : goal.returns-clause-free
 returns-clause-free c = λ g capacity image claim whole agrees. free_counted g capacity image claim agrees

@@ -15,7 +15,7 @@ returns-clause-leaves g c =
     let going : mid.fault ≡ None = stands.fault ∙ c.requires.going in
     leaves_then g.N.PageSource.view old mid c.next_old-2.new.self _ c.next_old-2.result
     (keeps_look g.N.PageSource.view old mid same c.in_ok-ahead.ensures.same)
-    (record { geometry = ap (λ (r : Ram). r.mapping.geometry) same; capacity = ap (λ (r : Ram). r.mapping.capacity) same })
+    (record { geometry = ap (λ (r : Ram). r.mapping.geometry) same; capacity = ap (λ (r : Ram). r.mapping.capacity) same; share = ap (λ (r : Ram). r.mapping.share) same })
     (leaves_look g.N.PageSource.view old mid
     (Ok c.in_ok-ahead.ahead) c.requires.going stands c.next_old.ensures.still tt
     (λ honest k ne. c.in_ok-ahead.ensures.stops honest c.requires.going k.truth ne)

@@ -41,7 +41,7 @@ returns-in_err-renew_at-clause-truth g c =
     keeps_refused c.args.engine.now.geometry (ram c.make_room.new.engine) (ram c.renew_at.new.self) _ _ _ _ c.make_room.ensures.leaves.geometry
     (keeps_room (ram c.args.engine.now) (ram c.make_room.new.engine) _ _ room knows)
     (rescue_refused (ram c.make_room.new.engine) (ram c.renew_at.new.self) _ _ c.make_room.ensures.leaves.safe.memory
-    c.renew_at.ensures.stands.safe.memory c.renew_at.ensures.goes c.renew_at.ensures.pin c.renew_at.ensures.one_more knows _
+    c.renew_at.ensures.stands.safe.memory c.renew_at.ensures.goes c.renew_at.ensures.keys.limits.share c.renew_at.ensures.pin c.renew_at.ensures.one_more knows _
     (c.in_err-renew_at.ensures.truth (c.make_room.ensures.leaves.honest_is ∙ honest) c.in_ok-make_room.ensures.leaves.fault room.truth
     (moved_less (ram c.make_room.new.engine) _ knows))))
 

@@ -1,10 +1,11 @@
 use Rattle.collection.specs.Safe.{ram}
+use Rattle.collection.specs.Room.{wanted}
 use Rattle.ftl_device.proofs.RoomLemmas.{room_tells, room_made, room_cleans, room_knows}
 use Rattle.ftl_device.proofs.LeaveLemmas.{leaves_by}
 use Rattle.ftl_device.proofs.ready.make_room.Goals as goal
 
 pub returns-clause-made : goal.returns-clause-made
-returns-clause-made g c = room_made c.args.flushing c.make_room.result c.args.engine.now c.make_room.new.self
+returns-clause-made g c = room_made (wanted c.args.reserve (ram c.args.engine.now)) c.args.flushing c.make_room.result c.args.engine.now c.make_room.new.self
     (c.make_room.ensures.makes c.requires.going).collects (c.make_room.ensures.makes c.requires.going).rests
     (c.make_room.ensures.makes c.requires.going).goes (c.make_room.ensures.makes c.requires.going).keys c.make_room.ensures.room
     (c.make_room.ensures.makes c.requires.going).calm

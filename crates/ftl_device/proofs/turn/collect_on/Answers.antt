@@ -43,7 +43,7 @@ returns-clause-collects g c =
     let idle = unpinned_idle (ram c.args.engine.now) c.requires.calm none in
     collects_pinned g.N.PageSource.view c.args.engine.now c.pin.new.self c.in-Some.block c.pin.ensures.pinned c.step_pinned-2.new.engine c.step_pinned-2.result
     c.requires.safe c.pin.ensures.safe c.requires.going
-    (knows_pinned g.N.PageSource.view c.args.engine.now c.pin.new.self c.in-Some.block c.pin.ensures.pinned c.requires.safe.memory (c.pin.ensures.calm idle) (c.pin.ensures.passed _) c.in-Some.ensures idle.moved)
+    (knows_pinned g.N.PageSource.view c.args.engine.now c.pin.new.self c.in-Some.block c.pin.ensures.pinned _ c.requires.safe.memory (c.pin.ensures.calm idle) (c.pin.ensures.passed _) c.in-Some.ensures idle.moved)
     c.step_pinned-2.ensures.collects
 
 pub returns-clause-rests : goal.returns-clause-rests
@@ -57,7 +57,7 @@ returns-clause-falls g c = λ honest k.
     let none = none_pinned c.args.engine.now.pinned c.is_some.result c.is_some.ensures c.if-is_some.false in
     let idle = unpinned_idle (ram c.args.engine.now) c.requires.calm none in
     let calm = c.pin.ensures.calm idle in
-    let known = knows_pinned g.N.PageSource.view c.args.engine.now c.pin.new.self c.in-Some.block c.pin.ensures.pinned c.requires.safe.memory calm (c.pin.ensures.passed _) c.in-Some.ensures idle.moved k in
+    let known = knows_pinned g.N.PageSource.view c.args.engine.now c.pin.new.self c.in-Some.block c.pin.ensures.pinned _ c.requires.safe.memory calm (c.pin.ensures.passed _) c.in-Some.ensures idle.moved k in
     ok_map c.step_pinned-2.result
     (λ h. inr
     (less_pinned g.N.PageSource.view c.args.engine.now c.pin.new.self c.in-Some.block c.pin.ensures.pinned

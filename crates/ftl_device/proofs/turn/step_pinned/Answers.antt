@@ -76,4 +76,4 @@ pub returns-clause-less : goal.returns-clause-less
 returns-clause-less g c = λ honest k.
     let q = some_pin c.args.engine.now.pinned c.requires.pinned in
     let a = c.in_ok-step.ensures.advances c.requires.going q.0 q.1 in
-    step_less q.0 (ram c.args.engine.now) (ram c.step.new.self) _ _ _ _ _ q.1 a.cost a.erases_are (a.truth honest k.truth (k.passed q.0 q.1))
+    step_less q.0 (ram c.args.engine.now) (ram c.step.new.self) _ _ _ _ _ c.requires.safe.memory k q.1 a.cost a.erases_are (a.truth honest k.truth (k.passed q.0 q.1))

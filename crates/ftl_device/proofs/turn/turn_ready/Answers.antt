@@ -45,7 +45,7 @@ returns-in_err-rescue_one-clause-truth g c =
     keeps_refused c.args.engine.now.geometry (ram c.make_room.new.engine) (ram c.rescue_one.new.self) _ _ _ _ c.make_room.ensures.leaves.geometry
     (keeps_room (ram c.args.engine.now) (ram c.make_room.new.engine) _ _ room knows)
     (rescue_refused (ram c.make_room.new.engine) (ram c.rescue_one.new.self) _ _ c.make_room.ensures.leaves.safe.memory
-    c.rescue_one.ensures.stands.safe.memory c.rescue_one.ensures.goes c.rescue_one.ensures.pin c.rescue_one.ensures.one_more knows _
+    c.rescue_one.ensures.stands.safe.memory c.rescue_one.ensures.goes c.rescue_one.ensures.keys.limits.share c.rescue_one.ensures.pin c.rescue_one.ensures.one_more knows _
     (c.in_err-rescue_one.ensures.truth (c.make_room.ensures.leaves.honest_is ∙ honest) c.in_ok-make_room.ensures.leaves.fault room.truth
     (moved_less (ram c.make_room.new.engine) _ knows))))
 

@@ -26,7 +26,7 @@ returns-clause-sparing g c = λ honest w. sparing_from (ram c.args.self.now) (ra
     (Some (record { block = c.args.block; first = 0 })) c.args.flushing c.args.block c.collect_from.result
     (c.collect_from.ensures.sparing honest
     (true_from (ram c.args.self.now) (ram c.args.self.now) (Some (record { block = c.args.block; first = 0 })) None _ w)
-    (passed_none (ram c.args.self.now) _ c.args.block) (idle_law c.args.flushing (ram c.args.self.now) c.requires.idle))
+    (passed_none (ram c.args.self.now) _ c.args.block) (let none = idle_law c.args.flushing (ram c.args.self.now) c.requires.idle in record { few = none.few; unmarked = none.unmarked }))
 
 pub returns-clause-truth : goal.returns-clause-truth
 returns-clause-truth g c = λ honest w. emptied_from (ram c.args.self.now) (ram c.collect_from.new.self)
@@ -58,7 +58,7 @@ returns-clause-few g c = λ honest w small ne. c.collect_from.ensures.few honest
 -- ---- what a stop leaves
 
 pub returns-clause-stops : goal.returns-clause-stops
-returns-clause-stops g c = λ honest w ne. stops_sized (ram c.args.self.now) _ _ _ _ _ (record { geometry = refl; capacity = refl })
+returns-clause-stops g c = λ honest w ne. stops_sized (ram c.args.self.now) _ _ _ _ _ (record { geometry = refl; capacity = refl; share = refl })
     (c.collect_from.ensures.stops honest
     (true_from (ram c.args.self.now) (ram c.args.self.now) (Some (record { block = c.args.block; first = 0 })) None _ w)
     (passed_none (ram c.args.self.now) _ c.args.block) ne)
@@ -66,7 +66,7 @@ returns-clause-stops g c = λ honest w ne. stops_sized (ram c.args.self.now) _ _
 -- ---- what a fault of the die leaves
 
 pub returns-clause-cut : goal.returns-clause-cut
-returns-clause-cut g c = λ honest w is. cut_sized (ram c.args.self.now) _ _ _ _ (record { geometry = refl; capacity = refl })
+returns-clause-cut g c = λ honest w is. cut_sized (ram c.args.self.now) _ _ _ _ (record { geometry = refl; capacity = refl; share = refl })
     (c.collect_from.ensures.cut honest
     (true_from (ram c.args.self.now) (ram c.args.self.now) (Some (record { block = c.args.block; first = 0 })) None _ w)
     (passed_none (ram c.args.self.now) _ c.args.block) is)

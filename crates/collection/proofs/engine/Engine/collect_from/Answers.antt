@@ -9,7 +9,7 @@ use Rattle.collection.proofs.Puts.{refused_then}
 use Rattle.collection.proofs.Copies.{keys_same, keys_then, refreshes_same, refreshes_then}
 use Rattle.collection.proofs.Ledgers.{begun, stepped, still_goes, still_erased, once_erased, room_next, steps_fall, but_then, ends_erased, erased_by}
 use Rattle.collection.proofs.Ledgers.{emptied_by, emptied_then, none_due_by, collected_cost, collected_few, less_work, counts_collected, thrifty_erased, thrifty_refused}
-use Rattle.collection.proofs.Ledgers.{refused_cost, refused_counts, closed_still, released_from, undamaged}
+use Rattle.collection.proofs.Ledgers.{begins_small, refused_cost, refused_counts, closed_still, released_from, undamaged}
 use Rattle.collection.proofs.HalfDone.{due_few, due_first, pin_next, pin_erased, few_left, unpinned_few}
 use Rattle.collection.proofs.PageReads.{none_read, read_more, read_all}
 use Rattle.collection.specs.Whole.{next_of}
@@ -31,7 +31,7 @@ steps-init g c = record {
   pinned = c.requires.pinned;
   room = c.requires.half_done.passed;
   closed = c.requires.half_done.closed;
-  reads = none_read c.args.flushing c.args.pinned.first (ram c.args.self.now) _ (due_first c.args.flushing (ram c.args.self.now) c.args.pinned c.requires.unmarked c.requires.half_done) c.requires.half_done.on_die;
+  reads = none_read c.args.flushing c.args.pinned.first (ram c.args.self.now) _ (λ on. due_first c.args.flushing (ram c.args.self.now) c.args.pinned c.requires.unmarked (c.requires.flushes on) c.requires.half_done) c.requires.half_done.passed c.requires.half_done.on_die;
   under_way = begun c.args.flushing c.args.pinned.block c.args.pinned.first (ram c.args.self.now) _ _ c.requires.safe.memory (λ k. k.1) (λ k. k.2);
   stops = λ honest w passed. leaves_nothing _ _ _ (same_left (ram c.args.self.now) _ _ c.requires.safe.memory w);
 }
@@ -57,7 +57,7 @@ steps-preserved g c =
       keys = keys_then _ _ _ i.keys c.step_on.ensures.keys;
       refreshes = λ on. refreshes_then old now new i.goes.geometry (i.refreshes on) (c.step_on.ensures.refreshes on);
       pinned = c.in_ok-step.ensures.next ∙ pin_next c.args.pinned.block _ c.in-Some.next c.in_ok-step.step (ap (λ p. next_of p c.in_ok-step.step) (ap (λ x. x.pages) i.goes.geometry) ∙ (ap (λ p. next_of p c.in_ok-step.step) (sym c.pages-pages.ensures) ∙ is));
-      room = room_next c.args.flushing c.args.pinned.block c.steps.first c.in-Some.next _ now new c.in_ok-step.step c.step_on.ensures.acts.safe.memory (c.pages-pages.ensures ∙ ap (λ x. x.pages) (sym (goes.geometry ∙ i.goes.geometry))) i.room is c.in_ok-step.ensures.cost;
+      room = room_next c.args.flushing c.args.pinned.block c.steps.first c.in-Some.next _ now new c.in_ok-step.step c.step_on.ensures.acts.safe.memory (c.pages-pages.ensures ∙ ap (λ x. x.pages) (sym (goes.geometry ∙ i.goes.geometry))) goes.geometry i.room is c.in_ok-step.ensures.cost;
       closed = closed_still c.args.pinned.block now new goes (rw i.goes.geometry c.requires.half_done.within) i.closed;
       reads = read_more c.args.flushing c.args.pinned.block c.args.pinned.first c.steps.first c.in-Some.next old now new _ _ _ c.in_ok-step.step
           i.goes.geometry (goes.geometry ∙ i.goes.geometry) i.reads (ap (λ p. next_of p c.in_ok-step.step) (sym c.pages-pages.ensures) ∙ is)
@@ -68,7 +68,7 @@ steps-preserved g c =
           (λ k w none. c.in_ok-step.ensures.truth (i.acts.honest_is ∙ k.0) w none);
       stops = λ honest w passed.
           let so = i.under_way.truth (honest, w, passed) in
-          let sized : IsSized (ram c.args.self.now) (ram c.steps.self) = record { geometry = i.goes.geometry; capacity = i.keys.limits.capacity } in
+          let sized : IsSized (ram c.args.self.now) (ram c.steps.self) = record { geometry = i.goes.geometry; capacity = i.keys.limits.capacity; share = i.keys.limits.share } in
           stops_then old now _ _ _ _ _ _ sized so.same.array (i.stops honest w passed) (c.in_ok-step.ensures.stops (i.acts.honest_is ∙ honest) so.same.truth (let n = so.none in rw i.goes.geometry n) (ok_not_bus _));
     }
 
@@ -96,7 +96,7 @@ returns-in_default-clause-released g c =
     released_from c.args.pinned.block old now new i.goes c.requires.half_done.within c.requires.half_done.closed (c.in_ok-step.ensures.released (ap Ok e))
 
 pub returns-in_default-clause-reads : goal.returns-in_default-clause-reads
-returns-in_default-clause-reads g c = read_all c.args.flushing c.args.pinned.first c.steps.first (ram c.args.self.now) (ram c.steps.self) _ _ _ c.steps.invariant.goes.geometry c.steps.invariant.reads c.step_on.ensures.reads
+returns-in_default-clause-reads g c = read_all c.args.flushing c.args.pinned.first c.steps.first (ram c.args.self.now) (ram c.steps.self) _ _ _ c.steps.invariant.acts.safe.memory c.steps.invariant.goes.geometry c.steps.invariant.reads c.step_on.ensures.reads
 
 pub returns-in_default-clause-erases : goal.returns-in_default-clause-erases
 returns-in_default-clause-erases g c =
@@ -124,7 +124,7 @@ returns-in_default-clause-sparing g c = λ honest w passed idle.
     let now = ram c.steps.self in
     let new = ram c.step_on.new.self in
     let e = ends_erased _ c.in_ok-step.step (sym c.next_page-going_on.ensures ∙ none_from c.next_page-going_on.result c.in_default.not-Some) in
-    collected_few c.args.flushing c.args.pinned.block c.steps.first old now new _ _ _ (honest, w, passed) idle i.under_way
+    collected_few c.args.flushing c.args.pinned.block c.steps.first old now new _ _ _ (honest, w, passed) (λ on. (c.requires.flushes on, due_few c.args.flushing (ram c.args.self.now) c.requires.unmarked)) idle.few i.under_way
     (none_due_by c.args.flushing c.args.pinned.block c.steps.first now new c.in_ok-step.step e c.in_ok-step.ensures.cost)
     (erased_by c.args.flushing c.args.pinned.block c.steps.first now new c.in_ok-step.step e c.in_ok-step.ensures.cost)
 
@@ -160,8 +160,8 @@ returns-in_default-clause-count g c = λ honest w passed small.
     let new = ram c.step_on.new.self in
     let e = ends_erased _ c.in_ok-step.step (sym c.next_page-going_on.ensures ∙ none_from c.next_page-going_on.result c.in_default.not-Some) in
     counts_collected c.args.flushing c.args.pinned.block c.steps.first old now new _ _ _ c.step_on.ensures.acts.safe.memory
-    (c.step_on.ensures.goes.geometry ∙ i.goes.geometry) (honest, w, passed) small.moved
-    (due_few c.args.flushing (ram c.args.self.now) c.requires.unmarked) i.under_way
+    (c.step_on.ensures.goes.geometry ∙ i.goes.geometry) (honest, w, passed) (begins_small (ram c.args.self.now) c.args.pinned small)
+    (λ on. (c.requires.flushes on, due_few c.args.flushing (ram c.args.self.now) c.requires.unmarked)) i.under_way
     (erased_by c.args.flushing c.args.pinned.block c.steps.first now new c.in_ok-step.step e c.in_ok-step.ensures.cost)
 
 pub returns-in_default-clause-thrifty : goal.returns-in_default-clause-thrifty
@@ -171,8 +171,8 @@ returns-in_default-clause-thrifty g c = λ honest w passed small ne.
     let now = ram c.steps.self in
     let new = ram c.step_on.new.self in
     let e = ends_erased _ c.in_ok-step.step (sym c.next_page-going_on.ensures ∙ none_from c.next_page-going_on.result c.in_default.not-Some) in
-    thrifty_erased c.args.flushing c.args.pinned.block c.steps.first old now new _ _ _ (honest, w, passed) small.moved
-    (due_few c.args.flushing (ram c.args.self.now) c.requires.unmarked) i.under_way
+    thrifty_erased c.args.flushing c.args.pinned.block c.steps.first old now new _ _ _ (honest, w, passed) (begins_small (ram c.args.self.now) c.args.pinned small)
+    (λ on. (c.requires.flushes on, due_few c.args.flushing (ram c.args.self.now) c.requires.unmarked)) i.under_way
     (erased_by c.args.flushing c.args.pinned.block c.steps.first now new c.in_ok-step.step e c.in_ok-step.ensures.cost)
 
 pub returns-in_default-clause-few : goal.returns-in_default-clause-few
@@ -186,7 +186,7 @@ pub returns-in_err-step-clause-refreshes : goal.returns-in_err-step-clause-refre
 returns-in_err-step-clause-refreshes g c = λ on. refreshes_then _ _ _ c.steps.invariant.goes.geometry (c.steps.invariant.refreshes on) (c.step_on.ensures.refreshes on)
 
 pub returns-in_err-step-clause-reads : goal.returns-in_err-step-clause-reads
-returns-in_err-step-clause-reads g c = read_all c.args.flushing c.args.pinned.first c.steps.first (ram c.args.self.now) (ram c.steps.self) _ _ _ c.steps.invariant.goes.geometry c.steps.invariant.reads c.step_on.ensures.reads
+returns-in_err-step-clause-reads g c = read_all c.args.flushing c.args.pinned.first c.steps.first (ram c.args.self.now) (ram c.steps.self) _ _ _ c.steps.invariant.acts.safe.memory c.steps.invariant.goes.geometry c.steps.invariant.reads c.step_on.ensures.reads
 
 pub returns-in_err-step-clause-cost : goal.returns-in_err-step-clause-cost
 returns-in_err-step-clause-cost g c =
@@ -221,8 +221,8 @@ returns-in_err-step-clause-count g c = λ honest w passed small.
     let so = i.under_way.truth (honest, w, passed) in
     let p = err_from_is_err_and c.from_residual.result c.from_residual.ensures.1 in
     rw (p.1, p.2)
-    (refused_counts c.args.flushing c.args.pinned.block c.steps.first old now new _ _ _ _ _ (honest, w, passed) small.moved
-    (due_few c.args.flushing (ram c.args.self.now) c.requires.unmarked) i.under_way (λ is. c.in_err-step.ensures.owed (ap (λ f. Err f) is))
+    (refused_counts c.args.flushing c.args.pinned.block c.steps.first old now new _ _ _ _ _ i.goes.geometry (honest, w, passed) (begins_small (ram c.args.self.now) c.args.pinned small)
+    (λ on. (c.requires.flushes on, due_few c.args.flushing (ram c.args.self.now) c.requires.unmarked)) i.under_way (λ is. c.in_err-step.ensures.owed (ap (λ f. Err f) is))
     c.in_err-step.ensures.cost
     (c.in_err-step.ensures.truth (i.acts.honest_is ∙ honest) so.same.truth (let n = so.none in rw i.goes.geometry n)))
 
@@ -235,8 +235,8 @@ returns-in_err-step-clause-thrifty g c = λ honest w passed small.
     let so = i.under_way.truth (honest, w, passed) in
     let p = err_from_is_err_and c.from_residual.result c.from_residual.ensures.1 in
     rw (p.1, p.2)
-    (λ ne. thrifty_refused c.args.flushing c.args.pinned.block c.steps.first old now new _ _ _ _ (honest, w, passed) small.moved
-    (due_few c.args.flushing (ram c.args.self.now) c.requires.unmarked) i.under_way c.in_err-step.ensures.cost
+    (λ ne. thrifty_refused c.args.flushing c.args.pinned.block c.steps.first old now new _ _ _ _ (honest, w, passed) (begins_small (ram c.args.self.now) c.args.pinned small)
+    (λ on. (c.requires.flushes on, due_few c.args.flushing (ram c.args.self.now) c.requires.unmarked)) i.under_way c.in_err-step.ensures.cost
     (undamaged _ _ _ _ _ (c.in_err-step.ensures.truth (i.acts.honest_is ∙ honest) so.same.truth (let n = so.none in rw i.goes.geometry n)))
     (λ e. ne (ap (λ f. Err f) e)))
 
@@ -250,7 +250,7 @@ returns-in_err-step-clause-few g c = λ honest w passed small.
     rw (p.1, p.2)
     (λ ne. few_left (ram c.args.self.now) now new c.args.pinned c.steps.first _ _ _ i.acts.safe.memory c.step_on.ensures.acts.safe.memory
     i.goes.geometry c.step_on.ensures.goes.geometry c.requires.half_done.within i.closed
-    (ap (λ m. length m.moved) c.in_err-step.ensures.unmoved) (c.in_err-step.ensures.next ∙ i.pinned) small so.same.truth _ so.copies_left
+    c.in_err-step.ensures.unmoved i.keys.limits.share (c.in_err-step.ensures.next ∙ i.pinned) small so.same.truth _ so.copies_left
     so.few (c.in_err-step.ensures.truth (i.acts.honest_is ∙ honest) so.same.truth (let n = so.none in rw i.goes.geometry n))
     (λ e. ne (ap (λ f. Err f) e)))
 
@@ -263,7 +263,7 @@ returns-in_err-step-clause-stops g c =
     let i = c.steps.invariant in
     let so = i.under_way.truth (honest, w, passed) in
     let before = i.stops honest w passed in
-    let sized : IsSized (ram c.args.self.now) (ram c.steps.self) = record { geometry = i.goes.geometry; capacity = i.keys.limits.capacity } in
+    let sized : IsSized (ram c.args.self.now) (ram c.steps.self) = record { geometry = i.goes.geometry; capacity = i.keys.limits.capacity; share = i.keys.limits.share } in
     let now = i.acts.honest_is ∙ honest in
     stops_then (ram c.args.self.now) (ram c.steps.self) _ _ _ _ _ _ sized so.same.array before (c.in_err-step.ensures.stops now so.same.truth (let n = so.none in rw i.goes.geometry n) (not_bus _ ne)))
 
@@ -272,7 +272,7 @@ returns-in_default-clause-stops g c = λ honest w passed ne.
     let i = c.steps.invariant in
     let so = i.under_way.truth (honest, w, passed) in
     let before = i.stops honest w passed in
-    let sized : IsSized (ram c.args.self.now) (ram c.steps.self) = record { geometry = i.goes.geometry; capacity = i.keys.limits.capacity } in
+    let sized : IsSized (ram c.args.self.now) (ram c.steps.self) = record { geometry = i.goes.geometry; capacity = i.keys.limits.capacity; share = i.keys.limits.share } in
     let now = i.acts.honest_is ∙ honest in
     stops_then (ram c.args.self.now) (ram c.steps.self) _ _ _ _ _ _ sized so.same.array before (c.in_ok-step.ensures.stops now so.same.truth (let n = so.none in rw i.goes.geometry n) (ok_not_bus _))
 
@@ -285,58 +285,6 @@ returns-in_err-step-clause-cut g c =
     let i = c.steps.invariant in
     let so = i.under_way.truth (honest, w, passed) in
     let before = i.stops honest w passed in
-    let sized : IsSized (ram c.args.self.now) (ram c.steps.self) = record { geometry = i.goes.geometry; capacity = i.keys.limits.capacity } in
+    let sized : IsSized (ram c.args.self.now) (ram c.steps.self) = record { geometry = i.goes.geometry; capacity = i.keys.limits.capacity; share = i.keys.limits.share } in
     let now = i.acts.honest_is ∙ honest in
     cut_after (ram c.args.self.now) (ram c.steps.self) _ _ _ _ _ sized so.same.array before (c.in_err-step.ensures.cut now so.same.truth (let n = so.none in rw i.goes.geometry n) (err_same _ _ is)))
-
-pub returns-in_default-clause-cut : goal.returns-in_default-clause-cut
-returns-in_default-clause-cut g c = λ _ _ _ h3. cc
-
-pub returns-in_err-step-clause-idle : goal.returns-in_err-step-clause-idle
-returns-in_err-step-clause-idle g c =
-    let p = err_from_is_err_and c.from_residual.result c.from_residual.ensures.1 in
-    rw p.1 (tt)
-
-pub returns-in_err-step-clause-unpinned : goal.returns-in_err-step-clause-unpinned
-returns-in_err-step-clause-unpinned g c =
-    let p = err_from_is_err_and c.from_residual.result c.from_residual.ensures.1 in
-    rw p.1 (tt)
-
-pub returns-in_err-step-clause-released : goal.returns-in_err-step-clause-released
-returns-in_err-step-clause-released g c =
-    let p = err_from_is_err_and c.from_residual.result c.from_residual.ensures.1 in
-    rw p.1 (tt)
-
-pub returns-in_err-step-clause-sparing : goal.returns-in_err-step-clause-sparing
-returns-in_err-step-clause-sparing g c =
-    let p = err_from_is_err_and c.from_residual.result c.from_residual.ensures.1 in
-    rw p.1 (λ _ _ _ _. tt)
-
-pub returns-in_err-step-clause-erases : goal.returns-in_err-step-clause-erases
-returns-in_err-step-clause-erases g c =
-    let p = err_from_is_err_and c.from_residual.result c.from_residual.ensures.1 in
-    rw p.1 (tt)
-
-pub returns-in_err-step-clause-less_work : goal.returns-in_err-step-clause-less_work
-returns-in_err-step-clause-less_work g c =
-    let p = err_from_is_err_and c.from_residual.result c.from_residual.ensures.1 in
-    rw p.1 (tt)
-
-pub returns-in_err-step-clause-goes : goal.returns-in_err-step-clause-goes
-returns-in_err-step-clause-goes g c = but_then c.args.pinned.block _ _ _ c.steps.invariant.goes c.step_on.ensures.goes
-
-pub returns-in_err-step-clause-keys : goal.returns-in_err-step-clause-keys
-returns-in_err-step-clause-keys g c = keys_then _ _ _ c.steps.invariant.keys c.step_on.ensures.keys
-
-pub returns-in_default-clause-keys : goal.returns-in_default-clause-keys
-returns-in_default-clause-keys g c = keys_then _ _ _ c.steps.invariant.keys c.step_on.ensures.keys
-
-pub returns-in_default-clause-idle : goal.returns-in_default-clause-idle
-returns-in_default-clause-idle g c =
-    let e = ends_erased _ c.in_ok-step.step (sym c.next_page-going_on.ensures ∙ none_from c.next_page-going_on.result c.in_default.not-Some) in
-    c.in_ok-step.ensures.idle (ap Ok e)
-
-pub returns-in_default-clause-unpinned : goal.returns-in_default-clause-unpinned
-returns-in_default-clause-unpinned g c =
-    let e = ends_erased _ c.in_ok-step.step (sym c.next_page-going_on.ensures ∙ none_from c.next_page-going_on.result c.in_default.not-Some) in
-    c.in_ok-step.ensures.next ∙ pin_erased c.args.pinned.block _ c.in_ok-step.step e

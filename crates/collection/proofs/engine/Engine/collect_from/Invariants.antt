@@ -1,10 +1,10 @@
-use Rattle.std.proofs.Common.{◌≡◌, ◌≤◌, ◌-◌, true, Some, None, Ok, length}
+use Rattle.std.proofs.Common.{◌≡◌, ◌+◌, ◌≤◌, ◌-◌, true, Some, None, Ok, length}
 use Rattle.allocation.specs.State.{is_closed}
 use Rattle.collection.specs.Safe.{ram, image_in}
 use Rattle.collection.specs.Truth.{IsTrue}
 use Rattle.collection.specs.Acts.{EngineActs}
 use Rattle.collection.specs.Results.{Goes}
-use Rattle.collection.specs.Collect.{KeepsKeys, Refreshes}
+use Rattle.collection.specs.Collect.{waiting, KeepsKeys, Refreshes}
 use Rattle.collection.specs.Left.{HasPassed}
 use Rattle.collection.specs.Whole.{HasRead, IsUnderWay}
 use Rattle.collection.specs.Stops.{IsLeftByStop, Stops}
@@ -18,7 +18,7 @@ invariant-steps g l = record {
   keys : KeepsKeys l.fn.self.mapping l.self.mapping;
   refreshes : l.flushing ≡ true → Refreshes (ram l.fn.self) (ram l.self);
   pinned : l.self.pinned ≡ Some (record { block = l.fn.pinned.block; first = l.first });
-  room : length l.self.mapping.moved ≤ l.first;
+  room : length l.self.mapping.moved ≤ waiting (ram l.self) + l.first;
   closed : is_closed (ram l.self).blocks l.fn.pinned.block ≡ true;
   reads : HasRead l.flushing l.fn.pinned.first l.first (ram l.fn.self) (ram l.self) (g.N.PageSource.view.reads l.fn.self.nand) (g.N.PageSource.view.reads l.self.nand);
   under_way : IsUnderWay l.flushing l.fn.pinned.block l.first (ram l.fn.self) (ram l.self)

@@ -4,7 +4,7 @@ use Rattle.page_layout.specs.Key.{key_of}
 use Rattle.budget.specs.Stream.{stream_of}
 use Rattle.collection.specs.Safe.{ram, page_in}
 use Rattle.collection.proofs.Copies.{may_copy, moved_out, renewed_by, renewed_marked, marked_at, last_marked, goes_marked, cost_marked, refreshes_marked, moved_marked}
-use Rattle.collection.proofs.Copies.{pin_marked, followed}
+use Rattle.collection.proofs.Copies.{pin_marked, followed, moves_one}
 use Rattle.collection.proofs.Lefts.{copied_touches}
 use Rattle.collection.proofs.Looks.{ok_not_bus}
 use Rattle.collection.proofs.Costs.{not_bus}
@@ -41,11 +41,20 @@ pub returns-clause-pinned : goal.returns-clause-pinned
 returns-clause-pinned g c = λ off. pin_marked c.args.flushing c.key.result 0 (ram c.args.self.now) (ram c.replace.new.self) _ c.mark.ensures.marked off ∙ c.replace.ensures.pin
 
 pub returns-clause-touched : goal.returns-clause-touched
-returns-clause-touched g c = λ honest w live. copied_touches c.args.flushing (key_of c.args.found.now) c.args.row c.in_ok-replace.field-0
-    (ram c.args.self.now) _ _ c.requires.safe.memory c.requires.key live.newest
-    (followed c.args.flushing (key_of c.args.found.now) c.in_ok-replace.field-0 (ram c.args.self.now) (ram c.replace.new.self) _
-    (marked_at c.args.flushing (key_of c.args.found.now) c.key.result (ram c.replace.new.self) _ c.key.ensures c.mark.ensures.marked)
-    c.replace.ensures.goes.geometry c.replace.ensures.pin c.in_ok-replace.ensures.mapping)
+returns-clause-touched g c = λ honest w shut live.
+    let r = ram c.args.self.now in
+    let b = ram c.replace.new.self in
+    let old = (g.N.PageSource.view.flash c.args.self.now.nand).image in
+    let new = (g.N.PageSource.view.flash c.replace.new.self.nand).image in
+    let replaced = c.in_ok-replace.ensures.truth honest (may_copy r _ c.args.row c.args.found.now _ w c.requires.key live) in
+    let moved = moved_out r b old new c.args.row c.in_ok-replace.field-0 c.args.found.now c.args.self.now.page.body.items c.requires.safe.memory
+    c.replace.ensures.acts.safe.memory c.replace.ensures.goes.geometry w live c.requires.key c.requires.row shut c.in_ok-replace.ensures.row
+    replaced in
+    let follows = followed c.args.flushing (key_of c.args.found.now) c.in_ok-replace.field-0 r b _
+    (marked_at c.args.flushing (key_of c.args.found.now) c.key.result b _ c.key.ensures c.mark.ensures.marked)
+    c.replace.ensures.goes.geometry c.replace.ensures.pin c.in_ok-replace.ensures.mapping in
+    rw c.mark.ensures.nand (copied_touches c.args.flushing (key_of c.args.found.now) c.args.row c.in_ok-replace.field-0 r _ old new
+    c.requires.safe.memory c.requires.key live.newest follows shut moved.same.leaves moved.gone (moves_one (key_of c.args.found.now) c.in_ok-replace.field-0 _ _ follows.mapping))
 
 pub returns-clause-programmed : goal.returns-clause-programmed
 returns-clause-programmed g c = last_marked c.args.found.now.kind c.args.found.now.number (ram c.replace.new.self) _ _ _ (ap (λ r. r.next) c.mark.ensures.marked) (ap page_in c.mark.ensures.page) c.in_ok-replace.ensures.programmed

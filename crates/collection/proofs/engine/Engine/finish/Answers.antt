@@ -16,23 +16,22 @@ returns-in-Some-clause-makes g c =
     let new = ram c.collect_from.new.self in
     let half = calm_half old p c.requires.calm c.in-Some.is in
     let e = c.collect_from.ensures in
-    let most : c.blocks-wanted.result ≡ 9 = c.blocks-wanted.ensures in
-    let scarce : free_count old.blocks < 9 = omega (arith, most, c.if-free-wanted.true, c.free.ensures) in
+    let scarce : free_count old.blocks < c.args.many = omega (arith, c.if-free-many.true, c.free.ensures) in
     record {
       calm = calm_ok new c.collect_from.result e.idle e.unpinned;
       goes = on_then p.block old old new (on_same old) e.goes half.closed;
       keys = e.keys;
       refreshes = e.refreshes;
-      collects = finished_collects c.args.flushing p old new c.collect_from.result c.in-Some.is scarce e.cost;
+      collects = finished_collects c.args.many c.args.flushing p old new c.collect_from.result c.in-Some.is scarce e.cost;
       works = finished_erases g.N.PageSource.view.erases c.args.self.now c.collect_from.new.self c.collect_from.result e.erases e.unpinned;
-      rests = λ nine. absurd (omega (arith, nine, scarce));
+      rests = λ enough. absurd (omega (arith, enough, scarce));
       tells = finished_tells c.args.flushing p.block old new c.collect_from.result e.cost;
       truth = λ honest w passed. finished_truth p.block old new _ _ c.collect_from.result c.requires.safe.memory e.acts.safe.memory e.goes.geometry w (e.truth honest w (passed p c.in-Some.is));
       few = λ honest w passed few ne. e.few honest w (passed p c.in-Some.is) (few p c.in-Some.is) ne;
     }
 
 pub returns-in-Some-clause-count : goal.returns-in-Some-clause-count
-returns-in-Some-clause-count g c = λ honest w passed few failures funded. finished_counts failures (ram c.args.self.now) (ram c.collect_from.new.self)
+returns-in-Some-clause-count g c = λ honest w passed few failures funded. finished_counts c.args.many failures (ram c.args.self.now) (ram c.collect_from.new.self)
     c.collect_from.result c.requires.safe.memory funded
     (c.collect_from.ensures.count honest w (passed c.in-Some.pinned c.in-Some.is) (few c.in-Some.pinned c.in-Some.is))
 
@@ -40,13 +39,13 @@ pub returns-in_default-clause-acts : goal.returns-in_default-clause-acts
 returns-in_default-clause-acts g c = acts_same c.args.self.now c.requires.safe
 
 pub returns-in_default-clause-makes : goal.returns-in_default-clause-makes
-returns-in_default-clause-makes g c = nothing_made c.args.flushing c.args.self.now c.requires.calm
+returns-in_default-clause-makes g c = nothing_made c.args.many c.args.flushing c.args.self.now c.requires.calm
 
 pub returns-in_default-2-clause-acts : goal.returns-in_default-2-clause-acts
 returns-in_default-2-clause-acts g c = acts_same c.args.self.now c.requires.safe
 
 pub returns-in_default-2-clause-makes : goal.returns-in_default-2-clause-makes
-returns-in_default-2-clause-makes g c = nothing_made c.args.flushing c.args.self.now c.requires.calm
+returns-in_default-2-clause-makes g c = nothing_made c.args.many c.args.flushing c.args.self.now c.requires.calm
 
 -- ---- what a stop leaves
 

@@ -9,13 +9,13 @@ pub returns-clause-stands : goal.returns-clause-stands
 returns-clause-stands g c = rw (c.noted.ensures.same, c.noted.ensures.noted) (acts_noted _ _ _ (not_standing _ _ c.in_ok-standing.ensures) c.regain-answer.ensures.acts)
 
 pub returns-clause-makes : goal.returns-clause-makes
-returns-clause-makes g c = λ none. rw (c.noted.ensures.same, c.noted.ensures.noted) (makes_noted c.args.flushing c.args.self.now c.regain-answer.new.self c.regain-answer.result c.regain-answer.ensures.makes)
+returns-clause-makes g c = λ none. rw (c.noted.ensures.same, c.noted.ensures.noted, ← c.wanted.ensures) (makes_noted c.wanted.result c.args.flushing c.args.self.now c.regain-answer.new.self c.regain-answer.result c.regain-answer.ensures.makes)
 
 pub returns-clause-room : goal.returns-clause-room
-returns-clause-room g c = rw (c.noted.ensures.same, c.noted.ensures.noted) (room_noted _ (ram c.regain-answer.new.self) c.regain-answer.result c.regain-answer.ensures.room)
+returns-clause-room g c = rw (c.noted.ensures.same, c.noted.ensures.noted, ← c.wanted.ensures) (room_noted _ _ (ram c.regain-answer.new.self) c.regain-answer.result c.regain-answer.ensures.room)
 
 pub returns-clause-count : goal.returns-clause-count
-returns-clause-count g c = λ honest none w passed few failures enough. rw (c.noted.ensures.same, c.noted.ensures.noted) (counts_noted _ failures _ (ram c.regain-answer.new.self) c.regain-answer.result (c.regain-answer.ensures.count honest w passed few failures enough))
+returns-clause-count g c = λ honest none w passed few failures enough. rw (c.noted.ensures.same, c.noted.ensures.noted, ← c.wanted.ensures) (counts_noted _ _ failures _ (ram c.regain-answer.new.self) c.regain-answer.result (c.regain-answer.ensures.count honest w passed few failures enough))
 
 -- ---- what a stop leaves
 

@@ -1,5 +1,6 @@
 use Rattle.std.proofs.lemmas.Result.{err_from_is_err_and}
-use Rattle.std.proofs.Common.{rules}
+use Rattle.std.proofs.Common.{rules, ap, ◌∙◌}
+use Rattle.collection.specs.Pages.{newest_row}
 use Rattle.collection.specs.Safe.{ram, image_in}
 use Rattle.collection.specs.Stops.{IsKeptOrPut}
 use Rattle.collection.proofs.HalfPuts.{cut_bytes}
@@ -25,13 +26,13 @@ returns-clause-truth g c = λ honest none w fits.
 -- ---- what a stop leaves
 
 pub returns-clause-stops : goal.returns-clause-stops
-returns-clause-stops g c = λ honest none w fits. rw (c.noted.ensures.same, c.noted.ensures.noted) (λ ne. c.put_page-answer.ensures.stops honest (search rules) ne)
+returns-clause-stops g c = λ honest none w fits. rw (c.noted.ensures.same, c.noted.ensures.noted) (λ ne. c.put_page-answer.ensures.stops honest (record { truth = w; page_for = search rules; old_row_is = search rules }) ne)
 
 -- ---- what a fault of the die leaves
 
 pub returns-clause-cut : goal.returns-clause-cut
 returns-clause-cut g c = λ honest none w fits. rw (c.noted.ensures.same, c.noted.ensures.noted) (λ e.
-    cut_bytes (λ bytes. IsKeptOrPut c.args.written.now.kind c.args.written.now.number bytes c.args.self.now.geometry (image_in g.N.PageSource.view.flash c.args.self.now)) _ _ _ _ _ c.copy_from_slice.ensures.items (c.put_page-answer.ensures.cut honest (search rules) e))
+    cut_bytes (λ bytes. IsKeptOrPut c.args.written.now.kind c.args.written.now.number bytes c.args.self.now.geometry (image_in g.N.PageSource.view.flash c.args.self.now)) _ _ _ _ _ c.copy_from_slice.ensures.items (c.put_page-answer.ensures.cut honest (record { truth = w; page_for = search rules; old_row_is = c.row_of_key-old_row.ensures.newest _ w ∙ ap (newest_row (image_in g.N.PageSource.view.flash c.args.self.now)) c.key.ensures }) e))
 
 -- ---- a fault stands
 

@@ -20,11 +20,11 @@ rounds-init g c = record {
   stops = λ honest w passed. c.in_ok-finish.ensures.stops honest w passed (ok_not_bus _);
 }
 
--- with fewer than nine free blocks none is pinned
+-- with fewer free blocks than are wanted none is pinned
 pub collect_block-requires-clause-idle : goal.collect_block-requires-clause-idle
 collect_block-requires-clause-idle g c =
-    let worth = made_some (ram c.rounds.self) c.worth-worth.result c.in-Some.block c.worth-worth.ensures c.in-Some.is in
-    calm_idle (ram c.rounds.self) c.rounds.invariant.makes.calm c.rounds.invariant.unpinned worth.scarce
+    let worth = made_some c.args.many (ram c.rounds.self) c.worth_below-worth.result c.in-Some.block c.worth_below-worth.ensures c.in-Some.is in
+    calm_idle c.args.many (ram c.rounds.self) c.rounds.invariant.makes.calm c.rounds.invariant.unpinned worth.scarce
 
 pub rounds-preserved : goal.rounds-preserved
 rounds-preserved g c =
@@ -35,7 +35,7 @@ rounds-preserved g c =
     let old = ram c.args.self.now in
     let now = ram c.rounds.self in
     let new = ram c.collect_block.new.self in
-    let worth = made_some now c.worth-worth.result c.in-Some.block c.worth-worth.ensures c.in-Some.is in
+    let worth = made_some c.args.many now c.worth_below-worth.result c.in-Some.block c.worth_below-worth.ensures c.in-Some.is in
     record {
       acts = acts_then _ _ _ tt _ m.goes.geometry i.acts (acts_ok _ _ _ _ done.acts);
       makes = record {
@@ -43,9 +43,9 @@ rounds-preserved g c =
         goes = on_then c.in-Some.block old now new m.goes e.goes worth.victim.closed;
         keys = keys_then _ _ _ m.keys e.keys;
         refreshes = λ on. refreshes_then old now new m.goes.geometry (m.refreshes on) (e.refreshes on);
-        collects = collects_more c.args.flushing c.in-Some.block old now new m.collects (unpinned_now now i.unpinned worth.scarce) worth done.cost;
+        collects = collects_more c.args.many c.args.flushing c.in-Some.block old now new m.collects (unpinned_now c.args.many now i.unpinned worth.scarce) worth done.cost;
         works = erased_more g.N.PageSource.view.erases _ _ _ m.works done.erases done.unpinned;
-        rests = λ nine. absurd (not_resting c.args.flushing c.args.self.now c.rounds.self m worth.scarce nine);
+        rests = λ enough. absurd (not_resting c.args.many c.args.flushing c.args.self.now c.rounds.self m worth.scarce enough);
         tells = tt;
         truth = λ honest w passed.
             let k = m.truth honest w passed in
@@ -56,17 +56,17 @@ rounds-preserved g c =
       count = λ honest w passed few failures enough. funded_then failures old now new m.goes.geometry (i.count honest w passed few failures enough) (done.count (i.acts.honest_is ∙ honest) (m.truth honest w passed).truth worth.small);
       stops = λ honest w passed.
           let k = m.truth honest w passed in
-          stops_then old now _ _ _ _ _ _ (record { geometry = m.goes.geometry; capacity = m.keys.limits.capacity }) k.array (i.stops honest w passed) (done.stops (i.acts.honest_is ∙ honest) k.truth (ok_not_bus _));
+          stops_then old now _ _ _ _ _ _ (record { geometry = m.goes.geometry; capacity = m.keys.limits.capacity; share = m.keys.limits.share }) k.array (i.stops honest w passed) (done.stops (i.acts.honest_is ∙ honest) k.truth (ok_not_bus _));
     }
 
 pub returns-in_default-clause-makes : goal.returns-in_default-clause-makes
-returns-in_default-clause-makes g c = enough_made c.args.flushing c.args.self.now c.rounds.self c.enough.result c.enough.ensures.err c.rounds.invariant.makes
+returns-in_default-clause-makes g c = enough_made c.args.many c.args.flushing c.requires.least c.args.self.now c.rounds.self c.enough.result c.enough.ensures.err c.rounds.invariant.makes
 
 pub returns-in_default-clause-count : goal.returns-in_default-clause-count
 returns-in_default-clause-count g c = λ honest w passed few failures enough.
     let i = c.rounds.invariant in
-    let made = made_none (ram c.rounds.self) c.worth-worth.result c.worth-worth.ensures (none_from c.worth-worth.result c.in_default.not-Some) in
-    final_counts failures (ram c.args.self.now) (ram c.rounds.self) _ c.enough.result (i.makes.truth honest w passed).truth i.makes.goes.geometry made (i.count honest w passed few failures enough) c.enough.ensures.err
+    let made = made_none c.args.many (ram c.rounds.self) c.worth_below-worth.result c.worth_below-worth.ensures (none_from c.worth_below-worth.result c.in_default.not-Some) in
+    final_counts c.args.many failures (ram c.args.self.now) (ram c.rounds.self) _ c.enough.result c.requires.least (i.makes.truth honest w passed).truth i.makes.goes.geometry i.makes.keys.limits.share made (i.count honest w passed few failures enough) c.enough.ensures.err
 
 -- ---- a collection was refused
 
@@ -89,7 +89,7 @@ returns-in_err-collect_block-clause-makes g c =
     let old = ram c.args.self.now in
     let now = ram c.rounds.self in
     let new = ram c.collect_block.new.self in
-    let worth = made_some now c.worth-worth.result c.in-Some.block c.worth-worth.ensures c.in-Some.is in
+    let worth = made_some c.args.many now c.worth_below-worth.result c.in-Some.block c.worth_below-worth.ensures c.in-Some.is in
     rw (p.1, p.2) (record {
       calm = tt;
       goes = on_then c.in-Some.block old now new m.goes e.goes worth.victim.closed;
@@ -97,7 +97,7 @@ returns-in_err-collect_block-clause-makes g c =
       refreshes = λ on. refreshes_then old now new m.goes.geometry (m.refreshes on) (e.refreshes on);
       works = tt;
       collects = tt;
-      rests = λ nine. absurd (not_resting c.args.flushing c.args.self.now c.rounds.self m worth.scarce nine);
+      rests = λ enough. absurd (not_resting c.args.many c.args.flushing c.args.self.now c.rounds.self m worth.scarce enough);
       tells = room_tells c.args.flushing c.in-Some.block now new _ e.cost;
       truth = λ honest w passed.
           let k = m.truth honest w passed in
@@ -108,10 +108,10 @@ returns-in_err-collect_block-clause-makes g c =
 pub returns-in_err-collect_block-clause-count : goal.returns-in_err-collect_block-clause-count
 returns-in_err-collect_block-clause-count g c = λ honest w passed few failures enough.
     let i = c.rounds.invariant in
-    let worth = made_some (ram c.rounds.self) c.worth-worth.result c.in-Some.block c.worth-worth.ensures c.in-Some.is in
+    let worth = made_some c.args.many (ram c.rounds.self) c.worth_below-worth.result c.in-Some.block c.worth_below-worth.ensures c.in-Some.is in
     let p = err_from_is_err_and c.from_residual-in_err-collect_block.result c.from_residual-in_err-collect_block.ensures.1 in
     rw (p.1, p.2)
-    (refused_room failures (ram c.args.self.now) (ram c.rounds.self) (ram c.collect_block.new.self) _ i.acts.safe.memory i.makes.goes.geometry
+    (refused_room c.args.many failures (ram c.args.self.now) (ram c.rounds.self) (ram c.collect_block.new.self) _ i.acts.safe.memory i.makes.goes.geometry
     (i.count honest w passed few failures enough)
     (c.in_err-collect_block.ensures.count (i.acts.honest_is ∙ honest) (i.makes.truth honest w passed).truth worth.small))
 
@@ -131,7 +131,7 @@ returns-in_err-collect_block-clause-stops g c =
     rw (p.1, p.2) (λ honest w passed ne.
     let i = c.rounds.invariant in
     let k = i.makes.truth honest w passed in
-    stops_then (ram c.args.self.now) (ram c.rounds.self) _ _ _ _ _ _ (record { geometry = i.makes.goes.geometry; capacity = i.makes.keys.limits.capacity }) k.array (i.stops honest w passed) (c.in_err-collect_block.ensures.stops (i.acts.honest_is ∙ honest) k.truth ne))
+    stops_then (ram c.args.self.now) (ram c.rounds.self) _ _ _ _ _ _ (record { geometry = i.makes.goes.geometry; capacity = i.makes.keys.limits.capacity; share = i.makes.keys.limits.share }) k.array (i.stops honest w passed) (c.in_err-collect_block.ensures.stops (i.acts.honest_is ∙ honest) k.truth ne))
 
 -- ---- what a fault of the die leaves
 
@@ -146,4 +146,4 @@ returns-in_err-collect_block-clause-cut g c =
     rw (p.1, p.2) (λ honest w passed is.
     let i = c.rounds.invariant in
     let k = i.makes.truth honest w passed in
-    cut_after (ram c.args.self.now) (ram c.rounds.self) _ _ _ _ _ (record { geometry = i.makes.goes.geometry; capacity = i.makes.keys.limits.capacity }) k.array (i.stops honest w passed) (c.in_err-collect_block.ensures.cut (i.acts.honest_is ∙ honest) k.truth is))
+    cut_after (ram c.args.self.now) (ram c.rounds.self) _ _ _ _ _ (record { geometry = i.makes.goes.geometry; capacity = i.makes.keys.limits.capacity; share = i.makes.keys.limits.share }) k.array (i.stops honest w passed) (c.in_err-collect_block.ensures.cut (i.acts.honest_is ∙ honest) k.truth is))

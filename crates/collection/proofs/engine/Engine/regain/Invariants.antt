@@ -14,8 +14,8 @@ use Rattle.collection.proofs.engine.Engine.regain.Given as goal
 abbrev pub invariant-rounds : goal.invariant-rounds
 invariant-rounds g l = record {
   acts : EngineActs {A = Unit {0}} g.N.PageSource.view l.fn.self l.self (Ok tt);
-  makes : MakesRoom g.N.PageSource.view l.flushing l.fn.self l.self (Ok tt);
-  unpinned : (9 ≤ free_count (ram l.self).blocks) ⊎ (l.self.pinned ≡ None);
+  makes : MakesRoom g.N.PageSource.view l.many l.flushing l.fn.self l.self (Ok tt);
+  unpinned : (l.many ≤ free_count (ram l.self).blocks) ⊎ (l.self.pinned ≡ None);
   count : g.N.PageSource.view.honest l.fn.self.nand ≡ true → IsTrue None (ram l.fn.self) (image_in g.N.PageSource.view.flash l.fn.self)
       → PinHasPassed (ram l.fn.self) (image_in g.N.PageSource.view.flash l.fn.self) → PinIsFew 0 (ram l.fn.self) → (failures : ℕ)
       → IsFunded l.fn.self.geometry.pages failures (counts_of (ram l.fn.self).blocks) → IsFundedOn failures (ram l.fn.self) (ram l.self);

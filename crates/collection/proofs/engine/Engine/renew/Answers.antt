@@ -1,4 +1,4 @@
-use Rattle.std.proofs.Common.{◌∙◌, length, refl, ap, sym, subst, arith}
+use Rattle.std.proofs.Common.{◌∙◌, ◌<◌, ◌+◌, length, refl, ap, sym, subst, arith}
 use Rattle.std.proofs.lemmas.Result.{err_from_is_err_and}
 use Rattle.std.specs.Map.{keys_of}
 use Rattle.collection.specs.declared.fault.EngineFault.TheVariants.{Damaged}
@@ -18,6 +18,8 @@ use Rattle.collection.proofs.Stops.{same_left, leaves_still, stops_looked, stops
 use Rattle.collection.proofs.Costs.{not_bus}
 use Rattle.collection.proofs.Cuts.{cut_read, cut_looking, cut_after}
 use Rattle.collection.proofs.Steps.{err_same}
+use Rattle.collection.specs.Collect.{waiting}
+use Rattle.collection.proofs.Memory.{moved_places}
 use Rattle.collection.proofs.engine.Engine.renew.Goals as goal
 
 -- ---- the copy
@@ -30,9 +32,10 @@ copy_page-requires-clause-row g c = rw (ap (λ r. r.geometry) c.due_record.ensur
 
 pub copy_page-requires-clause-room : goal.copy_page-requires-clause-room
 copy_page-requires-clause-room g c =
-    let moved = ap (λ r. length r.mapping.moved) c.due_record.ensures.looks.memory in
-    let pages = ap (λ r. r.geometry.pages) c.due_record.ensures.looks.memory in
-    omega (arith, moved, pages, c.if-moved_count-pages.false, c.moved_count.ensures, c.pages.ensures)
+    let place = c.has_place.ensures.0 c.if-not-has_place.false in
+    let places = moved_places (ram c.args.self.now) c.requires.safe.memory in
+    let room : length (ram c.args.self.now).mapping.moved < waiting (ram c.args.self.now) + (ram c.args.self.now).geometry.pages = omega arith in
+    subst (λ r. length r.mapping.moved < waiting r + r.geometry.pages) (sym c.due_record.ensures.looks.memory) room
 
 -- ---- the look was refused, or found none
 
@@ -181,7 +184,7 @@ returns-in_err-follow_moved-clause-stops g c =
     let y = (g.N.PageSource.view.flash c.copy_page.new.self.nand).image in
     let copied = stops_looked a b _ _ _ _ _ _ looks.memory still (looks.told honest (ok_not_bus _)) (c.in_ok-copy_page.ensures.stops now known.0 known.1 (ok_not_bus _)) in
     let m = renewed_as a b _ _ c.args.row c.in-Some.found _ c.in_ok-due.due looks.memory (ap (λ f. f.image) still) w finds c.in-Some.is (λ r i. IsRenewed (key_of c.in-Some.found) r i n y) (c.in_ok-copy_page.ensures.renews now) in
-    let sized : IsSized a n = record { geometry = c.copy_page.ensures.goes.geometry ∙ ap (λ r. r.geometry) looks.memory; capacity = c.copy_page.ensures.keys.limits.capacity ∙ ap (λ r. r.mapping.capacity) looks.memory } in
+    let sized : IsSized a n = record { geometry = c.copy_page.ensures.goes.geometry ∙ ap (λ r. r.geometry) looks.memory; capacity = c.copy_page.ensures.keys.limits.capacity ∙ ap (λ r. r.mapping.capacity) looks.memory; share = c.copy_page.ensures.keys.limits.share ∙ ap (λ r. r.mapping.share) looks.memory } in
     stops_then a n _ _ _ _ _ _ sized m.same.array copied (c.in_err-follow_moved.ensures.stops (c.copy_page.ensures.acts.honest_is ∙ now) m.same.truth (not_bus _ ne)))
 
 pub returns-clause-stops : goal.returns-clause-stops
@@ -197,14 +200,14 @@ returns-clause-stops g c = λ honest w ne.
     let y = (g.N.PageSource.view.flash c.copy_page.new.self.nand).image in
     let copied = stops_looked a b _ _ _ _ _ _ looks.memory still (looks.told honest (ok_not_bus _)) (c.in_ok-copy_page.ensures.stops now known.0 known.1 (ok_not_bus _)) in
     let m = renewed_as a b _ _ c.args.row c.in-Some.found _ c.in_ok-due.due looks.memory (ap (λ f. f.image) still) w finds c.in-Some.is (λ r i. IsRenewed (key_of c.in-Some.found) r i n y) (c.in_ok-copy_page.ensures.renews now) in
-    let sized : IsSized a n = record { geometry = c.copy_page.ensures.goes.geometry ∙ ap (λ r. r.geometry) looks.memory; capacity = c.copy_page.ensures.keys.limits.capacity ∙ ap (λ r. r.mapping.capacity) looks.memory } in
+    let sized : IsSized a n = record { geometry = c.copy_page.ensures.goes.geometry ∙ ap (λ r. r.geometry) looks.memory; capacity = c.copy_page.ensures.keys.limits.capacity ∙ ap (λ r. r.mapping.capacity) looks.memory; share = c.copy_page.ensures.keys.limits.share ∙ ap (λ r. r.mapping.share) looks.memory } in
     stops_then a n _ _ _ _ _ _ sized m.same.array copied (c.in_ok-follow_moved.ensures.stops (c.copy_page.ensures.acts.honest_is ∙ now) m.same.truth (ok_not_bus _))
 
-pub returns-then-moved_count-pages-clause-stops : goal.returns-then-moved_count-pages-clause-stops
-returns-then-moved_count-pages-clause-stops g c = λ honest w ne. leaves_nothing _ _ _ (same_left (ram c.args.self.now) _ _ c.requires.safe.memory w)
+pub returns-then-not-has_place-clause-stops : goal.returns-then-not-has_place-clause-stops
+returns-then-not-has_place-clause-stops g c = λ honest w ne. leaves_nothing _ _ _ (same_left (ram c.args.self.now) _ _ c.requires.safe.memory w)
 
-pub returns-then-moved_count-pages-clause-acts : goal.returns-then-moved_count-pages-clause-acts
-returns-then-moved_count-pages-clause-acts g c = acts_end _ _ tt Damaged (λ e. (let no : ⊥ = cc in no)) (acts_same c.args.self.now c.requires.safe)
+pub returns-then-not-has_place-clause-acts : goal.returns-then-not-has_place-clause-acts
+returns-then-not-has_place-clause-acts g c = acts_end _ _ tt Damaged (λ e. (let no : ⊥ = cc in no)) (acts_same c.args.self.now c.requires.safe)
 
 -- ---- what a fault of the die leaves
 
@@ -241,5 +244,5 @@ returns-in_err-follow_moved-clause-cut g c =
     let y = (g.N.PageSource.view.flash c.copy_page.new.self.nand).image in
     let copied = stops_looked a b _ _ _ _ _ _ looks.memory still (looks.told honest (ok_not_bus _)) (c.in_ok-copy_page.ensures.stops now known.0 known.1 (ok_not_bus _)) in
     let m = renewed_as a b _ _ c.args.row c.in-Some.found _ c.in_ok-due.due looks.memory (ap (λ f. f.image) still) w finds c.in-Some.is (λ r i. IsRenewed (key_of c.in-Some.found) r i n y) (c.in_ok-copy_page.ensures.renews now) in
-    let sized : IsSized a n = record { geometry = c.copy_page.ensures.goes.geometry ∙ ap (λ r. r.geometry) looks.memory; capacity = c.copy_page.ensures.keys.limits.capacity ∙ ap (λ r. r.mapping.capacity) looks.memory } in
+    let sized : IsSized a n = record { geometry = c.copy_page.ensures.goes.geometry ∙ ap (λ r. r.geometry) looks.memory; capacity = c.copy_page.ensures.keys.limits.capacity ∙ ap (λ r. r.mapping.capacity) looks.memory; share = c.copy_page.ensures.keys.limits.share ∙ ap (λ r. r.mapping.share) looks.memory } in
     cut_after a n _ _ _ _ _ sized m.same.array copied (c.in_err-follow_moved.ensures.cut (c.copy_page.ensures.acts.honest_is ∙ now) m.same.truth (err_same _ _ is)))

@@ -1,5 +1,4 @@
-use Rattle.collection.proofs.Copies.{keys_same}
-use Rattle.std.proofs.Common.{rules, ◌∙◌, length, refl, ap, sym, subst, arith}
+use Rattle.std.proofs.Common.{◌∙◌, ◌<◌, ◌+◌, length, refl, ap, sym, subst, arith}
 use Rattle.std.proofs.lemmas.Result.{err_from_is_err_and}
 use Rattle.std.specs.Map.{keys_of}
 use Rattle.collection.specs.Safe.{ram}
@@ -8,7 +7,7 @@ use Rattle.page_layout.specs.Live.{IsKeyOf}
 use Rattle.collection.specs.Collect.{IsMovedOut}
 use Rattle.collection.proofs.Acts.{acts_then, acts_ok, acts_err, looked, acts_same, acts_end}
 use Rattle.collection.proofs.Looks.{none_from, ok_not_bus}
-use Rattle.collection.proofs.Memory.{goes_same, goes_then}
+use Rattle.collection.proofs.Memory.{goes_then}
 use Rattle.collection.proofs.Puts.{refused_then}
 use Rattle.collection.proofs.Rescues.{ailing_known, copied_as, rescued, rescued_beside, none_rescued, goes_from, rescued_cost, uncopied_cost, unfollowed_cost, unread_rescue, unread_refused}
 use Rattle.collection.specs.Collect.{IsFollowedBy}
@@ -18,6 +17,8 @@ use Rattle.collection.proofs.Costs.{not_bus}
 use Rattle.collection.specs.declared.fault.EngineFault.TheVariants.{Damaged}
 use Rattle.collection.proofs.Cuts.{cut_read, cut_looking, cut_after}
 use Rattle.collection.proofs.Steps.{err_same}
+use Rattle.collection.specs.Collect.{waiting}
+use Rattle.collection.proofs.Memory.{moved_places}
 use Rattle.collection.proofs.engine.Engine.rescue.Goals as goal
 
 -- ---- the copy
@@ -30,9 +31,10 @@ copy_page-requires-clause-row g c = rw (ap (λ r. r.geometry) c.first_ailing.ens
 
 pub copy_page-requires-clause-room : goal.copy_page-requires-clause-room
 copy_page-requires-clause-room g c =
-    let moved = ap (λ r. length r.mapping.moved) c.first_ailing.ensures.looks.memory in
-    let pages = ap (λ r. r.geometry.pages) c.first_ailing.ensures.looks.memory in
-    omega (arith, moved, pages, c.if-moved_count-pages.false, c.moved_count.ensures, c.pages.ensures)
+    let place = c.has_place.ensures.0 c.if-not-has_place.false in
+    let places = moved_places (ram c.args.self.now) c.requires.safe.memory in
+    let room : length (ram c.args.self.now).mapping.moved < waiting (ram c.args.self.now) + (ram c.args.self.now).geometry.pages = omega arith in
+    subst (λ r. length r.mapping.moved < waiting r + r.geometry.pages) (sym c.first_ailing.ensures.looks.memory) room
 
 -- ---- the look was refused, or found none
 
@@ -186,7 +188,7 @@ returns-in_err-follow_moved-clause-stops g c =
     let y = (g.N.PageSource.view.flash c.copy_page.new.self.nand).image in
     let copied = stops_looked a b _ _ _ _ _ _ looks.memory still (looks.told honest (ok_not_bus _)) (c.in_ok-copy_page.ensures.stops now known.0 known.1 (ok_not_bus _)) in
     let m = copied_as a b _ _ c.in-Some.row c.in-Some.found _ c.in_ok-ailing.ailing c.requires.safe.memory looks.memory (ap (λ f. f.image) still) w finds c.in-Some.is (λ r i. IsMovedOut c.in-Some.row r i n y) (c.in_ok-copy_page.ensures.truth now) in
-    let sized : IsSized a n = record { geometry = c.copy_page.ensures.goes.geometry ∙ ap (λ r. r.geometry) looks.memory; capacity = c.copy_page.ensures.keys.limits.capacity ∙ ap (λ r. r.mapping.capacity) looks.memory } in
+    let sized : IsSized a n = record { geometry = c.copy_page.ensures.goes.geometry ∙ ap (λ r. r.geometry) looks.memory; capacity = c.copy_page.ensures.keys.limits.capacity ∙ ap (λ r. r.mapping.capacity) looks.memory; share = c.copy_page.ensures.keys.limits.share ∙ ap (λ r. r.mapping.share) looks.memory } in
     stops_then a n _ _ _ _ _ _ sized m.same.array copied (c.in_err-follow_moved.ensures.stops (c.copy_page.ensures.acts.honest_is ∙ now) m.same.truth (not_bus _ ne)))
 
 pub returns-clause-stops : goal.returns-clause-stops
@@ -202,14 +204,14 @@ returns-clause-stops g c = λ honest w ne.
     let y = (g.N.PageSource.view.flash c.copy_page.new.self.nand).image in
     let copied = stops_looked a b _ _ _ _ _ _ looks.memory still (looks.told honest (ok_not_bus _)) (c.in_ok-copy_page.ensures.stops now known.0 known.1 (ok_not_bus _)) in
     let m = copied_as a b _ _ c.in-Some.row c.in-Some.found _ c.in_ok-ailing.ailing c.requires.safe.memory looks.memory (ap (λ f. f.image) still) w finds c.in-Some.is (λ r i. IsMovedOut c.in-Some.row r i n y) (c.in_ok-copy_page.ensures.truth now) in
-    let sized : IsSized a n = record { geometry = c.copy_page.ensures.goes.geometry ∙ ap (λ r. r.geometry) looks.memory; capacity = c.copy_page.ensures.keys.limits.capacity ∙ ap (λ r. r.mapping.capacity) looks.memory } in
+    let sized : IsSized a n = record { geometry = c.copy_page.ensures.goes.geometry ∙ ap (λ r. r.geometry) looks.memory; capacity = c.copy_page.ensures.keys.limits.capacity ∙ ap (λ r. r.mapping.capacity) looks.memory; share = c.copy_page.ensures.keys.limits.share ∙ ap (λ r. r.mapping.share) looks.memory } in
     stops_then a n _ _ _ _ _ _ sized m.same.array copied (c.in_ok-follow_moved.ensures.stops (c.copy_page.ensures.acts.honest_is ∙ now) m.same.truth (ok_not_bus _))
 
-pub returns-then-moved_count-pages-clause-stops : goal.returns-then-moved_count-pages-clause-stops
-returns-then-moved_count-pages-clause-stops g c = λ honest w ne. leaves_nothing _ _ _ (same_left (ram c.args.self.now) _ _ c.requires.safe.memory w)
+pub returns-then-not-has_place-clause-stops : goal.returns-then-not-has_place-clause-stops
+returns-then-not-has_place-clause-stops g c = λ honest w ne. leaves_nothing _ _ _ (same_left (ram c.args.self.now) _ _ c.requires.safe.memory w)
 
-pub returns-then-moved_count-pages-clause-acts : goal.returns-then-moved_count-pages-clause-acts
-returns-then-moved_count-pages-clause-acts g c = acts_end _ _ tt Damaged (λ e. (let no : ⊥ = cc in no)) (acts_same c.args.self.now c.requires.safe)
+pub returns-then-not-has_place-clause-acts : goal.returns-then-not-has_place-clause-acts
+returns-then-not-has_place-clause-acts g c = acts_end _ _ tt Damaged (λ e. (let no : ⊥ = cc in no)) (acts_same c.args.self.now c.requires.safe)
 
 -- ---- what a fault of the die leaves
 
@@ -246,146 +248,5 @@ returns-in_err-follow_moved-clause-cut g c =
     let y = (g.N.PageSource.view.flash c.copy_page.new.self.nand).image in
     let copied = stops_looked a b _ _ _ _ _ _ looks.memory still (looks.told honest (ok_not_bus _)) (c.in_ok-copy_page.ensures.stops now known.0 known.1 (ok_not_bus _)) in
     let m = copied_as a b _ _ c.in-Some.row c.in-Some.found _ c.in_ok-ailing.ailing c.requires.safe.memory looks.memory (ap (λ f. f.image) still) w finds c.in-Some.is (λ r i. IsMovedOut c.in-Some.row r i n y) (c.in_ok-copy_page.ensures.truth now) in
-    let sized : IsSized a n = record { geometry = c.copy_page.ensures.goes.geometry ∙ ap (λ r. r.geometry) looks.memory; capacity = c.copy_page.ensures.keys.limits.capacity ∙ ap (λ r. r.mapping.capacity) looks.memory } in
+    let sized : IsSized a n = record { geometry = c.copy_page.ensures.goes.geometry ∙ ap (λ r. r.geometry) looks.memory; capacity = c.copy_page.ensures.keys.limits.capacity ∙ ap (λ r. r.mapping.capacity) looks.memory; share = c.copy_page.ensures.keys.limits.share ∙ ap (λ r. r.mapping.share) looks.memory } in
     cut_after a n _ _ _ _ _ sized m.same.array copied (c.in_err-follow_moved.ensures.cut (c.copy_page.ensures.acts.honest_is ∙ now) m.same.truth (err_same _ _ is)))
-
-pub returns-clause-cut : goal.returns-clause-cut
-returns-clause-cut g c = λ _ _ h2. cc
-
-pub returns-in_default-clause-cut : goal.returns-in_default-clause-cut
-returns-in_default-clause-cut g c = λ _ _ h2. cc
-
-pub returns-then-moved_count-pages-clause-goes : goal.returns-then-moved_count-pages-clause-goes
-returns-then-moved_count-pages-clause-goes g c = goes_same _
-
-pub returns-then-moved_count-pages-clause-erases : goal.returns-then-moved_count-pages-clause-erases
-returns-then-moved_count-pages-clause-erases g c = refl
-
-pub returns-then-moved_count-pages-clause-keys : goal.returns-then-moved_count-pages-clause-keys
-returns-then-moved_count-pages-clause-keys g c = keys_same _ _ refl
-
-pub returns-then-moved_count-pages-clause-pin : goal.returns-then-moved_count-pages-clause-pin
-returns-then-moved_count-pages-clause-pin g c = refl
-
-pub returns-then-moved_count-pages-clause-cut : goal.returns-then-moved_count-pages-clause-cut
-returns-then-moved_count-pages-clause-cut g c = λ _ _ h2. cc
-
-pub returns-clause-erases : goal.returns-clause-erases
-returns-clause-erases g c = search rules
-
-pub returns-clause-keys : goal.returns-clause-keys
-returns-clause-keys g c = search rules
-
-pub returns-clause-pin : goal.returns-clause-pin
-returns-clause-pin g c = search rules
-
-pub returns-clause-full : goal.returns-clause-full
-returns-clause-full g c = search rules
-
-pub returns-in_default-clause-goes : goal.returns-in_default-clause-goes
-returns-in_default-clause-goes g c = search rules
-
-pub returns-in_default-clause-erases : goal.returns-in_default-clause-erases
-returns-in_default-clause-erases g c = search rules
-
-pub returns-in_default-clause-keys : goal.returns-in_default-clause-keys
-returns-in_default-clause-keys g c = search rules
-
-pub returns-in_default-clause-beside : goal.returns-in_default-clause-beside
-returns-in_default-clause-beside g c = search rules
-
-pub returns-in_default-clause-pin : goal.returns-in_default-clause-pin
-returns-in_default-clause-pin g c = search rules
-
-pub returns-in_default-clause-one_more : goal.returns-in_default-clause-one_more
-returns-in_default-clause-one_more g c = search rules
-
-pub returns-in_default-clause-full : goal.returns-in_default-clause-full
-returns-in_default-clause-full g c = search rules
-
-pub returns-in_default-clause-cost : goal.returns-in_default-clause-cost
-returns-in_default-clause-cost g c = search rules
-
-pub returns-in_err-ailing-clause-goes : goal.returns-in_err-ailing-clause-goes
-returns-in_err-ailing-clause-goes g c = search rules
-
-pub returns-in_err-ailing-clause-erases : goal.returns-in_err-ailing-clause-erases
-returns-in_err-ailing-clause-erases g c = search rules
-
-pub returns-in_err-ailing-clause-keys : goal.returns-in_err-ailing-clause-keys
-returns-in_err-ailing-clause-keys g c = search rules
-
-pub returns-in_err-ailing-clause-beside : goal.returns-in_err-ailing-clause-beside
-returns-in_err-ailing-clause-beside g c =
-    let p = err_from_is_err_and c.from_residual.result c.from_residual.ensures.1 in
-    rw p.1 (tt)
-
-pub returns-in_err-ailing-clause-pin : goal.returns-in_err-ailing-clause-pin
-returns-in_err-ailing-clause-pin g c = search rules
-
-pub returns-in_err-ailing-clause-one_more : goal.returns-in_err-ailing-clause-one_more
-returns-in_err-ailing-clause-one_more g c = search rules
-
-pub returns-in_err-ailing-clause-full : goal.returns-in_err-ailing-clause-full
-returns-in_err-ailing-clause-full g c = search rules
-
-pub returns-in_err-copy_page-clause-goes : goal.returns-in_err-copy_page-clause-goes
-returns-in_err-copy_page-clause-goes g c = search rules
-
-pub returns-in_err-copy_page-clause-erases : goal.returns-in_err-copy_page-clause-erases
-returns-in_err-copy_page-clause-erases g c = search rules
-
-pub returns-in_err-copy_page-clause-keys : goal.returns-in_err-copy_page-clause-keys
-returns-in_err-copy_page-clause-keys g c = search rules
-
-pub returns-in_err-copy_page-clause-beside : goal.returns-in_err-copy_page-clause-beside
-returns-in_err-copy_page-clause-beside g c =
-    let p = err_from_is_err_and c.from_residual-in_err-copy_page.result c.from_residual-in_err-copy_page.ensures.1 in
-    rw p.1 (tt)
-
-pub returns-in_err-copy_page-clause-pin : goal.returns-in_err-copy_page-clause-pin
-returns-in_err-copy_page-clause-pin g c = search rules
-
-pub returns-in_err-copy_page-clause-one_more : goal.returns-in_err-copy_page-clause-one_more
-returns-in_err-copy_page-clause-one_more g c = search rules
-
-pub returns-in_err-copy_page-clause-full : goal.returns-in_err-copy_page-clause-full
-returns-in_err-copy_page-clause-full g c = search rules
-
-pub returns-in_err-copy_page-clause-truth : goal.returns-in_err-copy_page-clause-truth
-returns-in_err-copy_page-clause-truth g c = search rules
-
-pub returns-in_err-follow_moved-clause-erases : goal.returns-in_err-follow_moved-clause-erases
-returns-in_err-follow_moved-clause-erases g c = search rules
-
-pub returns-in_err-follow_moved-clause-keys : goal.returns-in_err-follow_moved-clause-keys
-returns-in_err-follow_moved-clause-keys g c = search rules
-
-pub returns-in_err-follow_moved-clause-beside : goal.returns-in_err-follow_moved-clause-beside
-returns-in_err-follow_moved-clause-beside g c =
-    let p = err_from_is_err_and c.from_residual-in_err-follow_moved.result c.from_residual-in_err-follow_moved.ensures.1 in
-    rw p.1 (tt)
-
-pub returns-in_err-follow_moved-clause-pin : goal.returns-in_err-follow_moved-clause-pin
-returns-in_err-follow_moved-clause-pin g c = search rules
-
-pub returns-in_err-follow_moved-clause-one_more : goal.returns-in_err-follow_moved-clause-one_more
-returns-in_err-follow_moved-clause-one_more g c = search rules
-
-pub returns-in_err-follow_moved-clause-full : goal.returns-in_err-follow_moved-clause-full
-returns-in_err-follow_moved-clause-full g c = search rules
-
-pub returns-then-moved_count-pages-clause-beside : goal.returns-then-moved_count-pages-clause-beside
-returns-then-moved_count-pages-clause-beside g c = search rules
-
-pub returns-then-moved_count-pages-clause-one_more : goal.returns-then-moved_count-pages-clause-one_more
-returns-then-moved_count-pages-clause-one_more g c = search rules
-
-pub returns-then-moved_count-pages-clause-full : goal.returns-then-moved_count-pages-clause-full
-returns-then-moved_count-pages-clause-full g c = search rules
-
-pub returns-then-moved_count-pages-clause-cost : goal.returns-then-moved_count-pages-clause-cost
-returns-then-moved_count-pages-clause-cost g c = search rules
-
-pub returns-then-moved_count-pages-clause-truth : goal.returns-then-moved_count-pages-clause-truth
-returns-then-moved_count-pages-clause-truth g c = search rules

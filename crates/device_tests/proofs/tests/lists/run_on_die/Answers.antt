@@ -28,8 +28,8 @@ accepted_for s t g capacity c a same sized whole is =
     record { whole = there.0; accepted = there.1 }
 
 -- a run from the die after the reads, by what was accepted, is one from it before them, by what was given
-ran_of : {N : Type 0} {view : View N} {s t : Flash} {c d : Claim} {xs : List Exchange} {new : Device N} → s ≡ t → c ≡ d → RanFrom view s c xs new → RanFrom view t d xs new
-ran_of {N} {view} {s} {t} {c} {d} {xs} {new} same claimed ran = subst (λ x. RanFrom view x d xs new) same (subst (λ k. RanFrom view s k xs new) claimed ran)
+ran_of : {N : Type 0} {view : View N} {s t : Flash} {c d : Claim} {xs : List Exchange} {new : Device N} → s ≡ t → c ≡ d → RanFrom view s 0 c xs new → RanFrom view t 0 d xs new
+ran_of {N} {view} {s} {t} {c} {d} {xs} {new} same claimed ran = subst (λ x. RanFrom view x 0 d xs new) same (subst (λ k. RanFrom view s 0 k xs new) claimed ran)
 
 risen_since : {A : Type 0} (a b c : ℕ) → a ≤ b → A ⊎ HasRisen b c → A ⊎ HasRisen a c
 risen_since a b c le (inl x) = inl x

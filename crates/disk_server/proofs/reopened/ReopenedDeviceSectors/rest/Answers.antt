@@ -1,5 +1,5 @@
-use Rattle.std.proofs.Common.{inr, sym}
-use Rattle.disk_server.proofs.ReopenedLemmas.{idles, long_before}
+use Rattle.std.proofs.Common.{ap, inr, sym}
+use Rattle.disk_server.proofs.ReopenedLemmas.{idles, long_before, settled_terms}
 use Rattle.disk_server.proofs.reopened.ReopenedDeviceSectors.rest.Goals as goal
 
 pub returns-clause-idles : goal.returns-clause-idles
@@ -12,3 +12,9 @@ pub returns-clause-rests : goal.returns-clause-rests
 returns-clause-rests g c =
     let was = sym c.in-Some.ensures.value in
     rw (← c.self.view_is) (inr (record { device = c.in-Some.device; was = was; left = c.rest-answer.new.self; answer = c.rest-answer.result; asked = c.rest-answer.ensures.rests; settles = c.settle.ensures }))
+
+pub returns-clause-size : goal.returns-clause-size
+returns-clause-size g c = rw (← c.self.view_is) (ap (λ t. t.size) (settled_terms g.S.Store.held g.S.Store.honest g.S.TellsFull.full g.S.Store.failed _ _ _ _ _ c.rest-answer.result c.settle.result c.settle.new.self c.settle.ensures))
+
+pub returns-clause-count : goal.returns-clause-count
+returns-clause-count g c = rw (← c.self.view_is) (ap (λ t. t.count) (settled_terms g.S.Store.held g.S.Store.honest g.S.TellsFull.full g.S.Store.failed _ _ _ _ _ c.rest-answer.result c.settle.result c.settle.new.self c.settle.ensures))

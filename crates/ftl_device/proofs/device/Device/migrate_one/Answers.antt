@@ -31,7 +31,7 @@ returns-then-spare_bytes-lt-SPARE_FOR_VERSION_2-clause-upkeeps g c =
       ends = leaves_ends g.N.PageSource.view d.engine
           d.engine (Ok tt)
           (leaves_same g.N.PageSource.view d.engine
-          c.requires.device.engine may.going) (record { geometry = refl; capacity = refl }) c.requires.device.calm;
+          c.requires.device.engine may.going) (record { geometry = refl; capacity = refl; share = refl }) c.requires.device.calm;
       cut = λ honest w bus. (let no : ⊥ = cc in absurd no);
       no_memory = λ e. (let no : ⊥ = cc in no);
       truth = λ honest w. keeps_same (ram d.engine) (image_in g.N.PageSource.view.flash d.engine) w;

@@ -1,5 +1,6 @@
 use Rattle.std.proofs.Common.{arith, ap, sym, subst, None, ◌∙◌}
 use Rattle.page_layout.specs.DieCalls.{AskedNothing}
+use Rattle.collection.specs.Stops.{room_of}
 use Rattle.collection.specs.Safe.{ram, image_in}
 use Rattle.collection.specs.Truth.{IsTrue}
 use Rattle.collection.proofs.Looks.{ok_not_bus}
@@ -30,7 +31,7 @@ returns-in-Ok-clause-mountable g c = λ honest well not_bus most.
 
 pub returns-in-Ok-clause-well : goal.returns-in-Ok-clause-well
 returns-in-Ok-clause-well g c = λ honest well not_bus. read_well g.N.PageSource.view.flash c.args.self.now c.remember.new.self c.read_sector.new.self
-    c.in-Ok.ensures.looks.memory (c.in-Ok.ensures.looks.same honest (ok_not_bus c.in-Ok.row)) c.remember.ensures.same c.remember.ensures.moved well
+    c.in-Ok.ensures.looks.memory (c.in-Ok.ensures.looks.same honest (ok_not_bus c.in-Ok.row)) c.remember.ensures.same c.remember.ensures.limits c.remember.ensures.moved well
     (c.remember.ensures.truth _
     (subst (λ r. IsTrue None r (image_in g.N.PageSource.view.flash c.args.self.now.engine)) (sym c.in-Ok.ensures.looks.memory) well.truth)
     (c.in-Ok.ensures.truth honest well.truth).found)
@@ -39,11 +40,11 @@ returns-in-Ok-clause-well g c = λ honest well not_bus. read_well g.N.PageSource
 
 pub returns-then-sector-sectors-clause-survives : goal.returns-then-sector-sectors-clause-survives
 returns-then-sector-sectors-clause-survives g c = λ honest well ne. stopped_none c.args.self.now.engine.geometry
-    c.args.self.now.engine.mapping.capacity (step.Read c.args.sector) _ (image_in g.N.PageSource.view.flash c.args.self.now.engine) _ _
+    (room_of (ram c.args.self.now.engine)) (step.Read c.args.sector) _ (image_in g.N.PageSource.view.flash c.args.self.now.engine) _ _
     (restart_law (ram c.args.self.now.engine) _ c.requires.device.engine.memory well.truth)
 
 pub returns-in-Ok-clause-survives : goal.returns-in-Ok-clause-survives
-returns-in-Ok-clause-survives g c = λ honest well ne. stopped_none c.args.self.now.engine.geometry c.args.self.now.engine.mapping.capacity
+returns-in-Ok-clause-survives g c = λ honest well ne. stopped_none c.args.self.now.engine.geometry (room_of (ram c.args.self.now.engine))
     (step.Read c.args.sector) _ (image_in g.N.PageSource.view.flash c.args.self.now.engine) _ _
     (restart_law (ram c.args.self.now.engine) _ c.requires.device.engine.memory well.truth)
 

@@ -23,4 +23,4 @@ pub returns-then-can_load-clause-device : goal.returns-then-can_load-clause-devi
 returns-then-can_load-clause-device g c = device_mapped g.N.PageSource.view.flash c.args.self.now c.cache_sector.new.self c.requires.device
     c.cache_sector.ensures.safe
     (others_by c.args.self.now.engine c.cache_sector.new.self c.args.sector c.args.row c.cache_sector.result c.cache_sector.ensures.loaded
-    c.cache_sector.ensures.refused) (returns-then-can_load-clause-moved g c)
+    c.cache_sector.ensures.refused) (returns-then-can_load-clause-limits g c).share (returns-then-can_load-clause-moved g c)

@@ -1,24 +1,20 @@
 use Rattle.std.proofs.Common.{arith}
 use Rattle.mapping_cache.specs.View.{mapping_state}
-use Rattle.mapping_cache.proofs.Steps.{length-without, length-with_moved, IsMapping-with_moved, known-with_moved, pending-with_moved}
+use Rattle.mapping_cache.proofs.Steps.{length-with_moved, IsMapping-with_moved, known-with_moved, pending-with_moved}
 use Rattle.mapping_cache.proofs.Steps.{known-with_moved_other, pending-with_moved_other}
 use Rattle.mapping_cache.proofs.mapping.Mapping.move_entry.Goals as goal
 
-pub list_sector-requires : goal.list_sector-requires
-list_sector-requires c =
-    let m = mapping_state c.self.inside in
-    let v = c.self.invariant.0 in
-    let uncached = rw (← c.self.view_is) at c.requires.uncached in
-    let room = rw (← c.self.view_is) at c.requires.room in
-    let short = length-without m c.args.sector c.args.row v uncached room in
-    let fits = c.self.invariant.1 in
-    omega arith
+pub list_sector-requires-clause-by_sector : goal.list_sector-requires-clause-by_sector
+list_sector-requires-clause-by_sector c = c.self.invariant.0.by_sector
+
+pub list_sector-requires-clause-room : goal.list_sector-requires-clause-room
+list_sector-requires-clause-room c = let room = rw (← c.self.view_is) at c.requires.room in let fits = c.self.invariant.1 in λ unmoved. (let short = room unmoved in omega arith)
 
 pub invariant_of-self : goal.invariant_of-self
 invariant_of-self c = let m = mapping_state c.self.inside in let v = c.self.invariant.0 in let uncached = rw (← c.self.view_is) at c.requires.uncached
     in let room = rw (← c.self.view_is) at c.requires.room in let entry = rw (← c.self.view_is) at c.requires.entry in (
       rw (c.list_sector.ensures.items) (IsMapping-with_moved m c.args.sector c.args.row v uncached room entry),
-      (let fits = c.self.invariant.1 in let grown = c.list_sector.ensures.capacity in omega arith),
+      rw c.list_sector.ensures.capacity c.self.invariant.1,
     )
 
 pub returns-clause-set : goal.returns-clause-set

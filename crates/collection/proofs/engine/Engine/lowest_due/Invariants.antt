@@ -1,7 +1,0 @@
-use Rattle.std.proofs.Common.{◌≡◌, ◌<◌, ℕ, false}
-use Rattle.collection.specs.Safe.{ram}
-use Rattle.collection.specs.Collect.{is_due}
-use Rattle.collection.proofs.engine.Engine.lowest_due.Given as goal
-
-abbrev pub invariant-pages : goal.invariant-pages
-invariant-pages g l = (k : ℕ) → k < l.t → is_due l.flushing (ram l.self) k ≡ false
