@@ -20,7 +20,7 @@ TOP = Path(__file__).resolve().parent.parent
 CRATES = [
     ("page_layout", "Geometry and pages", ("Geometry", "GeometryFault", "PageSource", "SourceFault"), ()),
     ("onfi_cycles", "Bus, driver, die", ("Bus", "BusFault", "Driver", "Nand", "Outcome"), ("Status",)),
-    ("mount", "Format and mount", ("format", "FormatFault", "mount", "mount_counted", "Mounted"), ()),
+    ("mount", "Format and mount", ("format", "format_at", "FormatFault", "mount", "mount_counted", "Mounted"), ()),
     ("certificate", "Certificate", ("read_certificate", "write_certificate", "CertFault", "Certificate"), ("BlockState",)),
     ("image_check", "Checker", ("check", "check_stream", "Accepted", "Refusal"),
      ("sector", "sector_in", "SectorFault", "Scratch", "describe", "describe_blocks", "Newest", "find_stale", "first_repeated", "Survey",

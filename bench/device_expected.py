@@ -1,6 +1,6 @@
 #!/usr/bin/env python3
 """Prints what the tests of devices expect, by `bench/device_model.py`, and holds the stages of
-`crates/fault_tests/src/tests/script.rt` against it.
+`crates/fault_tests/src/tests/script_rows.rt` against it.
 
     bench/device_expected.py
 """
@@ -84,14 +84,17 @@ def print_cases():
 
 
 class Script:
-    """The commands of `script.rt`, with the list of sectors that they leave."""
+    """The commands of `script.rt`, with the list of sectors that they leave. Where they are hot three sectors take most writes."""
 
-    def __init__(self):
-        self.state, self.bytes = 20_260_101, [0] * 48
+    def __init__(self, hot=False):
+        self.state, self.bytes, self.hot = 20_260_101, [0] * 48, hot
 
     def give(self, device):
         self.state = (self.state * 6_364_136_223_846_793_005 + 1_442_695_040_888_963_407) % 2**64
         n, byte, dice = (self.state >> 33) % device.g.L, (self.state >> 40) % 256, self.state >> 59
+        if self.hot:
+            n = n % 3 if dice <= 23 else n
+            dice = 0 if dice <= 25 else 21 if dice <= 28 else 31
         if dice <= 15:
             if device.write(n, byte) == "Done":
                 self.bytes[n] = byte
@@ -115,18 +118,18 @@ def numbers(text):
 
 
 def hold_script():
-    text = (TESTS / "script.rt").read_text()
+    text = (TESTS / "script_rows.rt").read_text()
     sizes = {name: numbers(its) for name, its in re.findall(r"const (\w+): \(u32, u32, u32, u32\) = \(([^)]*)\)", text)}
-    rows = re.findall(r"Row \{\s*sizes: (\w+),\s*failing: &\[([^\]]*)\],\s*torn: (\w+),\s*devices: &\[(.*?)\n        \]", text, re.S)
+    rows = re.findall(r"Row \{\s*sizes: (\w+),\s*share: (\d+),\s*hot: (\w+),\s*failing: &\[([^\]]*)\],\s*torn: (\w+),\s*devices: &\[(.*?)\n        \]", text, re.S)
     stages = 0
-    for name, failing, torn, devices in rows:
-        die, script = Die(Geometry(64, *sizes[name])), Script()
-        format_die(die)
+    for name, share, hot, failing, torn, devices in rows:
+        die, script = Die(Geometry(64, *sizes[name])), Script(hot == "true")
+        format_die(die, (), int(share))
         die.failing = {die.changes + nth for nth in numbers(failing)}
         die.page_left = torn == "true"
         for stage in re.findall(r"Stage \{(.*?)\n            \}", devices, re.S):
             capacity, *wanted = numbers(stage)
-            device = Device(die, capacity)
+            device = Device(die, capacity, int(share))
             script.compare(device)
             for _ in range(250):
                 script.give(device)
@@ -134,10 +137,10 @@ def hold_script():
             if not die.page_left:
                 device.flush()
             found = [device.next, device.free(), device.good(), sum(device.wear)]
-            assert found == wanted, (name, torn, capacity, found, wanted)
+            assert found == wanted, (name, share, torn, capacity, found, wanted)
             assert die.abuse == 0
             stages += 1
-    assert len(rows) == 6 and stages == 24
+    assert len(rows) == 15 and stages == 60
     print(f"{stages} stages of the script, as the model says")
 
 

@@ -72,7 +72,7 @@ def refused_files(program, folder):
         (b'{"cache":64,"geometry":"512,32,8,48,150"}', "no member version"),
         (b'{"cache":"64","geometry":"512,32,8,48,150","version":1}', "member cache of another type"),
         (b'{"cache":64,"geometry":"512,32,8,48,150","version":3}', "another version"),
-        (b'{"cache":64,"code":"none","geometry":"512,32,8,48,150","lost":false,"share":15,"version":2}', "the share is 15 and not 0"),
+        (b'{"cache":64,"code":"none","geometry":"512,32,8,48,150","lost":false,"share":32764,"version":2}', "the share is 32764, and no cache has room for all that may be stale"),
         (b'{"cache":64,"code":"x","geometry":"512,32,8,48,150","lost":false,"share":0,"version":2}', "the code is neither none nor hamming"),
         (b'{"cache":0,"geometry":"512,32,8,48,150","version":1}', "the cache has not from 1 to 65536 entries"),
         (b'{"cache":64,"geometry":"512,32,8,48","version":1}', "the geometry is no five numbers"),

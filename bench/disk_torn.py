@@ -49,8 +49,8 @@ class Shape:
         return [array[at : at + self.sector] for at in range(0, self.size, self.sector)]
 
 
-SMALL = Shape(512, 32, 4, 40, 80)
-SHAPES = (Shape(64, 32, 8, 40, 60), SMALL, Shape(4096, 128, 4, 40, 80))
+SMALL = Shape(512, 32, 4, 44, 80)
+SHAPES = (Shape(64, 32, 8, 40, 60), SMALL, Shape(4096, 128, 4, 44, 80))
 # so many pages that 10,000 are programmed with no erase, and so with no sync
 LARGE = Shape(64, 32, 64, 300, 2000)
 

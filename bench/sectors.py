@@ -5,7 +5,7 @@ A die serves writes while as many blocks are good as its geometry needs (`need` 
 are the most for which no more blocks are needed than there are.
 
 With --share several numbers of a die are told, one for each share: how many moved sectors may wait for each translation page
-(`device_model.py`). The programs of today run at share 0, which is told without it."""
+(`device_model.py`). `nandctl` and the library for C run at share 0, which is told without it, and new disks of `nanddisk` at 15."""
 
 import argparse
 import subprocess

@@ -10,7 +10,7 @@ or the fullest that are worth it. Each bound is an assertion in `Held`; the scri
 
 With --planted the rule is made wrong in ten ways, one at a time, and each has to break a bound.
 
-The engine runs at share 0. What is held of greater shares is held of the model alone."""
+Here all is held of the model. `device_expected.py` holds the engine's scripts at these shares against it."""
 
 import copy
 import random

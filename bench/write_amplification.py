@@ -9,7 +9,7 @@ Programs are read off the next sequences of the image with each sector written o
 --model `device_model.py` makes the same writes, and its programs have to be the same.
 
 With --share the model alone makes them, for each of these numbers of moved sectors that may wait for each translation page
-(the program runs at share 0): at 50, 70 and 90 per cent of all pages of a larger die. A size that a share cannot have is `-`.
+(`nandctl` runs at share 0): at 50, 70 and 90 per cent of all pages of a larger die. A size that a share cannot have is `-`.
 It ends with status 1 where a greater share costs more programs than a smaller one."""
 
 import argparse

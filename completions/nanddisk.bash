@@ -13,13 +13,14 @@ _nanddisk()
         --code) return ;;
         --from) compopt -o filenames; mapfile -t COMPREPLY < <(compgen -f -- "$word"); return ;;
         --geometry) return ;;
+        --share) return ;;
         --size) return ;;
         --sync) mapfile -t COMPREPLY < <(compgen -W "erases always" -- "$word"); return ;;
         --wait) return ;;
     esac
     if [[ "$word" == -* ]]; then
         case "${COMP_WORDS[1]}" in
-            create) mapfile -t COMPREPLY < <(compgen -W "--size --geometry --from --bad --cache --code --help" -- "$word") ;;
+            create) mapfile -t COMPREPLY < <(compgen -W "--size --geometry --from --bad --cache --share --code --help" -- "$word") ;;
             serve) mapfile -t COMPREPLY < <(compgen -W "--read-only --sync --wait --help" -- "$word") ;;
             info) mapfile -t COMPREPLY < <(compgen -W "--json --help" -- "$word") ;;
             check) mapfile -t COMPREPLY < <(compgen -W "--json --help" -- "$word") ;;

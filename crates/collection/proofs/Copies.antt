@@ -1,10 +1,12 @@
 -- A page that counts is copied out of its block.
 use Rattle.std.proofs.Common.{◌≡◌, ◌≢◌, inl, inr, ℕ, ◌+◌, ◌-◌, ◌/◌, ◌%◌, ◌<◌, ◌≤◌, ◌==◌, Bool, true, false, List, length, get_or}
-use Rattle.std.proofs.Common.{Some, None, Err, refl, ap, sym, ◌∙◌, subst, arith}
+use Rattle.std.proofs.Common.{Option, Some, None, Err, refl, ap, sym, ◌∙◌, subst, arith}
+use Rattle.std.specs.Option.{ForSome}
 use Rattle.std.proofs.lemmas.Bool.{eq-eqb, ne_eqb}
 use Rattle.page_layout.specs.declared.geometry.Geometry.{Geometry}
 use Rattle.page_layout.specs.declared.record.Record.{Record}
 use Rattle.page_layout.specs.declared.record.Kind.{Kind}
+use Rattle.page_layout.specs.declared.record.Kind.TheVariants as kind
 use Rattle.page_layout.specs.declared.record.Key.{Key}
 use Rattle.page_layout.specs.declared.record.Key.TheVariants.{Sector, Translation, Table}
 use Rattle.page_layout.specs.Page.{Page, Image, body_at}
@@ -26,7 +28,7 @@ use Rattle.collection.specs.Pages.{newest_row}
 use Rattle.collection.specs.Maps.{IsPageFor}
 use Rattle.collection.specs.Truth.{IsTrue, HasTable}
 use Rattle.collection.specs.Live.{IsLivePage}
-use Rattle.collection.specs.Results.{MayPut, IsReplaced, IsLastPage, Goes, last_record}
+use Rattle.collection.specs.Results.{MayPut, IsSame, IsReplaced, IsWrittenBack, IsLastPage, Goes, last_record}
 use Rattle.collection.specs.Cost.{HasPut, PutCosts}
 use Rattle.collection.specs.Settle.{HasPlace, SetsMapping}
 use Rattle.page_layout.proofs.VersionLemmas.{written_not_old}
@@ -40,7 +42,7 @@ use Rattle.collection.proofs.Dues.{HasFollowed, copied_due, copied_refreshes}
 use Rattle.collection.proofs.MapLemmas.{entry_here, none_not}
 use Rattle.collection.proofs.Puts.{leaves_written, written_keeps}
 use Rattle.collection.proofs.Truths.{row_in_block}
-use Rattle.collection.proofs.Finds.{gone_copied}
+use Rattle.collection.proofs.Finds.{gone_copied, newest_mark}
 
 -- the data area of the newest page of a key may be that of another page of it
 page_for : (r : Ram) (image : Image) (row : ℕ) (body : List ℕ) (key : Key) → IsTrue None r image → IsKeyOf r.geometry key → newest_row image key ≡ Some row → body_at image row ≡ body → IsPageFor r.geometry image r.mapping body key
@@ -104,25 +106,47 @@ renewed_by r r' old new row row' rec body l out p = record {
   others = λ other ne. written_keeps r.geometry (last_record rec.kind rec.number row' r') row' body old new other ne p.writes;
 }
 
-pub moved_out : (r r' : Ram) (old new : Image) (row row' : ℕ) (rec : Record) (body : List ℕ) → IsRam r → IsRam r' → r'.geometry ≡ r.geometry
-    → IsTrue None r old → IsLivePage row body rec old → IsKeyOf r.geometry (key_of rec) → row < row_count r.geometry
-    → is_shut r.blocks (row / r.geometry.pages) ≡ true → IsOutside r row' → IsReplaced rec.kind rec.number row' body r old r' new
-    → IsMovedOut row r old r' new
-moved_out r r' old new row row' rec body s s' same w l of_key lt shut out p =
+-- a page has left its row for one outside the shut blocks
+moved_by : (r r' : Ram) (old new : Image) (row row' : ℕ) (rec copy : Record) (body : List ℕ) → IsRam r → IsRam r' → r'.geometry ≡ r.geometry
+    → IsTrue None r old → IsSame r old r' new → get_or (marks old) row None ≡ Some rec → newest_row old (key_of rec) ≡ Some row
+    → key_of copy ≡ key_of rec → row < row_count r.geometry → is_shut r.blocks (row / r.geometry.pages) ≡ true → IsOutside r row'
+    → Writes r.geometry copy row' body old new → IsMovedOut row r old r' new
+moved_by r r' old new row row' rec copy body s s' same w kept mark newest_is same_key lt shut out writes =
     let ne : row' / r.geometry.pages ≢ row / r.geometry.pages = apart_shut r row row' out shut in
     let within : row / r.geometry.pages < r.geometry.blocks = row_in_block r.geometry row lt in
     let before : live_at r.blocks (row / r.geometry.pages) ≡ live r.geometry (marks old) (row / r.geometry.pages) = exact_at r old (row / r.geometry.pages) s w within in
     let after : live_at r'.blocks (row / r.geometry.pages) ≡ live r.geometry (marks new) (row / r.geometry.pages) =
     (let P : Geometry → Type 0 = λ g.
     (row / r.geometry.pages < g.blocks → live_at r'.blocks (row / r.geometry.pages) ≡ live g (marks new) (row / r.geometry.pages)) in subst P
-    same (exact_at r' new (row / r.geometry.pages) s' p.truth) within) in
-    let less = live_less r.geometry old new row row' (last_record rec.kind rec.number row' r') body p.writes l.newest ne in
+    same (exact_at r' new (row / r.geometry.pages) s' kept.truth) within) in
+    let its_newest : newest_row old (key_of copy) ≡ Some row = ap (newest_row old) same_key ∙ newest_is in
+    let less = live_less r.geometry old new row row' copy body writes its_newest ne in
     record {
-      same = (renewed_by r r' old new row row' rec body l out p).same;
-      gone = gone_copied r.geometry old new row row' rec (last_record rec.kind rec.number row' r') body l.mark refl p.writes (λ e. ne (ap (λ k. k / r.geometry.pages) e));
-      others = λ k ne. p.writes.newest_others k (λ e. ne (ap (newest_row old) (sym e) ∙ l.newest));
+      same = kept;
+      gone = gone_copied r.geometry old new row row' rec copy body mark same_key writes (λ e. ne (ap (λ k. k / r.geometry.pages) e));
+      others = λ k ne. writes.newest_others k (λ e. ne (ap (newest_row old) (sym e) ∙ its_newest));
       fewer = omega (arith, before, after, less);
     }
+
+pub moved_out : (r r' : Ram) (old new : Image) (row row' : ℕ) (rec : Record) (body : List ℕ) → IsRam r → IsRam r' → r'.geometry ≡ r.geometry
+    → IsTrue None r old → IsLivePage row body rec old → IsKeyOf r.geometry (key_of rec) → row < row_count r.geometry
+    → is_shut r.blocks (row / r.geometry.pages) ≡ true → IsOutside r row' → IsReplaced rec.kind rec.number row' body r old r' new
+    → IsMovedOut row r old r' new
+moved_out r r' old new row row' rec body s s' same w l of_key lt shut out p = moved_by r r' old new row row' rec (last_record rec.kind rec.number row' r') body s s' same w
+    (renewed_by r r' old new row row' rec body l out p).same l.mark l.newest refl lt shut out p.writes
+
+-- a translation page that is written back has left its row too
+pub moved_written : (r r2 : Ram) (m : MappingState) (x y : Image) (t row' : ℕ) (row : Option ℕ) (body : List ℕ) → IsRam r → IsRam r2 → r2.geometry ≡ r.geometry
+    → IsTrue None r x → IsWrittenBack t r x (record r2 { mapping = m }) y → IsReplaced kind.Translation t row' body r x r2 y → IsOutside r row'
+    → newest_row x (Translation t) ≡ row → ForSome row (λ k. k < row_count r.geometry)
+    → ForSome row (λ at. is_shut r.blocks (at / r.geometry.pages) ≡ true → IsMovedOut at r x (record r2 { mapping = m }) y)
+moved_written r r2 m x y t row' row body s s' same w b p out newest_is within = λ at is shut.
+    let here : newest_row x (Translation t) ≡ Some at = newest_is ∙ is in
+    let found = newest_mark x (Translation t) at (get_or (marks x) at None) refl here in
+    let same_key : Translation t ≡ key_of found.0 = sym found.2 in
+    let kept : IsSame r x r2 y = record { truth = p.truth; array = b.same.array; leaves = b.same.leaves } in
+    let moved = moved_by r r2 x y at row' found.0 (last_record kind.Translation t row' r2) body s s' same w kept found.1 (ap (newest_row x) found.2 ∙ here) same_key (within at is) shut out p.writes in
+    record { same = b.same; gone = moved.gone; others = moved.others; fewer = moved.fewer }
 
 -- ---- the memory follows
 

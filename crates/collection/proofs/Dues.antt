@@ -196,6 +196,57 @@ module _ (t : ℕ) (r r' : Ram) (s : IsRam r) (lt : t < translation_pages r.geom
         ];
   }
 
+-- ---- a translation page was written back, and its mark stays
+
+pub record HasCleaned (t : ℕ) (r r' : Ram) : Type 0 where
+  pub geometry : r'.geometry ≡ r.geometry
+  pub mapping : r'.mapping ≡ cleaned r.mapping t
+  pub marks : r'.pin.marks ≡ r.pin.marks
+
+module _ (t : ℕ) (r r' : Ram) (f : HasCleaned t r r') where
+  stays_marked : (k : ℕ) → is_marked r' k ≡ is_marked r k
+  stays_marked k = ap (λ l. get_or l k false) f.marks
+
+  stays_asked : (flushing : Bool) (ask : ℕ → Bool) (k : ℕ) → k ≢ t → (ask (length (moved_in (per_page r'.mapping) k r'.mapping.moved)) || (flushing && is_marked r' k))
+      ≡ (ask (length (moved_in (per_page r.mapping) k r.mapping.moved)) || (flushing && is_marked r k))
+  stays_asked flushing ask k ne = ap (λ (m : MappingState). ask (length (moved_in (per_page m) k m.moved)) || (flushing && is_marked r' k)) f.mapping
+      ∙ asked ask flushing (per_page r.mapping) k r.mapping.moved (without_page (per_page r.mapping) t r.mapping.moved) (is_marked r k)
+      (is_marked r' k) (left_others (per_page r.mapping) t k r.mapping.moved ne) (stays_marked k)
+
+  pub cleaned_due : (flushing : Bool) → t < translation_pages r.geometry → due_count flushing r' ≤ due_count flushing r + 1
+  cleaned_due flushing lt =
+      let same : (k : ℕ) → k ≢ t → is_due flushing r' k ≡ is_due flushing r k = λ k ne.
+      ap (λ share. nat_lt share (length (moved_in (per_page r'.mapping) k r'.mapping.moved)) || (flushing && is_marked r' k)) (ap (λ (m : MappingState). m.share) f.mapping)
+      ∙ stays_asked flushing (nat_lt r.mapping.share) k ne in
+      let e = one_more (is_due flushing r) (is_due flushing r') t (translation_pages r.geometry) same lt in
+      rw f.geometry e
+
+  -- a page that is owed then was owed before
+  pub cleaned_owed : (flushing : Bool) (k : ℕ) → is_owed flushing r' k ≡ true → is_owed flushing r k ≡ true
+  cleaned_owed flushing k owed = elim (cases_eq k t) [
+    | inl here ↦
+        let none : moved_in (per_page r'.mapping) k r'.mapping.moved ≡ [] = ap (λ (m : MappingState). moved_in (per_page m) k m.moved) f.mapping
+        ∙ (ap (λ j. moved_in (per_page r.mapping) j (without_page (per_page r.mapping) t r.mapping.moved)) here ∙ left_none (per_page r.mapping) t r.mapping.moved) in
+        let only : (flushing && is_marked r' k) ≡ true = sym (ap (λ l. not (length l == 0) || (flushing && is_marked r' k)) none) ∙ owed in
+        by_mark (not (length (moved_in (per_page r.mapping) k r.mapping.moved) == 0)) (flushing && is_marked r k) (ap (λ b. flushing && b) (sym (stays_marked k)) ∙ only)
+    | inr ne ↦ sym (stays_asked flushing (λ m. not (m == 0)) k ne) ∙ owed
+  ]
+    where
+      by_mark : (a b : Bool) → b ≡ true → (a || b) ≡ true
+      by_mark true b is = refl
+      by_mark false b is = is
+
+  pub cleaned_refreshes : Cleans (per_page r.mapping) t r.mapping r'.mapping → Refreshes r r'
+  cleaned_refreshes c = record {
+    each = λ k within fresh unmarked n of_page.
+        let pp : per_page r'.mapping ≡ per_page r.mapping = ap per_page f.mapping in
+        let at : n / per_page r.mapping ≡ k = ap (λ p. n / p) (sym pp) ∙ of_page in
+        elim (cases_eq k t) [
+          | inl same ↦ c.clean n (at ∙ same)
+          | inr ne ↦ c.others n (λ e. ne (sym at ∙ e)) ∙ fresh (sym (stays_marked k) ∙ unmarked) n at
+        ];
+  }
+
 -- ---- none has to be written any more
 
 pub erased_refreshes : (r r' : Ram) → OwesNone true r → r'.geometry ≡ r.geometry → r'.mapping ≡ r.mapping → Refreshes r r'

@@ -24,7 +24,7 @@ use Rattle.collection.specs.Live.{NotAt, HoldsNoneIn, IsTaken, IsLivePage, Looks
 
 -- ---- a row
 
-newest_mark : (image : Image) (key : Key) (row : ℕ) (found : Option Record) → get_or (marks image) row None ≡ found → newest_row image key ≡ Some row → (r : Record) × (found ≡ Some r) × (key_of r ≡ key)
+pub newest_mark : (image : Image) (key : Key) (row : ℕ) (found : Option Record) → get_or (marks image) row None ≡ found → newest_row image key ≡ Some row → (r : Record) × (found ≡ Some r) × (key_of r ≡ key)
 newest_mark image key row found mark is = (let x = newest-record (marks image) key row is in (x.0, sym mark ∙ x.1, x.2))
 
 pub gone_none : (image : Image) (row : ℕ) → get_or (marks image) row None ≡ None → NotAt row image

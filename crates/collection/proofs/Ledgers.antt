@@ -7,7 +7,7 @@ use Rattle.page_layout.specs.declared.record.Key.{Key}
 use Rattle.page_layout.specs.declared.record.Key.TheVariants.{Sector, Translation, Table}
 use Rattle.std.specs.Int.{div_ceil}
 use Rattle.std.proofs.Math.Nat.{mul-add}
-use Rattle.std.proofs.lemmas.Bool.{cases_Bool}
+use Rattle.std.proofs.lemmas.Bool.{cases_Bool, cases_lt}
 use Rattle.mapping_cache.specs.Mapping.{MappingState}
 use Rattle.page_layout.specs.Counter.{counted}
 use Rattle.budget.specs.declared.stream.Stream.{Stream}
@@ -28,8 +28,8 @@ use Rattle.collection.specs.Truth.{IsTrue}
 use Rattle.collection.specs.Cost.{HasPut}
 use Rattle.collection.specs.Live.{HoldsNoneIn}
 use Rattle.collection.specs.Results.{Goes, Refused}
-use Rattle.collection.specs.Settle.{SetsMapping}
-use Rattle.collection.specs.Collect.{is_due, due_count, waiting, OwesPage, IsAccount, HasCopied, HasWritten, HasErased, HasProgrammed, HasCollected, StreamRunsOut, IsCopied}
+use Rattle.collection.specs.Settle.{SetsMapping, BringsOut}
+use Rattle.collection.specs.Collect.{is_due, due_count, waiting, OwesPage, IsAccount, HasBroughtOut, HasWritten, HasErased, HasProgrammed, HasCollected, StreamRunsOut, IsCopied}
 use Rattle.collection.specs.Collect.{CollectsFew, OwesNone, IsEmptied, IsThrifty, FaultCosts, CollectCosts, CollectCounts, StepCosts, IsStepped, GoesBut, IsReleased}
 use Rattle.bad_blocks.specs.declared.table.TableRow.{TableRow}
 use Rattle.bad_blocks.specs.Table.{most_wear}
@@ -120,16 +120,24 @@ begun flushing block first r known x s w passed =
       truth = λ k. record { same = same_here r x (w k); copies_left = omega arith; few = omega arith; none = passed k };
     }
 
--- ---- a page is copied
+-- ---- a page is brought out
 
 pub sets_share : (key : Key) (row : ℕ) (old new : MappingState) → SetsMapping key row old new → new.share ≡ old.share
 sets_share (Sector n) row old new sets = sets.limits.share
 sets_share (Translation t) row old new sets = ap (λ m. m.share) sets
 sets_share (Table u) row old new sets = ap (λ m. m.share) sets
 
+pub brings_share : (key : Key) (row : ℕ) (old new : MappingState) → BringsOut key row old new → new.share ≡ old.share
+brings_share (Sector n) row old new sets = sets.limits.share
+brings_share (Translation t) row old new sets = elim (cases_lt 0 old.share) [
+  | inl some ↦ ap (λ m. m.share) (sets.written some)
+  | inr none ↦ ap (λ m. m.share) (sets.copied (omega arith))
+]
+brings_share (Table u) row old new sets = ap (λ m. m.share) sets
+
 pub copied_more : (flushing : Bool) (block first page : ℕ) (old now new : Ram) (known : Type 0) (x y z : Image) → IsRam now → Goes old now
     → Goes now new → 1 < old.geometry.pages → IsUnderWay flushing block first old now known x y → first ≤ page → page < now.geometry.pages
-    → HasCopied flushing now new → (known → IsTrue None now y → HoldsNoneIn now.geometry.pages block 0 first y → IsCopied block page now y new z)
+    → HasBroughtOut flushing now new → (known → IsTrue None now y → HoldsNoneIn now.geometry.pages block 0 first y → IsCopied block page now y new z)
     → IsUnderWay flushing block (page + 1) old new known x z
 copied_more flushing block first page old now new known x y z s goes then some u ge lt cost call =
     let same : now.geometry ≡ old.geometry = goes.geometry in
@@ -152,7 +160,7 @@ copied_more flushing block first page old now new known x y z s goes then some u
         programmed = programmed_more cost.stream old now new u.ledger.data_pages u.ledger.meta_pages same u.ledger.programmed cost.put;
         account = record {
           flushed = λ on. (let f = u.ledger.account.flushed on in let d = cost.due in omega arith);
-          share = sets_share cost.key cost.row now.mapping new.mapping cost.sets ∙ u.ledger.account.share;
+          share = brings_share cost.key cost.row now.mapping new.mapping cost.sets ∙ u.ledger.account.share;
           moved = λ off. copy_account old.mapping.share (length old.mapping.moved) u.ledger.copies u.ledger.written (length now.mapping.moved) (length new.mapping.moved) (u.ledger.account.moved off) cost.moved;
           last = λ off. inl zero;
           once = omega (arith, zero, due);
@@ -446,7 +454,7 @@ pub room_next : (flushing : Bool) (block first next pages : ℕ) (now new : Ram)
     → StepCosts flushing block first now new (Ok step) → length new.mapping.moved ≤ waiting new + next
 room_next flushing block first next pages now new (step_is.Copied page) s' p same room is cost =
     let e : page + 1 ≡ next = cc in
-    let may = waiting_same now new same (sets_share cost.2.key cost.2.row now.mapping new.mapping cost.2.sets) in
+    let may = waiting_same now new same (brings_share cost.2.key cost.2.row now.mapping new.mapping cost.2.sets) in
     omega (arith, e, cost.0, cost.2.moved, may, room)
 room_next flushing block first next pages now new step_is.WroteBack s' p same room is cost = (let e : pages ≡ next = cc in let few = few_moved new s' in omega arith)
 room_next flushing block first next pages now new step_is.Erased s' p same room is cost = (let no : ⊥ = cc in absurd no)

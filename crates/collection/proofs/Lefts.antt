@@ -31,7 +31,7 @@ use Rattle.collection.specs.Results.{LeavesNewest}
 use Rattle.collection.specs.Collect.{has_moved, is_owed, owed_count, waiting, HasWritten}
 use Rattle.collection.specs.Left.{sectors_in, is_of_some, is_touched, touched_count, batches, moves_in, write_backs_in, left_in, IsHalfDone, IsCalm, LeavesPin, TouchesNoMore}
 use Rattle.collection.proofs.Copies.{exact_at}
-use Rattle.collection.proofs.Dues.{HasFollowed, other_owed, same_owed, unmarked_key, one_less, some_positive, moved_count, length_keys}
+use Rattle.collection.proofs.Dues.{HasFollowed, HasCleaned, cleaned_owed, other_owed, same_owed, unmarked_key, one_less, some_positive, moved_count, length_keys}
 use Rattle.collection.proofs.Batches.{div_ceil_le, batches_le, batches_less}
 use Rattle.collection.proofs.Ledgers.{sets_share}
 use Rattle.collection.proofs.HalfDone.{calm_half}
@@ -240,6 +240,15 @@ copied_touches flushing key row at r r' x y s of_key is f shut l gone more = rec
   pages = copied_pages flushing key row at r r' x s of_key is f;
   share = sets_share key at r.mapping r'.mapping f.mapping;
   moves = copied_moves flushing key row at r r' x y of_key is f shut l gone more;
+}
+
+-- a translation page that is written back in place of copied touches none
+pub cleaned_touches : (flushing : Bool) (t block : ℕ) (r r' : Ram) (x y : Image) → HasCleaned t r r' → length r'.mapping.moved ≤ length r.mapping.moved
+    → is_shut r.blocks block ≡ true → LeavesNewest r x y → TouchesNoMore flushing block r x r' y
+cleaned_touches flushing t block r r' x y f fewer shut l = record {
+  pages = λ k owed. or_left (is_owed flushing r k) (is_of_some (entries r.geometry) (sectors_in r.geometry x block) k) (cleaned_owed t r r' f flushing k owed);
+  share = ap (λ m. m.share) f.mapping;
+  moves = (let kept = kept_sectors r r' x y block f.geometry shut l in omega (arith, kept, fewer));
 }
 
 -- ---- once no newest page is left

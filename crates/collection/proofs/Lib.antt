@@ -4,6 +4,7 @@ pub mod Erases
 pub mod Finds
 pub mod Dues
 pub mod Copies
+mod Brought
 pub mod Lowest
 mod Overs
 mod Batches

@@ -6,7 +6,8 @@ use Rattle.std.specs.Map.{keys_of, lookup}
 use Rattle.std.specs.List.{range_with_len}
 use Rattle.std.proofs.lemmas.Bool.{eqb-true, eq-eqb, cond-false}
 use Rattle.std.proofs.lemmas.List.{length-map}
-use Rattle.std.proofs.lemmas.List.Sums.{length-filter}
+use Rattle.std.proofs.lemmas.List.FromFn.{length-range_with_len}
+use Rattle.std.proofs.lemmas.List.Sums.{length-filter, count_by-le-length}
 use Rattle.page_layout.specs.declared.geometry.Geometry.{Geometry}
 use Rattle.page_layout.specs.declared.record.Key.{Key}
 use Rattle.page_layout.specs.declared.record.Key.TheVariants.{Sector}
@@ -31,6 +32,7 @@ use Rattle.collection.specs.State.{Ram}
 use Rattle.collection.specs.Safe.{IsRam}
 use Rattle.collection.specs.Maps.{Maps}
 use Rattle.collection.specs.Collect.{waiting}
+use Rattle.collection.specs.Stops.{room_of}
 use Rattle.collection.specs.Truth.{IsTrue, HasTable}
 use Rattle.collection.proofs.MapLemmas.{none_not}
 use Rattle.collection.proofs.Memory.{few_moved}
@@ -82,9 +84,16 @@ held_counted m t held = elim held [
   | inr moved ↦ omega (arith, count_by-append (λ n. eqb (n / 1) t) (keys_of m.cached) (keys_of m.moved), counted_key t m.moved moved)
 ]
 
+-- never more than there are
+stale_most : (g : Geometry) (image : Image) → stale_count g image ≤ g.sectors
+unfolding stale_sectors
+stale_most g image =
+    let sectors : List ℕ = range_with_len 0 g.sectors in
+    omega (arith, length-filter (is_stale g image) sectors, count_by-le-length (is_stale g image) sectors, length-range_with_len 0 g.sectors)
+
 -- each is held, or is one of some more for which the moved list has room
 pub few_held : (r : Ram) (image : Image) (more : List ℕ) → IsRam r → length r.mapping.moved + length more ≤ waiting r + r.geometry.pages
-    → ((n : ℕ) → n < r.geometry.sectors → is_stale r.geometry image n ≡ true → IsHeld r.mapping n ⊎ (0 < count_by (λ k. eqb (k / 1) n) more)) → stale_count r.geometry image ≤ r.mapping.capacity + (waiting r + r.geometry.pages)
+    → ((n : ℕ) → n < r.geometry.sectors → is_stale r.geometry image n ≡ true → IsHeld r.mapping n ⊎ (0 < count_by (λ k. eqb (k / 1) n) more)) → stale_count r.geometry image ≤ room_of r
 unfolding stale_sectors
 few_held r image more s room each =
     let held : List ℕ = keys_of r.mapping.cached ++ keys_of r.mapping.moved in
@@ -97,9 +106,9 @@ few_held r image more s room each =
     let size = length-append (keys_of r.mapping.cached) (keys_of r.mapping.moved) in
     let cached = length-map r.mapping.cached (λ (e : ℕ × Slot). e.0) in
     let moved = length-map r.mapping.moved (λ (e : ℕ × ℕ). e.0) in
-    omega (arith, length-filter (is_stale r.geometry image) (range_with_len 0 r.geometry.sectors), most, all, size, cached, moved, s.mapping.within, room)
+    omega (arith, length-filter (is_stale r.geometry image) (range_with_len 0 r.geometry.sectors), most, all, size, cached, moved, s.mapping.within, room, stale_most r.geometry image)
 
-few_stale : (r : Ram) (image : Image) → IsRam r → IsTrue None r image → stale_count r.geometry image ≤ r.mapping.capacity + (waiting r + r.geometry.pages)
+few_stale : (r : Ram) (image : Image) → IsRam r → IsTrue None r image → stale_count r.geometry image ≤ room_of r
 few_stale r image s w =
     let none : length r.mapping.moved + 0 ≤ waiting r + r.geometry.pages = (let few = few_moved r s in omega arith) in
     few_held r image [] s none (λ n lt old. inl (stale_held r image n w lt old))
@@ -112,7 +121,7 @@ tables_are g image has = record {
   formed = λ u lt. (let t = has u lt in subst (IsWellFormed (entries g) g.blocks u) (sym (table_is image u t.row t.newest_is)) t.formed);
 }
 
-pub orderly : (r : Ram) (image : Image) → IsRam r → IsTrue None r image → IsOrderly r.geometry (r.mapping.capacity + (waiting r + r.geometry.pages)) image
+pub orderly : (r : Ram) (image : Image) → IsRam r → IsTrue None r image → IsOrderly r.geometry (room_of r) image
 orderly r image s w = record {
   numbers = record { in_range = w.one.in_range };
   sequences = w.one.distinct;

@@ -12,7 +12,7 @@ use Rattle.collection.specs.Collect.{due_count, excess, waiting, StepCosts}
 use Rattle.collection.specs.Whole.{next_of, HasRead}
 use Rattle.collection.specs.declared.engine.collect_steps.Progress.{Progress}
 use Rattle.collection.specs.declared.engine.collect_steps.Progress.TheVariants as step_is
-use Rattle.collection.proofs.Ledgers.{due_most, ok_step, sets_share, waiting_same}
+use Rattle.collection.proofs.Ledgers.{due_most, ok_step, brings_share, waiting_same}
 use Rattle.collection.proofs.Overs.{some_due}
 use Rattle.collection.proofs.Batches.{one_more}
 
@@ -62,7 +62,7 @@ read_more flushing block start first next old now new before middle after (step_
     record {
       written = h.written;
       flushed = λ on. (let f = h.flushed on in let due = cost.2.due in omega (arith, e, cost.0));
-      share = sets_share cost.2.key cost.2.row now.mapping new.mapping cost.2.sets ∙ h.share;
+      share = brings_share cost.2.key cost.2.row now.mapping new.mapping cost.2.sets ∙ h.share;
       moved = λ off. (let m = h.moved off in let more = cost.2.moved in omega (arith, e, cost.0));
       last = λ off. inl zero;
       once = (let due = due_most flushing old new still in omega (arith, zero, due));

@@ -5,7 +5,7 @@ use Rattle.std.proofs.lemmas.Nat.{div-mul-add}
 use Rattle.page_layout.specs.View.{View}
 use Rattle.page_layout.specs.declared.geometry.Geometry.{Geometry}
 use Rattle.page_layout.specs.declared.record.Record.{Record}
-use Rattle.page_layout.specs.Page.{Image}
+use Rattle.page_layout.specs.Page.{Page, Image}
 use Rattle.page_layout.specs.Geometry.{translation_pages, vmax_at}
 use Rattle.page_layout.specs.Change.{HoldsNone}
 use Rattle.allocation.specs.State.{live_at, is_closed}
@@ -22,7 +22,7 @@ use Rattle.collection.specs.Safe.{IsRam, IsIdle, ram, is_shut}
 use Rattle.collection.specs.Truth.{IsTrue}
 use Rattle.collection.specs.Live.{HoldsNoneIn, IsLivePage, FindsFirst, IsFirstLive}
 use Rattle.collection.specs.Results.{Goes, fault_after}
-use Rattle.collection.specs.Collect.{waiting, HasCopied, HasWritten, HasErased, Refreshes, StepCosts, FaultCosts, IsStepped}
+use Rattle.collection.specs.Collect.{waiting, HasBroughtOut, IsBroughtOut, HasWritten, HasErased, Refreshes, StepCosts, FaultCosts, IsStepped}
 use Rattle.collection.specs.Whole.{erases_after}
 use Rattle.collection.specs.Left.{IsHalfDone, IsCalm, IsFew, HasPassed, TouchesNoMore, HasStepped, StepsOn, told, pin_after, pinned_to}
 use Rattle.collection.specs.Turns.{Advances, erases_told}
@@ -30,7 +30,7 @@ use Rattle.collection.proofs.Gates.{goes_noted, refused_noted}
 use Rattle.collection.proofs.Noted.{but_noted, fresh_noted}
 use Rattle.collection.proofs.Lowest.{shut_closed, holds_none}
 use Rattle.collection.proofs.Lefts.{copy_law, write_law}
-use Rattle.collection.proofs.Ledgers.{sets_share, waiting_same}
+use Rattle.collection.proofs.Ledgers.{brings_share, waiting_same}
 
 some_same : {A : Type 0} (x y : A) → Some x ≡ Some y → x ≡ y
 some_same x y e = cc
@@ -46,8 +46,11 @@ module _ (r b : Ram) (to : Option Pinned) where
 
 -- what a step cost is the same of a memory with another pin
 module _ (flushing : Bool) (block first : ℕ) (r b : Ram) (to : Option Pinned) where
-  copied_pinned : HasCopied flushing r b → HasCopied flushing r (pinned_to to b)
+  copied_pinned : HasBroughtOut flushing r b → HasBroughtOut flushing r (pinned_to to b)
   copied_pinned c = record { stream = c.stream; put = record { failures = c.put.failures; put = c.put.put; next = c.put.next }; key = c.key; row = c.row; sets = c.sets; moved = c.moved; due = c.due }
+
+  pub page_pinned : (p : Page) → IsBroughtOut r b p → IsBroughtOut r (pinned_to to b) p
+  page_pinned p c = record { its = c.its; last = record { its = c.last.its; sound = c.last.sound; of_kind = c.last.of_kind; of_number = c.last.of_number; last = c.last.last }; row = c.row; sets = c.sets }
 
   written_pinned : HasWritten flushing r b → HasWritten flushing r (pinned_to to b)
   written_pinned c = record { put = record { failures = c.put.failures; put = c.put.put; next = c.put.next }; page = c.page; lowest = c.lowest; of_moved = c.of_moved; mapping = c.mapping; moved = c.moved; many = c.many; due = c.due; owed = c.owed }
@@ -71,7 +74,7 @@ half_on flushing r b p (step.Copied page) h goes (low, high, c, f) = λ q is.
     let half : IsHalfDone b next = record {
       within = rw g.geometry h.within;
       closed = (g.shut p.block h.within (shut_closed r.blocks p.block h.closed)).closed ∙ h.closed;
-      passed = (let m = c.moved in let q = h.passed in let may = waiting_same r b g.geometry (sets_share c.key c.row r.mapping b.mapping c.sets) in omega arith);
+      passed = (let m = c.moved in let q = h.passed in let may = waiting_same r b g.geometry (brings_share c.key c.row r.mapping b.mapping c.sets) in omega arith);
       on_die = rw g.geometry (omega (arith, high));
     } in
     subst (IsHalfDone b) (some_same next q is) half
@@ -87,7 +90,7 @@ half_on flushing r b p step.WroteBack h goes c = λ q is.
     subst (IsHalfDone b) (some_same next q is) half
 half_on flushing r b p step.Erased h goes c = λ q is. (let no : ⊥ = cc in absurd no)
 
--- ---- the page that was found is copied
+-- ---- the page that was found is brought out
 
 pub touched_from : (flushing : Bool) (r r1 r2 : Ram) (x x1 x2 : Image) (block first page row : ℕ) (found : Record) (body : List ℕ)
     (live : Option (ℕ × Record)) → IsTrue None r x → r1 ≡ r → x1 ≡ x → row ≡ block * r1.geometry.pages + page → page < r.geometry.pages
@@ -136,6 +139,11 @@ pub copied_told : (pin : Option Pinned) (block pages first before after : ℕ) (
 copied_told pin block pages first before after (step.Copied page) next reads is = (page, next, reads page refl)
 copied_told pin block pages first before after step.WroteBack next reads is = (let no : ⊥ = cc in absurd no)
 copied_told pin block pages first before after step.Erased next reads is = (let no : ⊥ = cc in absurd no)
+
+pub brought_told : (P : Type 0) (done : Progress) → ((page : ℕ) → ok_as Progress done ≡ ok_as Progress (step.Copied page) → P) → ok_as Step (told done) ≡ ok_as Step Copied → P
+brought_told P (step.Copied page) brought is = brought page refl
+brought_told P step.WroteBack brought is = (let no : ⊥ = cc in absurd no)
+brought_told P step.Erased brought is = (let no : ⊥ = cc in absurd no)
 
 -- ---- what a step leaves
 
@@ -233,6 +241,7 @@ module _ {N : Type 0} {view : View N} (flushing : Bool) (p : Pinned) where
     keys = k.keys;
     refreshes = λ on. fresh_noted (Some f) (ram a) (ram b) (k.refreshes on);
     cost = fault_noted (ram a) (ram b) (Some f) f k.cost;
+    brought = λ is. (let no : ⊥ = cc in absurd no);
     stays = k.stays;
     half_done = tt;
     calm = λ off calm. tt;

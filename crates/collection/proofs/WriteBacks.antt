@@ -1,6 +1,6 @@
 -- A translation page is brought up to date.
-use Rattle.std.proofs.Common.{◌≡◌, ◌≢◌, ℕ, ◌+◌, ◌*◌, ◌/◌, ◌%◌, ◌<◌, ◌≤◌, List, [], ◌∷◌, length, replicate, slice_get, Option, Some, None, Err}
-use Rattle.std.proofs.Common.{unwrap_or, ap, sym, ◌∙◌, subst, arith}
+use Rattle.std.proofs.Common.{◌≡◌, ◌≢◌, ℕ, ◌+◌, ◌*◌, ◌/◌, ◌%◌, ◌<◌, ◌≤◌, List, [], ◌∷◌, length, replicate, slice_get, Option, Some, None, MatchResult, Result, Ok, Err}
+use Rattle.std.proofs.Common.{unwrap_or, refl, ap, sym, ◌∙◌, subst, arith}
 use Rattle.std.specs.Prelude.{slice_index}
 use Rattle.std.specs.Int.{w32, from_le_bytes}
 use Rattle.std.proofs.Math.Nat.{div-add-mod'}
@@ -25,10 +25,10 @@ use Rattle.collection.specs.State.{Ram}
 use Rattle.translation_pages.specs.Entry.{entry_of}
 use Rattle.collection.specs.Pages.{newest_row}
 use Rattle.collection.specs.Maps.{Maps}
-use Rattle.collection.specs.Looks.{IsLoaded, IsFilled, IsPadded, IsReadFault}
+use Rattle.collection.specs.Looks.{IsLoaded, HoldsNewest, IsFilled, IsPadded, StartsFrom, IsBroughtUp, IsReadFault}
 use Rattle.collection.specs.Truth.{IsTrue}
 use Rattle.collection.specs.Safe.{IsOutside}
-use Rattle.collection.specs.Cost.{HasPut, HasRunOut, HasSpent, PutCosts, WriteBackCosts}
+use Rattle.collection.specs.Cost.{HasPut, HasRunOut, HasSpent, PutCosts, PageCosts, WriteBackCosts}
 use Rattle.collection.specs.Log.{Went}
 use Rattle.collection.specs.Settle.{Cleans}
 use Rattle.collection.specs.Results.{MayPut, IsReplaced, IsWrittenBack, Refused, Goes}
@@ -97,6 +97,25 @@ brought_up_by r r1 image t body lent body' w same is_lent loaded rows padded =
     let L : List ℕ → Type 0 = λ b. IsLoaded t b r.geometry image in
     brought_up r.geometry image r.directory r.mapping t lent body' w.maps (subst L (sym is_lent) loaded) (subst P same rows) (subst Q same padded)
 
+-- and it stands in the page buffer
+pub filled_at : (r : Ram) (image : Image) (t : ℕ) (row : Option ℕ) (body items lent body' : List ℕ) → IsTrue None r image
+    → HoldsNewest t row body r.geometry image → lent ≡ body → items ≡ body'
+    → ((i : ℕ) → i < entries r.geometry → t * entries r.geometry + i < r.geometry.sectors
+    → entry_at body' i ≡ unwrap_or (pending r.mapping (t * entries r.geometry + i)) (entry_at lent i)) → IsPadded r.geometry t body'
+    → IsFilled t items r.geometry image
+filled_at r image t row body items lent body' w holds is_lent same rows padded =
+    let filled : IsFilled t body' r.geometry image = brought_up_by r r image t body lent body' w refl is_lent holds.loaded rows padded in
+    subst (λ (b : List ℕ). IsFilled t b r.geometry image) (sym same) filled
+
+-- also where the page before was any
+pub brought_at : (t : ℕ) (row : Option ℕ) (g : Geometry) (m : MappingState) (before : Page) (items lent body' : List ℕ) → items ≡ body' → lent ≡ before.body → StartsFrom t row before
+    → ((i : ℕ) → i < entries g → t * entries g + i < g.sectors → entry_at body' i ≡ unwrap_or (pending m (t * entries g + i)) (entry_at lent i)) → IsBroughtUp t row g m items
+brought_at t row g m before items lent body' same is_lent starts rows = rw same (record {
+  before = before;
+  checked = starts;
+  rows = λ i lt within. rows i lt within ∙ ap (λ b. unwrap_or (pending m (t * entries g + i)) (entry_at b i)) is_lent;
+})
+
 -- ---- what follows a page read, which leaves the memory and the die as they were
 
 pub read_costs : (a b : Ram) (fault : EngineFault) → b ≡ a → IsReadFault fault → WriteBackCosts a b (Err fault)
@@ -108,14 +127,26 @@ read_costs a b Bus same is = tt
 pub read_went : (a b : Ram) (x y : Flash) (told told' : Option Recording) → b ≡ a → y ≡ x → told' ≡ told → Went a x told b y told'
 read_went a b x y told told' same still kept = rw (same, still, kept) (went_same a x told)
 
-pub put_costs : (a b c : Ram) (fault : EngineFault) → b ≡ a → PutCosts Meta b c (Err fault) → WriteBackCosts a c (Err fault)
-put_costs a b c ReadOnly same cost = (let P : Ram → Type 0 = λ z. HasRunOut Meta z c in subst P same cost)
-put_costs a b c SequenceSpent same cost = (let P : Ram → Type 0 = λ z. HasSpent Meta z c in subst P same cost)
-put_costs a b c Damaged same cost = absurd cost
-put_costs a b c Bus same cost = tt
+-- after the page was loaded
+pub loaded_costs : (a b c : Ram) (result : Result (Unit {0}) EngineFault) → b ≡ a → PageCosts Meta b c result → WriteBackCosts a c result
+loaded_costs a b c (Ok done) same cost = (let P : Ram → Type 0 = λ z. HasPut Meta z c in subst P same cost)
+loaded_costs a b c (Err ReadOnly) same cost = (let P : Ram → Type 0 = λ z. HasRunOut Meta z c in subst P same cost)
+loaded_costs a b c (Err SequenceSpent) same cost = (let P : Ram → Type 0 = λ z. HasSpent Meta z c in subst P same cost)
+loaded_costs a b c (Err Damaged) same cost = absurd cost
+loaded_costs a b c (Err Bus) same cost = tt
 
-pub refused_after : (a b c : Ram) (x y z : Image) (fault : EngineFault) → b ≡ a → y ≡ x → Refused b y c z fault → Refused a x c z fault
-refused_after a b c x y z fault same still w = (let P : Ram → Type 0 = λ r. Refused r x c z fault in let Q : Image → Type 0 = λ i. Refused b i c z fault in subst P same (subst Q still w))
+pub holds_loaded : (a b : Ram) (x y : Image) (t : ℕ) (row : Option ℕ) (body : List ℕ) → b ≡ a → y ≡ x → newest_row x (Translation t) ≡ row → IsLoaded t body a.geometry x → HoldsNewest t row body b.geometry y
+holds_loaded a b x y t row body same still newest_is loaded = rw (same, still) (record { newest = newest_is; loaded = loaded })
+
+pub true_loaded : (a b : Ram) (x y : Image) → b ≡ a → y ≡ x → IsTrue None a x → IsTrue None b y
+true_loaded a b x y same still w = rw (same, still) w
+
+pub written_loaded : (a b c : Ram) (x y z : Image) (t : ℕ) (result : Result (Unit {0}) EngineFault) → b ≡ a → y ≡ x
+    → MatchResult result (λ _. IsWrittenBack t b y c z) (Refused b y c z) → MatchResult result (λ _. IsWrittenBack t a x c z) (Refused a x c z)
+written_loaded a b c x y z t result same still w =
+    let P : Ram → Type 0 = λ r. MatchResult result (λ _. IsWrittenBack t r x c z) (Refused r x c z) in
+    let Q : Image → Type 0 = λ i. MatchResult result (λ _. IsWrittenBack t b i c z) (Refused b i c z) in
+    subst P same (subst Q still w)
 
 pub may_write_back : (r r1 : Ram) (x x1 : Image) (t : ℕ) (row : Option ℕ) (body : List ℕ) → IsTrue None r x → r1 ≡ r → x1 ≡ x → IsFilled t body r.geometry x → newest_row x (Translation t) ≡ row → MayPut kind.Translation t row body r1 x1
 may_write_back r r1 x x1 t row body w same still filled newest_is = rw (same, still) (record {
@@ -125,12 +156,6 @@ may_write_back r r1 x x1 t row body w same still filled newest_is = rw (same, st
 })
 
 -- ---- and once it was put
-
-pub cleaned_goes : (r r1 r2 : Ram) (m : MappingState) → r1 ≡ r → Goes r1 r2 → Goes r (record r2 { mapping = m })
-cleaned_goes r r1 r2 m same goes = (let P : Ram → Type 0 = λ z. Goes z (record r2 { mapping = m }) in subst P same (record { geometry = goes.geometry; next = goes.next; shut = goes.shut }))
-
-pub cleaned_cost : (r r1 r2 : Ram) (m : MappingState) → r1 ≡ r → HasPut Meta r1 r2 → HasPut Meta r (record r2 { mapping = m })
-cleaned_cost r r1 r2 m same cost = (let P : Ram → Type 0 = λ z. HasPut Meta z (record r2 { mapping = m }) in subst P same (record { failures = cost.failures; put = cost.put; next = cost.next }))
 
 pub cleans_by : (m0 m2 m3 : MappingState) (t : ℕ) → m2 ≡ m0 → Cleans (per_page m2) t m2 m3 → Cleans (per_page m0) t m0 m3
 cleans_by m0 m2 m3 t same cleans = (let P : MappingState → Type 0 = λ m. Cleans (per_page m) t m m3 in subst P same cleans)

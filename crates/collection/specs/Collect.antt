@@ -4,7 +4,8 @@ use Rattle.std.specs.Prelude.{slice_set, get_or, count_by, nat_lt, Option, Some,
 use Rattle.std.specs.Int.{div_ceil}
 use Rattle.std.specs.List.{range_with_len}
 use Rattle.std.specs.Map.{keys_of}
-use Rattle.page_layout.specs.Page.{Image}
+use Rattle.page_layout.specs.Page.{Image, Page}
+use Rattle.page_layout.specs.Key.{key_of}
 use Rattle.page_layout.specs.declared.geometry.Geometry.{Geometry}
 use Rattle.page_layout.specs.declared.record.Key.{Key}
 use Rattle.page_layout.specs.declared.record.Record.{Record}
@@ -35,9 +36,9 @@ use Rattle.collection.specs.State.{Ram}
 use Rattle.collection.specs.Pages.{newest_row}
 use Rattle.collection.specs.Safe.{is_shut}
 use Rattle.collection.specs.Cost.{HasPut, HasRunOut, HasSpent}
-use Rattle.collection.specs.Settle.{SetsMapping}
+use Rattle.collection.specs.Settle.{SetsMapping, BringsOut}
 use Rattle.collection.specs.Live.{NotAt, HoldsNoneIn, IsLivePage}
-use Rattle.collection.specs.Results.{IsSame, KeepsPage}
+use Rattle.collection.specs.Results.{IsSame, IsLastPage, KeepsPage}
 use Rattle.collection.specs.Truth.{IsTrue}
 
 -- ---- translation pages that have to be written
@@ -149,6 +150,24 @@ pub record HasCopied (flushing : Bool) (old new : Ram) : Type 0 where
   pub moved : length new.mapping.moved ≤ length old.mapping.moved + 1
   pub due : due_count flushing new ≤ due_count flushing old + 1
 
+-- A PAGE OF A KEY WAS BROUGHT OUT OF ITS BLOCK, at the cost of one page: it was copied, and its new row set or, a translation page for which
+-- sectors may wait, written back. At most one more sector is moved, and at most one translation page more has to be written.
+pub record HasBroughtOut (flushing : Bool) (old new : Ram) : Type 0 where
+  pub stream : Stream
+  pub put : HasPut stream old new
+  pub key : Key
+  pub row : ℕ
+  pub sets : BringsOut key row old.mapping new.mapping
+  pub moved : length new.mapping.moved ≤ length old.mapping.moved + 1
+  pub due : due_count flushing new ≤ due_count flushing old + 1
+
+-- WHICH PAGE IT WAS, whatever the die does: the one in the page buffer, programmed last, is of the key that was brought out
+pub record IsBroughtOut (old new : Ram) (p : Page) : Type 0 where
+  pub its : Record
+  pub last : IsLastPage its.kind its.number new p
+  pub row : ℕ
+  pub sets : BringsOut (key_of its) row old.mapping new.mapping
+
 -- The lowest translation page that is due was written back, and lacks no row: one less is due. UNLESS FLUSHING, more than the share of its
 -- sectors were moved, and they are so no more.
 pub record HasWritten (flushing : Bool) (old new : Ram) : Type 0 where
@@ -180,14 +199,14 @@ FaultCosts old new Bus = Unit {0}
 
 -- what a step costs, by what it answers; from this page on, none before it counts
 abbrev pub StepCosts : Bool → (block first : ℕ) → Ram → Ram → Result Progress EngineFault → Type 0
-StepCosts flushing block first old new (Ok (step.Copied page)) = (first ≤ page) × (page < old.geometry.pages) × HasCopied flushing old new × (new.fault ≡ old.fault)
+StepCosts flushing block first old new (Ok (step.Copied page)) = (first ≤ page) × (page < old.geometry.pages) × HasBroughtOut flushing old new × (new.fault ≡ old.fault)
 StepCosts flushing block first old new (Ok step.WroteBack) = HasWritten flushing old new
 StepCosts flushing block first old new (Ok step.Erased) = OwesNone flushing old × HasErased block old new
 StepCosts flushing block first old new (Err fault) = FaultCosts old new fault
 
 -- ---- what it does, where the die is honest
 
--- the page of the row was copied: the array is as it was, no newest page is in the row, each other one is where it was, and its block has one
+-- the page of the row was copied, or written back: the array is as it was, no newest page is in the row, each other one is where it was, and its block has one
 -- less
 pub record IsMovedOut (row : ℕ) (old : Ram) (before : Image) (new : Ram) (after : Image) : Type 0 where
   pub same : IsSame old before new after
@@ -202,13 +221,13 @@ pub record IsRenewed (key : Key) (old : Ram) (before : Image) (new : Ram) (after
   pub renewed : version_for old.geometry ≡ 2 → is_old after key ≡ false
   pub others : (other : Key) → other ≢ key → KeepsPage other before after
 
--- a page was copied: the array is as it was, the block has one newest page less, and none up to that page
+-- a page was brought out: the array is as it was, the block has one newest page less, and none up to that page
 pub record IsCopied (block page : ℕ) (old : Ram) (before : Image) (new : Ram) (after : Image) : Type 0 where
   pub same : IsSame old before new after
   pub fewer : live_at new.blocks block + 1 ≡ live_at old.blocks block
   pub none : HoldsNoneIn old.geometry.pages block 0 (page + 1) after
 
--- the same of a look for a page to be copied: where there is none, the block has no newest page
+-- the same of a look for a page to be brought out: where there is none, the block has no newest page
 abbrev pub IsCopiedOr : ℕ → Ram → Image → Ram → Image → Option ℕ → Type 0
 IsCopiedOr block old before new after None = IsSame old before new after × HoldsNone old.geometry.pages block after
 IsCopiedOr block old before new after (Some page) = IsCopied block page old before new after
@@ -230,22 +249,22 @@ pub record HasProgrammed (first now : Ram) (data_pages meta_pages : ℕ) : Type 
   pub account : Spending first.geometry.pages (counts_of first.blocks) (counts_of now.blocks) data_pages meta_pages
   pub next : now.next + (counts_of now.blocks).good ≡ first.next + (data_pages + meta_pages) + (counts_of first.blocks).good
 
--- THE STEPS OF A COLLECTION before its erase, the latest first: each copies a page, or writes a translation page back. Before them nothing has
+-- THE STEPS OF A COLLECTION before its erase, the latest first: each brings a page out, or writes a translation page back that has to be. Before them nothing has
 -- changed but the pin.
 abbrev pub LeadTo : Bool → Ram → List Step → Ram → Type 0
 LeadTo flushing old [] new = new ≡ record old { pin = record { block = new.pin.block; marks = old.pin.marks } }
-LeadTo flushing old (steps.Copied ∷ before) new = (mid : Ram) × LeadTo flushing old before mid × HasCopied flushing mid new
+LeadTo flushing old (steps.Copied ∷ before) new = (mid : Ram) × LeadTo flushing old before mid × HasBroughtOut flushing mid new
 LeadTo flushing old (steps.WroteBack ∷ before) new = (mid : Ram) × LeadTo flushing old before mid × HasWritten flushing mid new
 LeadTo flushing old (steps.Erased ∷ before) new = ⊥
 
--- how many of them are copies
+-- how many of them brought a page out
 abbrev pub copies_in : List Step → ℕ
 copies_in [] = 0
 copies_in (steps.Copied ∷ before) = copies_in before + 1
 copies_in (steps.WroteBack ∷ before) = copies_in before
 copies_in (steps.Erased ∷ before) = copies_in before
 
--- and how many write a translation page back
+-- and how many wrote a translation page back that had to be
 abbrev pub written_in : List Step → ℕ
 written_in [] = 0
 written_in (steps.Copied ∷ before) = written_in before
@@ -262,7 +281,7 @@ pub record OwesPage (flushing : Bool) (r : Ram) : Type 0 where
   pub due : 0 < due_count flushing r
   pub many : flushing ≡ false → waiting r < length r.mapping.moved
 
--- THE ACCOUNT OF A COLLECTION that has copied so many pages and written so many translation pages back. In a flush these, and those that are due,
+-- THE ACCOUNT OF A COLLECTION that has brought so many pages out, its copies, and then written so many translation pages back. In a flush these, and those that are due,
 -- are no more than the copies and those that were due at first. Else each was written for more than the share of the moved sectors, and only while
 -- more were moved than may wait. None is written twice.
 pub record IsAccount (flushing : Bool) (first now : Ram) (copies written : ℕ) : Type 0 where
@@ -272,7 +291,7 @@ pub record IsAccount (flushing : Bool) (first now : Ram) (copies written : ℕ) 
   pub last : flushing ≡ false → (written ≡ 0) ⊎ ((first.mapping.share + 1) * written + waiting first ≤ length first.mapping.moved + copies + first.mapping.share)
   pub once : written + due_count flushing now ≤ translation_pages first.geometry
 
--- So far so many pages were copied and so many translation pages written back, step by step.
+-- So far so many pages were brought out and so many translation pages written back, step by step.
 pub record Ledger (flushing : Bool) (first now : Ram) : Type 0 where
   pub steps_taken : List Step
   pub lead : LeadTo flushing first steps_taken now
@@ -286,7 +305,7 @@ pub record Ledger (flushing : Bool) (first now : Ram) : Type 0 where
   pub programmed : HasProgrammed first now data_pages meta_pages
   pub account : IsAccount flushing first now copies written
 
--- copies, translation pages until none has to be written, and the erase of the block
+-- pages brought out, translation pages until none has to be written, and the erase of the block
 pub record HasCollected (flushing : Bool) (block : ℕ) (old new : Ram) : Type 0 where
   pub mid : Ram
   pub ledger : Ledger flushing old mid

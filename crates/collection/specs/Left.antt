@@ -1,5 +1,5 @@
 -- A block that is collected from turn to turn, and how much of its collection is left.
-use Rattle.std.specs.Prelude.{◌≡◌, ◌≢◌, ℕ, ◌+◌, ◌-◌, ◌/◌, ◌<◌, ◌≤◌, ◌==◌, ◌||◌, ◌&&◌, min, Bool, true, false, not, List, length, replicate, filter, count_by, Option, Some, None, MatchOption}
+use Rattle.std.specs.Prelude.{◌≡◌, ◌≢◌, ◌↔◌, ℕ, ◌+◌, ◌-◌, ◌/◌, ◌<◌, ◌≤◌, ◌==◌, ◌||◌, ◌&&◌, min, Bool, true, false, not, List, length, replicate, filter, count_by, Option, Some, None, MatchOption}
 use Rattle.std.specs.Int.{div_ceil}
 use Rattle.std.specs.List.{range_with_len}
 use Rattle.std.specs.Option.{ForSome}
@@ -20,7 +20,7 @@ use Rattle.collection.specs.Live.{HoldsNoneIn}
 use Rattle.collection.specs.Safe.{IsRam, IsIdle}
 use Rattle.collection.specs.Truth.{IsTrue}
 use Rattle.collection.specs.Results.{Goes, LeavesNewest, IsSame}
-use Rattle.collection.specs.Collect.{has_moved, is_owed, waiting, OwesNone, HasCopied, HasWritten, HasErased}
+use Rattle.collection.specs.Collect.{has_moved, is_owed, waiting, OwesNone, HasCopied, HasBroughtOut, HasWritten, HasErased}
 
 -- ---- how much is left
 
@@ -122,7 +122,7 @@ told (progress.Copied page) = Copied
 told progress.WroteBack = WroteBack
 told progress.Erased = Erased
 
--- what is pinned after a step: from the next page on, once all were copied from the end on, and nothing after the erase
+-- what is pinned after a step: from the next page on, once all were brought out from the end on, and nothing after the erase
 abbrev pub pin_after : ℕ → ℕ → Progress → Option Pinned
 pin_after block pages (progress.Copied page) = Some (record { block = block; first = page + 1 })
 pin_after block pages progress.WroteBack = Some (record { block = block; first = pages })
@@ -132,13 +132,13 @@ pin_after block pages progress.Erased = None
 abbrev pub pinned_to : Option Pinned → Ram → Ram
 pinned_to to r = record r { pin = record { block = to; marks = r.pin.marks } }
 
--- what a step costs: a copy, a translation page, or the erase
+-- what a step costs: a page that is brought out, a translation page, or the erase
 abbrev pub StepSpends : Bool → Pinned → Ram → Ram → Step → Type 0
-StepSpends flushing p old new Copied = HasCopied flushing old new
+StepSpends flushing p old new Copied = HasBroughtOut flushing old new
 StepSpends flushing p old new WroteBack = HasWritten flushing old new
 StepSpends flushing p old new Erased = HasErased p.block old new
 
--- and what is pinned then: the block from the page on that follows the copied one; once all were copied, from the end on; nothing after the erase
+-- and what is pinned then: the block from the page on that follows the one brought out; once all were, from the end on; nothing after the erase
 abbrev pub PinsOn : ℕ → Pinned → Option Pinned → Step → Type 0
 PinsOn pages p pin Copied = (page : ℕ) × (p.first ≤ page) × (page < pages) × (pin ≡ Some (record { block = p.block; first = page + 1 }))
 PinsOn pages p pin WroteBack = pin ≡ Some (record { block = p.block; first = pages })
@@ -149,7 +149,7 @@ pub record HasStepped (flushing : Bool) (p : Pinned) (old new : Ram) (step : Ste
   pub cost : StepSpends flushing p old new step
   pub next : PinsOn old.geometry.pages p new.pin.block step
 
--- WHERE THE DIE IS HONEST: the array is as it was, a copy leaves the block one newest page less, the other steps find none in it, and each but the
+-- WHERE THE DIE IS HONEST: the array is as it was, a page that is brought out leaves the block one newest page less, the other steps find none in it, and each but the
 -- erase leaves less to do
 pub record StepsOn (flushing : Bool) (p : Pinned) (old : Ram) (before : Image) (new : Ram) (after : Image) (step : Step) : Type 0 where
   pub same : IsSame old before new after
@@ -200,7 +200,7 @@ abbrev pub FewLaw : Type 0
 FewLaw = (extra : ℕ) (old new : Ram) (before after : Image) → IsRam old → IsRam new → IsTrue None old before → IsTrue None new after → IsCalm old
     → LeavesPin old new → LeavesNewest old before after → PinIsFew extra old → PinIsFew extra new
 
--- EACH PAGE THAT IS COPIED LOWERS IT: where another sector is moved, its newest page was in the block
+-- EACH PAGE THAT IS BROUGHT OUT LOWERS IT: where another sector is moved, its newest page was in the block
 abbrev pub CopyLaw : Type 0
 CopyLaw = (flushing : Bool) (old new : Ram) (before after : Image) (block : ℕ) → block < old.geometry.blocks → is_closed old.blocks block ≡ true
     → new.geometry ≡ old.geometry → LeavesNewest old before after → TouchesNoMore flushing block old before new after
@@ -211,3 +211,7 @@ abbrev pub WriteLaw : Type 0
 WriteLaw = (flushing : Bool) (old new : Ram) (before after : Image) (block : ℕ) → IsRam new → IsTrue None new after → block < old.geometry.blocks
     → new.geometry ≡ old.geometry → live_at new.blocks block ≡ 0 → HasWritten flushing old new
     → left_in flushing new after block + 1 ≤ left_in flushing old before block
+
+-- WITH SHARE 0 EACH PAGE THAT IS BROUGHT OUT IS COPIED, as it stands
+abbrev pub UnsharedCopyLaw : Type 0
+UnsharedCopyLaw = (flushing : Bool) (old new : Ram) → old.mapping.share ≡ 0 → HasBroughtOut flushing old new ↔ HasCopied flushing old new

@@ -21,6 +21,11 @@ use Rattle.collection.specs.Pages.{newest_row}
 pub record IsLoaded (t : ℕ) (body : List ℕ) (g : Geometry) (image : Image) : Type 0 where
   pub entry : (n : ℕ) → n / entries g ≡ t → entry_at body (n % entries g) ≡ entry_of g image n
 
+-- the newest translation page t, or an empty one where there is none, and it is in this row
+pub record HoldsNewest (t : ℕ) (row : Option ℕ) (body : List ℕ) (g : Geometry) (image : Image) : Type 0 where
+  pub newest : newest_row image (Translation t) ≡ row
+  pub loaded : IsLoaded t body g image
+
 -- the entries of translation page t past the last sector are empty
 pub record IsPadded (g : Geometry) (t : ℕ) (body : List ℕ) : Type 0 where
   pub past : (i : ℕ) → i < entries g → g.sectors ≤ t * entries g + i → entry_at body i ≡ None

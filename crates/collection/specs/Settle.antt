@@ -1,11 +1,11 @@
 -- How the memory follows a page that was put.
-use Rattle.std.specs.Prelude.{◌≡◌, ◌≢◌, ℕ, ◌+◌, ◌/◌, ◌≤◌, List, length, slice_set, Option, Some, None, IsSome}
+use Rattle.std.specs.Prelude.{◌≡◌, ◌≢◌, ℕ, ◌+◌, ◌/◌, ◌<◌, ◌≤◌, List, length, slice_set, Option, Some, None, IsSome}
 use Rattle.std.specs.Map.{keys_of}
 use Rattle.page_layout.specs.declared.geometry.Geometry.{Geometry}
 use Rattle.page_layout.specs.declared.record.Key.{Key}
 use Rattle.page_layout.specs.declared.record.Key.TheVariants.{Sector, Translation, Table}
 use Rattle.page_layout.specs.Geometry.{translation_pages}
-use Rattle.mapping_cache.specs.Mapping.{MappingState, IsMapping, HasLimitsOf, CanMove, per_page, moved_in, without_page, known, pending, slot_of}
+use Rattle.mapping_cache.specs.Mapping.{MappingState, IsMapping, HasLimitsOf, CanMove, per_page, moved_in, without_page, known, pending, slot_of, cleaned}
 use Rattle.collection.specs.State.{Ram}
 
 -- a page of a sector is put where the sector is cached
@@ -38,6 +38,18 @@ abbrev pub SetsMapping : Key → ℕ → MappingState → MappingState → Type 
 SetsMapping (Sector n) row old new = SetsRow n (Some row) old new
 SetsMapping (Translation t) row old new = new ≡ old
 SetsMapping (Table u) row old new = new ≡ old
+
+-- TRANSLATION PAGE t WAS BROUGHT OUT of a block that is collected: where no sector may wait for it, it was copied as it stands, and else it was
+-- written back. Then it lacks no row, and none of its sectors is moved.
+pub record BringsOutPage (t : ℕ) (old new : MappingState) : Type 0 where
+  pub copied : old.share ≡ 0 → new ≡ old
+  pub written : 0 < old.share → new ≡ cleaned old t
+
+-- the same of a page of any key: the row of a sector, or of a table page, is set as by a copy
+abbrev pub BringsOut : Key → ℕ → MappingState → MappingState → Type 0
+BringsOut (Sector n) row old new = SetsMapping (Sector n) row old new
+BringsOut (Translation t) row old new = BringsOutPage t old new
+BringsOut (Table u) row old new = SetsMapping (Table u) row old new
 
 abbrev pub SetsDirectory : Geometry → Key → ℕ → List (Option ℕ) → List (Option ℕ) → Type 0
 SetsDirectory g (Sector n) row old new = new ≡ old

@@ -1,5 +1,5 @@
 -- What a stop in the middle of a call leaves on the die.
-use Rattle.std.specs.Prelude.{◌≡◌, ◌⊎◌, ◌+◌, ◌<◌, ◌^◌, ℕ, List, Option, IsSome}
+use Rattle.std.specs.Prelude.{◌≡◌, ◌⊎◌, ◌+◌, ◌<◌, ◌^◌, ℕ, min, List, Option, IsSome}
 use Rattle.page_layout.specs.View.{View}
 use Rattle.page_layout.specs.declared.geometry.Geometry.{Geometry}
 use Rattle.page_layout.specs.Page.{Image}
@@ -17,9 +17,9 @@ use Rattle.collection.specs.Safe.{ram, image_in}
 use Rattle.collection.specs.Results.{array_after}
 use Rattle.collection.specs.Collect.{waiting}
 
--- for how many stale sectors an image mounts that this memory's device leaves: those that are cached and those that may be moved
+-- for how many stale sectors an image mounts that this memory's device leaves: those that are cached and those that may be moved, and never more than there are
 abbrev pub room_of : Ram → ℕ
-room_of r = r.mapping.capacity + (waiting r + r.geometry.pages)
+room_of r = min r.geometry.sectors (r.mapping.capacity + (waiting r + r.geometry.pages))
 
 -- AN IMAGE THAT A STOP IN A CALL MAY LEAVE: its array is the one before the call or the one after it, and it mounts
 pub record IsLeftByStop (r : Ram) (before after left : Image) : Type 0 where

@@ -19,7 +19,7 @@ next_of pages (Copied page) = Some (page + 1)
 next_of pages WroteBack = Some pages
 next_of pages Erased = None
 
--- a page that was copied is one of a block
+-- a page that was brought out is one of a block
 abbrev pub step_within : ℕ → Progress → Type 0
 step_within pages (Copied page) = page < pages
 step_within pages WroteBack = Unit {0}
@@ -39,7 +39,7 @@ busy_of r = (counts_of r.blocks).good + (r.geometry.blocks + 2 - ((counts_of r.b
 abbrev pub work_left : Ram → ℕ
 work_left r = 2 * (2 ^ 64 - 1 - r.next) + busy_of r
 
--- so far the array is as it was, each copy has left the block one newest page less and moved one sector at most, and no newest page is in its
+-- so far the array is as it was, each page that was brought out has left the block one newest page less and moved one sector at most, and no newest page is in its
 -- first pages
 pub record IsSoFar (block first copies : ℕ) (old : Ram) (before : Image) (now : Ram) (after : Image) : Type 0 where
   pub same : IsSame old before now after
@@ -48,7 +48,7 @@ pub record IsSoFar (block first copies : ℕ) (old : Ram) (before : Image) (now 
   pub none : HoldsNoneIn old.geometry.pages block 0 first after
 
 -- WHATEVER THE DIE DOES A COLLECTION READS FEW PAGES: so far two for each page that it is past, and one for each translation page that it has
--- written back. Of these there were no more than the pages that it is past: in a flush with those that are due, and else each was written for more
+-- written back once none was left to bring out. Of these there were no more than the pages that it is past: in a flush with those that are due, and else each was written for more
 -- than the share of the moved sectors, and only while more were moved than may wait. And no more than there are.
 pub record HasRead (flushing : Bool) (start first : ℕ) (old now : Ram) (before after : ℕ) : Type 0 where
   pub written : ℕ
@@ -62,7 +62,7 @@ pub record HasRead (flushing : Bool) (start first : ℕ) (old now : Ram) (before
   pub within : first ≤ old.geometry.pages
   pub few : after ≤ before + (2 * (first - start) + written)
 
--- so many steps have been taken; translation pages are written only once no page is left to copy
+-- so many steps have been taken; translation pages are written before the erase only once no page is left to bring out
 pub record IsUnderWay (flushing : Bool) (block first : ℕ) (old now : Ram) (known : Type 0) (before after : Image) : Type 0 where
   pub ledger : Ledger flushing old now
   pub order : (ledger.written ≡ 0) ⊎ (old.geometry.pages ≤ first)

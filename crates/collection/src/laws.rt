@@ -1,12 +1,12 @@
 //! What calls of the engine come to, each as one statement.
-ghost use Rattle.collection.specs.Left.{IdleLaw, PinLaw, LeftLaw, UnsharedLeftLaw, TouchedLaw, KeptLaw, CalmLaw, PassedLaw, FewLaw, CopyLaw, WriteLaw};
+ghost use Rattle.collection.specs.Left.{IdleLaw, PinLaw, LeftLaw, UnsharedLeftLaw, TouchedLaw, KeptLaw, CalmLaw, PassedLaw, FewLaw, CopyLaw, WriteLaw, UnsharedCopyLaw};
 ghost use Rattle.collection.specs.Stops.{OneGainLaw};
 ghost use Rattle.collection.specs.Rescued.{LazyLaw, FollowedLaw, AloneLaw, OneLowestLaw, OneAnswerLaw};
 
 /// How much is left of a collection that goes from turn to turn: less than a block's pages where a
-/// victim worth collecting was pinned; each copy and each translation page that is written lowers it,
-/// and no other call raises it, or ends what holds between calls. With share 0 it counts each translation
-/// page of a newest page or of a moved sector. (This project.)
+/// victim worth collecting was pinned; each page that is brought out and each translation page that is
+/// written lowers it, and no other call raises it, or ends what holds between calls. With share 0 it
+/// counts each translation page of a newest page or of a moved sector. (This project.)
 pub fn left_laws()
     ensures idle { IdleLaw }
     ensures pinned { PinLaw }
@@ -19,6 +19,12 @@ pub fn left_laws()
     ensures few { FewLaw }
     ensures copied { CopyLaw }
     ensures written { WriteLaw }
+{}
+
+/// With share 0 a collection copies each page that it brings out of its block, a translation page too.
+/// With a greater one a translation page is written back in place of copied. (This project.)
+pub fn bring_out_laws()
+    ensures unshared { UnsharedCopyLaw }
 {}
 
 /// A rescue takes one page, that of lowest row. Behind a page of a cached sector nothing is programmed, and

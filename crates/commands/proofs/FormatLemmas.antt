@@ -5,7 +5,7 @@ use lib.Seq.{take-append_seam}
 use Rattle.page_layout.specs.declared.geometry.Geometry.{Geometry}
 use Rattle.page_layout.specs.Counter.{HasRisen}
 use Rattle.page_layout.specs.Faults.{HasNumbers}
-use Rattle.page_layout.specs.Geometry.{row_count, page_bytes}
+use Rattle.page_layout.specs.Geometry.{need, row_count, page_bytes}
 use Rattle.page_layout.specs.Flash.{Flash}
 use Rattle.page_layout.specs.Raw.{raw_image, raw_bytes}
 use Rattle.nand_die.specs.DieValue.{DieValue}
@@ -28,11 +28,11 @@ use Rattle.commands.specs.Format.{DoesFormat, HasFormatted, HasInput, IsFormatRe
 
 -- the die that came back holds the image of the one that was formatted, and no program failed
 pub formatted_image : (g : Geometry) (before after : List ℕ) (good : ℕ) (old new : Flash) (back : DieValue) → length before ≡ row_count g * page_bytes g
-    → old ≡ loaded_flash g before [] → IsFormatted g old new good → back.state.flash ≡ new → new.geometry ≡ g → is_flawless back ≡ true
+    → old ≡ loaded_flash g before [] → IsFormatted g (need g) old new good → back.state.flash ≡ new → new.geometry ≡ g → is_flawless back ≡ true
     → raw_image back.state.flash.geometry after ≡ back.state.flash.image → after ≡ raw_bytes back.state.flash.image → IsFormattedImage g before after good
 formatted_image g before after good old new back whole loaded formatted same its flawless pages bytes =
-    let its_format : IsFormatted g (loaded_flash g before []) back.state.flash good =
-    subst (λ (f : Flash). IsFormatted g f back.state.flash good) loaded (subst (λ (f : Flash). IsFormatted g old f good) (sym same) formatted) in
+    let its_format : IsFormatted g (need g) (loaded_flash g before []) back.state.flash good =
+    subst (λ (f : Flash). IsFormatted g (need g) f back.state.flash good) loaded (subst (λ (f : Flash). IsFormatted g (need g) old f good) (sym same) formatted) in
     record {
       whole = whole;
       flash = back.state.flash;
@@ -49,7 +49,7 @@ not_risen was now most (inr top) le none = omega arith
 
 -- a refusal of a die of which no program failed
 refused_as : (g : Geometry) (before : List ℕ) (refused : FormatFault) (back : DieValue) → is_flawless back ≡ true → (refused ≡ refuse.Bus → ⊥)
-    → Formats g (loaded_flash g before []) back.state.flash (Err refused) → IsFormatRefused g (raw_image g before) refused
+    → Formats g (need g) (loaded_flash g before []) back.state.flash (Err refused) → IsFormatRefused g (raw_image g before) refused
 refused_as g before (refuse.TooFewGood good asked) back flawless answered few =
     let passed : failures few.log ≡ 0 = all_passed g before _ back few.log flawless few.done.legal few.done.leads in
     (omega (arith, few.fewer, passed), few.few, few.asked_is)
@@ -61,11 +61,11 @@ refused_as g before refuse.WriteFailed back flawless answered failed =
 refused_as g before (refuse.NotFresh row) back flawless answered used = (used.enough, used.first)
 
 pub unformatted : (g : Geometry) (before : List ℕ) (refused : FormatFault) (old new : Flash) (back : DieValue) → length before ≡ row_count g * page_bytes g
-    → old ≡ loaded_flash g before [] → Formats g old new (Err refused) → back.state.flash ≡ new → is_flawless back ≡ true → (refused ≡ refuse.Bus → ⊥) → IsUnformatted g before (fault.Format refused)
+    → old ≡ loaded_flash g before [] → Formats g (need g) old new (Err refused) → back.state.flash ≡ new → is_flawless back ≡ true → (refused ≡ refuse.Bus → ⊥) → IsUnformatted g before (fault.Format refused)
 unformatted g before refused old new back whole loaded formats same flawless answered = (
   whole,
   refused_as g before refused back flawless answered
-      (subst (λ (f : Flash). Formats g f back.state.flash (Err refused)) loaded (subst (λ (f : Flash). Formats g old f (Err refused)) (sym same) formats)),
+      (subst (λ (f : Flash). Formats g (need g) f back.state.flash (Err refused)) loaded (subst (λ (f : Flash). Formats g (need g) old f (Err refused)) (sym same) formats)),
 )
 
 -- ---- the command

@@ -33,8 +33,8 @@ use Rattle.commands.specs.Lines.{IsUnprinted}
 use Rattle.commands.specs.Steady.{has_spared}
 use Rattle.commands.specs.Serve.{Driver, HasClaim, IsDieUnmade, bad_in, failures_of, flash_behind, recorded_of, driver_view}
 use Rattle.commands.specs.Migrate.{DoesMigrate, EndsShort, HasMigrated, IsSettled, IsUnbegun, IsUnmigratedDie, KeepsAll, MigratesDie, RenewsThenFlushes, StartsOver, migrated_line}
-use Rattle.ftl_device.proofs.CallLemmas.{mountable_kept}
-use Rattle.ftl_device.proofs.PinLemmas.{room_is}
+use Rattle.ftl_device.proofs.MountableLemmas.{restart_more}
+use Rattle.ftl_device.proofs.PinLemmas.{room_within}
 use Rattle.block_server.proofs.Checking.{accepted_for, closed_as, geometry_is, is_begun, well}
 use Rattle.commands.proofs.BadLemmas.{named_bad}
 use Rattle.commands.proofs.FormatLemmas.{not_risen}
@@ -135,8 +135,7 @@ mounts_on g capacity c nand first last starts device sized kept =
     let none : last.engine.mapping.share ≡ 0 = kept.share ∙ ap (λ (r : Ram). r.mapping.share) starts.begun.begun in
     let P : Geometry → ℕ → Type 0 = λ k n. n + k.pages ≤ 65536 → IsMountable k (n + k.pages) (flash_behind last.engine.nand).image in
     let here : P last.engine.geometry last.engine.mapping.capacity = λ most.
-    let room = room_is (ram last.engine) none in
-    subst (λ n. IsMountable last.engine.geometry n (flash_behind last.engine.nand).image) room (mountable_kept flash_behind last.engine last.engine refl device.engine.memory kept.well.truth (omega (arith, most, room))) in
+    restart_more (ram last.engine) (flash_behind last.engine.nand).image (last.engine.mapping.capacity + last.engine.geometry.pages) device.engine.memory kept.well.truth (room_within (ram last.engine) none) most in
     subst (λ k. P k capacity) sized (subst (λ n. P last.engine.geometry n) held here)
 
 -- the log of the calls is legal by the accounts of the image

@@ -30,7 +30,7 @@ use Rattle.commands.specs.Files.{Gives, Left, LeavesUntouched, with_store, writt
 pub record IsFormattedImage (g : Geometry) (before after : List ℕ) (good : ℕ) : Type 0 where
   pub whole : length before ≡ row_count g * page_bytes g
   pub flash : Flash
-  pub formatted : IsFormatted g (loaded_flash g before []) flash good
+  pub formatted : IsFormatted g (need g) (loaded_flash g before []) flash good
   pub passed : failures formatted.log ≡ 0
   pub pages : raw_image g after ≡ flash.image
   pub bytes : after ≡ raw_bytes flash.image

@@ -10,7 +10,7 @@ use crate::recorder::{Cycle, Recorder};
 use certificate::{Certificate, read_certificate, write_certificate};
 use ftl_device::{Device, StartFault};
 use image_check::{Accepted, check};
-use mount::{format, mount};
+use mount::{format_at, mount};
 use nand_die::{Die, Fault, Mark};
 use onfi_cycles::{Bus, Driver, Nand};
 use page_layout::geometry::Geometry;
@@ -93,17 +93,18 @@ pub fn unwired(driver: Driver<Recorder>) -> (Die, Vec<Cycle>) {
     (die, seen)
 }
 
-// The die behind this bus, formatted, and how many blocks are good.
+// The die behind this bus, formatted for a device of this share, and how many blocks are good.
 fn formatted_on<B: Bus + Drop>(
     alloc: Global,
     bus: B,
     geometry: Geometry,
+    share: u32,
 ) -> Result<(Driver<B>, u32), Fail>
     requires { B.honest bus ≡ true → (B.die bus).flash.geometry ≡ geometry }
     ensures { IfOk result (λ made. made.0.geometry ≡ geometry) }
 {
     let mut driver = driver_on(bus, geometry)?;
-    let good = format(alloc, &mut driver, &geometry)?;
+    let good = format_at(alloc, &mut driver, &geometry, share)?;
     Ok((driver, good))
 }
 
@@ -121,7 +122,7 @@ pub fn formatted(
     ensures { IfOk result (λ driver. driver.geometry ≡ geometry) }
 {
     let die = new_die(alloc, geometry, &[], failing, page_left)?;
-    let (driver, _) = formatted_on(alloc, Recorder::new(alloc, die), geometry)?;
+    let (driver, _) = formatted_on(alloc, Recorder::new(alloc, die), geometry, 0)?;
     Ok(driver)
 }
 
@@ -157,7 +158,26 @@ pub fn marked_die(
     ensures { IfOk result (λ made. made.0.geometry ≡ geometry) }
 {
     let die = new_die(alloc, geometry, marks, failing, page_left)?;
-    formatted_on(alloc, die, geometry)
+    formatted_on(alloc, die, geometry, 0)
+}
+
+/// The die of `formatted_die`, for a device of this share.
+///
+/// # Errors
+///
+/// A growth was refused, or the format is.
+pub fn formatted_die_at(
+    alloc: Global,
+    geometry: Geometry,
+    failing: &[u16],
+    page_left: usize,
+    share: u32,
+) -> Result<Driver<Die>, Fail>
+    ensures { IfOk result (λ driver. driver.geometry ≡ geometry) }
+{
+    let die = new_die(alloc, geometry, &[], failing, page_left)?;
+    let (driver, _) = formatted_on(alloc, die, geometry, share)?;
+    Ok(driver)
 }
 
 /// The certificate that a mount gives.
@@ -262,6 +282,32 @@ pub fn started<N: Nand + Drop>(
     let certificate = mounted(alloc, &mut nand, geometry, capacity)?;
     let accepted = checked(alloc, &mut nand, geometry, capacity, &certificate)?;
     start_on(alloc, nand, accepted)
+}
+
+/// The same with this share.
+///
+/// # Errors
+///
+/// Those of `mounted` and `checked`, the geometry has no such share, or a growth was refused.
+pub fn started_at<N: Nand + Drop>(
+    alloc: Global,
+    mut nand: N,
+    geometry: &Geometry,
+    capacity: u32,
+    share: u32,
+) -> Result<Device<N>, Fail>
+    requires { (N.view.flash nand).geometry ≡ geometry.now }
+    ensures { IfOk result (IsDevice N.view.flash) }
+{
+    if !geometry.is_share(share) {
+        return Err(Fail::new("no share"));
+    }
+    let certificate = mounted(alloc, &mut nand, geometry, capacity)?;
+    let accepted = checked(alloc, &mut nand, geometry, capacity, &certificate)?;
+    match Device::start_at(alloc, nand, share, accepted) {
+        Ok(device) => Ok(device),
+        Err(_) => Err(Fail::new("no memory")),
+    }
 }
 
 /// The device with a cache of so many on a formatted die where nothing fails.

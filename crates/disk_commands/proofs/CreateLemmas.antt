@@ -2,7 +2,6 @@
 use Rattle.std.proofs.Common.{◌≡◌, ◌<◌, ◌⊎◌, inl, inr, ℕ, Bool, true, false, List, length, Option, refl, subst, sym}
 use Rattle.std.specs.Prelude.{Result, Ok, Err, IfErr, OnOk}
 use Rattle.std.specs.Borrow.{Bor}
-use Rattle.page_layout.specs.declared.geometry.Geometry.{Geometry}
 use Rattle.file_die.specs.Store.{Held, blank}
 use Rattle.disk_server.specs.declared.format.CreateFault.{CreateFault}
 use Rattle.disk_server.specs.declared.format.CreateFault.TheVariants as create
@@ -23,33 +22,34 @@ use Rattle.disk_commands.specs.Created.{HasCreated, IsDieAskedFor, IsUncreated, 
 use Rattle.disk_commands.specs.Files.{DiskFileAnswers, FailsNoMore, Kept, with_kept}
 
 -- erased pages were not formatted, for this
-pub not_formatted : {S : Type 0} (held : S → Held) (honest : S → Bool) (failed : S → ℕ) (a : DiskFileAnswers) (path : Bor (List ℕ)) (g : Geometry) (bad : List ℕ) (store given : S) (why : CreateFault)
-    → honest store ≡ a.honest → (honest store ≡ true → HasMarks g bad (held store)) → IsDiskUnmade held honest failed store given why
-    → IsUnformatted held honest failed a path.now g bad (unformatted path why)
-not_formatted held honest failed a path g bad store given (create.Open open_store.OutOfMemory) is erased un = tt
-not_formatted held honest failed a path g bad store given (create.Open open_store.Device) is erased un = (refl, (store, given, is, erased, un))
-not_formatted held honest failed a path g bad store given (create.Open open_store.Reset) is erased un = (refl, (store, given, is, erased, un))
-not_formatted held honest failed a path g bad store given (create.Open open_store.Flush) is erased un = (refl, (store, given, is, erased, un))
-not_formatted held honest failed a path g bad store given (create.Open (open_store.Mount refusal)) is erased un = (refl, (store, given, is, erased, un))
-not_formatted held honest failed a path g bad store given (create.Format fault) is erased un = (refl, (store, given, is, erased, un))
-not_formatted held honest failed a path g bad store given create.Sync is erased un = (refl, (store, given, is, erased, un))
+pub not_formatted : {S : Type 0} (held : S → Held) (honest : S → Bool) (failed : S → ℕ) (a : DiskFileAnswers) (path : Bor (List ℕ)) (shape : DiskShape) (bad : List ℕ) (store given : S) (why : CreateFault)
+    → honest store ≡ a.honest → (honest store ≡ true → HasMarks shape.geometry bad (held store)) → IsDiskUnmade held honest failed shape.share store given why
+    → IsUnformatted held honest failed a path.now shape bad (unformatted path why)
+not_formatted held honest failed a path shape bad store given (create.Open open_store.OutOfMemory) is erased un = tt
+not_formatted held honest failed a path shape bad store given (create.Open open_store.Device) is erased un = (refl, (store, given, is, erased, un))
+not_formatted held honest failed a path shape bad store given (create.Open open_store.Reset) is erased un = (refl, (store, given, is, erased, un))
+not_formatted held honest failed a path shape bad store given (create.Open open_store.Flush) is erased un = (refl, (store, given, is, erased, un))
+not_formatted held honest failed a path shape bad store given (create.Open open_store.Share) is erased un = (refl, (store, given, is, erased, un))
+not_formatted held honest failed a path shape bad store given (create.Open (open_store.Mount refusal)) is erased un = (refl, (store, given, is, erased, un))
+not_formatted held honest failed a path shape bad store given (create.Format fault) is erased un = (refl, (store, given, is, erased, un))
+not_formatted held honest failed a path shape bad store given create.Sync is erased un = (refl, (store, given, is, erased, un))
 
 -- no erased pages were made, for this
-pub not_blank : {S : Type 0} (held : S → Held) (honest : S → Bool) (failed : S → ℕ) (a : DiskFileAnswers) (path : Bor (List ℕ)) (g : Geometry) (bad : List ℕ) (why : DiskFileFault) → a.fails path.now why
-    → IsUnformatted held honest failed a path.now g bad (told_at why path 0)
-not_blank held honest failed a path g bad file.Read is = (refl, is)
-not_blank held honest failed a path g bad file.Write is = (refl, inl is)
-not_blank held honest failed a path g bad file.InUse is = (refl, is)
-not_blank held honest failed a path g bad file.Exists is = (refl, is)
-not_blank held honest failed a path g bad (file.Length found) is = (refl, refl, is)
-not_blank held honest failed a path g bad file.OutOfMemory is = tt
+pub not_blank : {S : Type 0} (held : S → Held) (honest : S → Bool) (failed : S → ℕ) (a : DiskFileAnswers) (path : Bor (List ℕ)) (shape : DiskShape) (bad : List ℕ) (why : DiskFileFault) → a.fails path.now why
+    → IsUnformatted held honest failed a path.now shape bad (told_at why path 0)
+not_blank held honest failed a path shape bad file.Read is = (refl, is)
+not_blank held honest failed a path shape bad file.Write is = (refl, inl is)
+not_blank held honest failed a path shape bad file.InUse is = (refl, is)
+not_blank held honest failed a path shape bad file.Exists is = (refl, is)
+not_blank held honest failed a path shape bad (file.Length found) is = (refl, refl, is)
+not_blank held honest failed a path shape bad file.OutOfMemory is = tt
 
 -- they were not marked
-pub not_marked : {S : Type 0} (held : S → Held) (honest : S → Bool) (failed : S → ℕ) (a : DiskFileAnswers) (path : Bor (List ℕ)) (g : Geometry) (bad : List ℕ) (store left : S) (told : DiskCommandFault)
-    → honest store ≡ a.honest → (honest store ≡ true → held store ≡ blank g) → 0 < length bad → ((told ≡ fault.OutOfMemory) ⊎ ((told ≡ fault.Write path) × HasRisen (failed store) (failed left)))
-    → IsUnformatted held honest failed a path.now g bad told
-not_marked held honest failed a path g bad store left told is erased some (inl memory) = subst (IsUnformatted held honest failed a path.now g bad) (sym memory) tt
-not_marked held honest failed a path g bad store left told is erased some (inr h) = subst (IsUnformatted held honest failed a path.now g bad) (sym h.0) (refl, inr (some, (store, left, is, erased, h.1)))
+pub not_marked : {S : Type 0} (held : S → Held) (honest : S → Bool) (failed : S → ℕ) (a : DiskFileAnswers) (path : Bor (List ℕ)) (shape : DiskShape) (bad : List ℕ) (store left : S) (told : DiskCommandFault)
+    → honest store ≡ a.honest → (honest store ≡ true → held store ≡ blank shape.geometry) → 0 < length bad → ((told ≡ fault.OutOfMemory) ⊎ ((told ≡ fault.Write path) × HasRisen (failed store) (failed left)))
+    → IsUnformatted held honest failed a path.now shape bad told
+not_marked held honest failed a path shape bad store left told is erased some (inl memory) = subst (IsUnformatted held honest failed a path.now shape bad) (sym memory) tt
+not_marked held honest failed a path shape bad store left told is erased some (inr h) = subst (IsUnformatted held honest failed a path.now shape bad) (sym h.0) (refl, inr (some, (store, left, is, erased, h.1)))
 
 -- a die that was made was put in its place
 pub created : {S : Type 0} (held : S → Held) (honest : S → Bool) (a : DiskFileAnswers) (words : CreateWords) (shape : DiskShape) (bad : List ℕ) (before between after : Option (List Kept)) (store : S) (result : Result (Unit {0}) DiskCommandFault)

@@ -1,6 +1,7 @@
 pub mod GrammarLemmas
 pub mod MakeLemmas
 pub mod ShapeLemmas
+pub mod AskedLemmas
 pub mod SizeLemmas
 pub mod ShapeTextLemmas
 pub mod MarkLemmas

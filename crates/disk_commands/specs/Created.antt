@@ -28,12 +28,12 @@ use Rattle.disk_commands.specs.Opening.{IsCopyFault, IsFaultAt, IsNotFree}
 
 -- ---- the die
 
--- erased pages, with the marks of the blocks that are bad from the start, became those of a formatted die, and all of them last
-pub record IsNewDie (g : Geometry) (bad : List ℕ) (s : Held) : Type 0 where
+-- erased pages, with the marks of the blocks that are bad from the start, became those of a die that is formatted for the share, and all of them last
+pub record IsNewDie (shape : DiskShape) (bad : List ℕ) (s : Held) : Type 0 where
   pub first : Held
-  pub marks : HasMarks g bad first
+  pub marks : HasMarks shape.geometry bad first
   pub good : ℕ
-  pub made : IsDiskMade first s good
+  pub made : IsDiskMade shape.share first s good
 
 -- A STORE WHOSE PAGES MOUNT with a cache of so many entries; or too many of its sectors are stale for that, and a server makes room. They stay
 pub record Mounts (s : Held) (capacity : ℕ) (t : Held) : Type 0 where
@@ -50,8 +50,8 @@ pub record IsDieOf (a : DiskFileAnswers) (dump : List ℕ) (shape : DiskShape) (
 
 -- what was asked for
 abbrev pub IsDieAskedFor : DiskFileAnswers → MakeWords → DiskShape → (bad : List ℕ) → Held → Type 0
-IsDieAskedFor a (make.Size word) shape bad s = IsNewDie shape.geometry bad s
-IsDieAskedFor a (make.Geometry word) shape bad s = IsNewDie shape.geometry bad s
+IsDieAskedFor a (make.Size word) shape bad s = IsNewDie shape bad s
+IsDieAskedFor a (make.Geometry word) shape bad s = IsNewDie shape bad s
 IsDieAskedFor a (make.Dump word from) shape bad s = IsDieOf a from.now shape s
 
 -- ---- the disk
@@ -81,12 +81,12 @@ IsUnmarked {S} held honest failed a g bad =
     (0 < length bad) × ((store left : S) × (honest store ≡ a.honest) × (honest store ≡ true → held store ≡ blank g) × HasRisen (failed store) (failed left))
 
 -- erased pages were not marked or not formatted
-abbrev pub IsUnformatted : {S : Type 0} → (S → Held) → (honest : S → Bool) → (failed : S → ℕ) → DiskFileAnswers → (path : List ℕ) → Geometry → (bad : List ℕ) → DiskCommandFault → Type 0
-IsUnformatted {S} held honest failed a path g bad (fault.Create told why) =
-    (told.now ≡ path) × ((store given : S) × (honest store ≡ a.honest) × (honest store ≡ true → HasMarks g bad (held store)) × IsDiskUnmade held honest failed store given why)
-IsUnformatted held honest failed a path g bad (fault.Write told) = (told.now ≡ path) × (a.fails path file.Write ⊎ IsUnmarked held honest failed a g bad)
-IsUnformatted held honest failed a path g bad fault.OutOfMemory = Unit {0}
-IsUnformatted held honest failed a path g bad told = IsFaultAt a path 0 told
+abbrev pub IsUnformatted : {S : Type 0} → (S → Held) → (honest : S → Bool) → (failed : S → ℕ) → DiskFileAnswers → (path : List ℕ) → DiskShape → (bad : List ℕ) → DiskCommandFault → Type 0
+IsUnformatted {S} held honest failed a path shape bad (fault.Create told why) =
+    (told.now ≡ path) × ((store given : S) × (honest store ≡ a.honest) × (honest store ≡ true → HasMarks shape.geometry bad (held store)) × IsDiskUnmade held honest failed shape.share store given why)
+IsUnformatted held honest failed a path shape bad (fault.Write told) = (told.now ≡ path) × (a.fails path file.Write ⊎ IsUnmarked held honest failed a shape.geometry bad)
+IsUnformatted held honest failed a path shape bad fault.OutOfMemory = Unit {0}
+IsUnformatted held honest failed a path shape bad told = IsFaultAt a path 0 told
 
 -- a dump was not copied, or is no die with a device on it
 abbrev pub IsNoDump : {S : Type 0} → (S → Held) → (honest : S → Bool) → (failed : S → ℕ) → DiskFileAnswers → (path dump : List ℕ) → DiskShape → DiskCommandFault → Type 0
@@ -95,8 +95,8 @@ IsNoDump {S} held honest failed a path dump shape (fault.Open told why) =
 IsNoDump held honest failed a path dump shape told = IsCopyFault a path dump (row_count shape.geometry * page_bytes shape.geometry) told
 
 abbrev pub IsUnmadeFor : {S : Type 0} → (S → Held) → (honest : S → Bool) → (failed : S → ℕ) → DiskFileAnswers → (path : List ℕ) → MakeWords → DiskShape → (bad : List ℕ) → DiskCommandFault → Type 0
-IsUnmadeFor held honest failed a path (make.Size word) shape bad told = IsUnformatted held honest failed a path shape.geometry bad told
-IsUnmadeFor held honest failed a path (make.Geometry word) shape bad told = IsUnformatted held honest failed a path shape.geometry bad told
+IsUnmadeFor held honest failed a path (make.Size word) shape bad told = IsUnformatted held honest failed a path shape bad told
+IsUnmadeFor held honest failed a path (make.Geometry word) shape bad told = IsUnformatted held honest failed a path shape bad told
 IsUnmadeFor held honest failed a path (make.Dump word from) shape bad told = IsNoDump held honest failed a path from.now shape told
 
 -- the die was not put in its place, or memory for the text was refused

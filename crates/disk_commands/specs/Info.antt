@@ -52,8 +52,8 @@ size_of g = g.sectors * g.data_bytes
 abbrev pub lines_of : Info → List ℕ
 lines_of i =
     codes "size " ++ (decimal (size_of i.shape.geometry) ++ (codes "\ngeometry " ++ (geometry_words i.shape.geometry ++ (codes "\ncache " ++ (decimal i.shape.cache
-    ++ (codes "\nfree " ++ (decimal i.free ++ (codes " bad " ++ (decimal i.bad ++ (codes "\nwear least " ++ (decimal i.least ++ (codes " most " ++ (decimal i.most
-    ++ (codes " erases " ++ (decimal i.erases ++ (codes "\nnext " ++ (decimal i.next ++ codes "\n")))))))))))))))))
+    ++ (codes "\nshare " ++ (decimal i.shape.share ++ (codes "\nfree " ++ (decimal i.free ++ (codes " bad " ++ (decimal i.bad ++ (codes "\nwear least " ++ (decimal i.least
+    ++ (codes " most " ++ (decimal i.most ++ (codes " erases " ++ (decimal i.erases ++ (codes "\nnext " ++ (decimal i.next ++ codes "\n")))))))))))))))))))
 
 abbrev pub wear_of : Info → List ℕ
 wear_of i = codes "{\"least\":" ++ (decimal i.least ++ (codes ",\"most\":" ++ (decimal i.most ++ (codes ",\"erases\":" ++ (decimal i.erases ++ codes "}")))))
@@ -75,7 +75,7 @@ mended_members Hamming mended = codes ",\"code\":\"hamming\",\"turned\":" ++ (de
 abbrev pub object_of : Info → (lost : List ℕ) → List ℕ
 object_of i lost =
     codes "{\"size\":" ++ (decimal (size_of i.shape.geometry) ++ (codes ",\"geometry\":\"" ++ (geometry_words i.shape.geometry ++ (codes "\",\"cache\":" ++ (decimal i.shape.cache
-    ++ (codes ",\"free\":" ++ (decimal i.free ++ (codes ",\"bad\":" ++ (decimal i.bad ++ (codes ",\"wear\":" ++ (wear_of i ++ (codes ",\"next\":" ++ (decimal i.next ++ (codes ",\"lost\":[" ++ (lost ++ (codes "]" ++ (mended_members i.shape.code i.mended ++ codes "}\n")))))))))))))))))
+    ++ (codes ",\"share\":" ++ (decimal i.shape.share ++ (codes ",\"free\":" ++ (decimal i.free ++ (codes ",\"bad\":" ++ (decimal i.bad ++ (codes ",\"wear\":" ++ (wear_of i ++ (codes ",\"next\":" ++ (decimal i.next ++ (codes ",\"lost\":[" ++ (lost ++ (codes "]" ++ (mended_members i.shape.code i.mended ++ codes "}\n")))))))))))))))))))
 
 abbrev pub info_text : Form → Info → (lost : List ℕ) → List ℕ
 info_text Text i lost = lines_of i ++ (lost_lines lost ++ mended_lines i.shape.code i.mended)

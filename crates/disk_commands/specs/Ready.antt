@@ -49,18 +49,19 @@ abbrev pub HoldsPages : (read_only : Bool) → (mark : ℕ) → (honest : Type 0
 HoldsPages true mark honest s bytes = honest → bytes ≡ bytes_of s
 HoldsPages false mark honest s bytes = honest → HoldsRecovered mark s bytes
 
--- THE DISK OF A STORE: of one that is honest it holds its array. Its die syncs the store as was asked. Where it is to be written and a mark counts, that is kept from then on, and all that the disk had programmed was synced
+-- THE DISK OF A STORE: of one that is honest it holds its array. Its device has the share that is told. Its die syncs the store as was asked. Where it is to be written and a mark counts, that is kept from then on, and all that the disk had programmed was synced
 pub record IsDiskOf {S Y : Type 0} (held : S → Held) (honest : S → Bool) (failed : S → ℕ) (marked : Y → SyncMark) (read_only always : Bool) (told : DiskText) (found : FoundMark) (store : S)
     (d : Device (DriverState (FileState S))) (syncs : Y) : Type 0 where
   pub held_array : honest store ≡ true → holds (is_honest_in honest) d ≡ true
   pub bytes : HoldsPages read_only found.mark.synced (honest store ≡ true) (held store) (contents_of (view_in held honest failed) d).bytes
+  pub share : d.engine.mapping.share ≡ told.shape.share
   pub syncs_when : SyncsWhen (sync_when always) d.engine.nand
   pub keeps : read_only ≡ false → told.marked ≡ true → marked syncs ≡ after_sync d.engine.next false found.mark
 
 -- why there is none: by whether it was only to be read
 abbrev pub IsNoDiskBy : {S : Type 0} → (read_only : Bool) → (S → Held) → (honest : S → Bool) → (failed : S → ℕ) → DiskText → FoundMark → S → OpenStoreFault → Type 0
-IsNoDiskBy true held honest failed told found store why = IsUnopenedLater held honest failed store told.shape.cache why
-IsNoDiskBy false held honest failed told found store why = IsUnrecovered held honest failed store told.shape.cache found.mark.synced why
+IsNoDiskBy true held honest failed told found store why = IsUnopenedLater held honest failed store told.shape.cache told.shape.share why
+IsNoDiskBy false held honest failed told found store why = IsUnrecovered held honest failed store told.shape.cache told.shape.share found.mark.synced why
 
 -- THE PLACE OF THE LIST OF ITS LOST SECTORS, by whether it is only read: nothing is asked of it; or the list lasts, where any is lost
 abbrev pub KeepsBy : {K : Type 0} → (read_only : Bool) → (kept : K → List Bool) → (lost : List Bool) → (place left : K) → Type 0
@@ -88,7 +89,7 @@ MarksBy false path before after = after ≡ before
 -- ---- the disk at a path
 
 -- THE DISK AT A PATH, whose lost sectors are guarded: those of the list beside it and of the pages of its store, as it was looked at; that store tells what was wrong with its pages. Where it is to be written, and any is lost, their list lasts;
--- else none was kept, for at the place of the list none was before. The device of the store is there, and is opened anew with a cache that has room for all that may be stale
+-- else none was kept, for at the place of the list none was before. The device of the store is there, and is opened anew with a cache that has room for all that may be stale, and with its share
 pub record IsReadyAt {S Y K : Type 0} (held : S → Held) (honest : S → Bool) (failed : S → ℕ) (mended_in : S → Mended) (marked : Y → SyncMark) (kept : K → List Bool) (a : DiskFileAnswers) (path : List ℕ)
     (read_only always : Bool) (told : DiskText) (mended : Mended) (disk : GuardedSectors (Reopened S) K) (syncs : Y) : Type 0 where
   pub found : FoundMark
@@ -99,6 +100,7 @@ pub record IsReadyAt {S Y K : Type 0} (held : S → Held) (honest : S → Bool) 
   pub device_is : disk.sectors.device ≡ Some device
   pub not_reopened : disk.sectors.reopened ≡ false
   pub room : disk.sectors.capacity ≡ most_stale told.shape
+  pub share : disk.sectors.share ≡ told.shape.share
   pub again : disk.sectors.sync_when ≡ sync_when always
   pub of : IsDiskOf held honest failed marked read_only always told found store device syncs
   pub mended_is : mended ≡ mended_in store

@@ -3,6 +3,7 @@ use Rattle.std.specs.Prelude.{◌≡◌, ℕ, ◌+◌, ◌-◌, ◌*◌, ◌/◌
 use Rattle.std.specs.Borrow.{Bor}
 use Rattle.std.specs.Io.KnownBytes.{Keeps}
 use Rattle.page_layout.specs.declared.geometry.Geometry.{Geometry}
+use Rattle.page_layout.specs.Geometry.{waiting_at}
 use Rattle.request_stream.specs.declared.reply.ServeFault.{ServeFault}
 use Rattle.file_die.specs.Store.{Held}
 use Rattle.coded_store.specs.declared.coded.Mended.{Mended}
@@ -44,11 +45,11 @@ abbrev pub offer_of : Geometry → (read_only : Bool) → Offer
 offer_of g read_only = record { read_only = read_only; preferred = if nat_le 512 g.data_bytes then g.data_bytes else 4096; maximum = 1048576 }
 
 -- WHAT MAY BE CHANGED BETWEEN TWO SYNCS of the file. Where the host loses power no more is stale then than was at the sync and was changed since: all of it has room in
--- some cache of 65536 entries, beside what the disk's cache has not written back, the copies of two blocks, those of two that it has more room for where it was opened anew, and what one request changes
+-- some cache of 65536 entries, beside what the disk's cache has not written back, the sectors that wait, the copies of two blocks, those of two that it has more room for where it was opened anew, and what one request changes
 abbrev pub pace_of : DiskShape → SyncPace
 pace_of s = record {
   piece = s.geometry.data_bytes;
-  most = if nat_le s.geometry.sectors 65536 then 2 ^ 64 - 1 else 65536 - (s.cache + (s.geometry.pages * 4 + (1048576 / s.geometry.data_bytes + 1)));
+  most = if nat_le s.geometry.sectors 65536 then 2 ^ 64 - 1 else 65536 - (s.cache + (waiting_at s.geometry s.share + (s.geometry.pages * 4 + (1048576 / s.geometry.data_bytes + 1))));
 }
 
 -- by what is told beside it: whether a mark of it counts is told there

@@ -17,6 +17,7 @@ use Rattle.disk_commands.specs.declared.shape_text.ShapeFault.{ShapeFault}
 use Rattle.disk_commands.specs.declared.shape_text.ShapeFault.TheVariants as fault
 use Rattle.disk_commands.specs.declared.shape_words.GeometryWordFault.{GeometryWordFault}
 use Rattle.disk_commands.specs.declared.shape_words.GeometryWordFault.TheVariants as word
+use Rattle.disk_commands.specs.Shapes.{IsShareFor}
 use Rattle.disk_commands.specs.ShapeWords.{SaysGeometry, SaysNone}
 
 -- ---- what is written
@@ -31,11 +32,11 @@ abbrev pub code_words : Code → List ℕ
 code_words Plain = codes "none"
 code_words Hamming = codes "hamming"
 
--- version 2: the code, none that waits, and whether a list of lost sectors stands beside the disk
+-- version 2: the code, the share, and whether a list of lost sectors stands beside the disk
 abbrev pub shape_data : DiskShape → (lost : Bool) → Data
 shape_data s lost =
     object (member (codes "cache") (number (unsigned s.cache)) (member (codes "code") (string (code_words s.code)) (member (codes "geometry") (string (geometry_words s.geometry))
-    (member (codes "lost") (boolean lost) (member (codes "share") (number (unsigned 0)) (member (codes "version") (number (unsigned 2)) no_members))))))
+    (member (codes "lost") (boolean lost) (member (codes "share") (number (unsigned s.share)) (member (codes "version") (number (unsigned 2)) no_members))))))
 
 -- the object with no space, and a line feed
 abbrev pub shape_text : DiskShape → List ℕ
@@ -96,11 +97,11 @@ pub record TellsShape (d : Data) (g : Geometry) (cache : ℕ) : Type 0 where
   pub within : IsWithin cache
   pub geometry_is : IsGeometryTold d g
 
--- those that version 1 lacks say which code there is, whether a list of lost sectors stands beside the disk, and that none waits
-pub record TellsLater (code : Code) (lost : Bool) (d : Data) : Type 0 where
+-- those that version 1 lacks say which code there is, whether a list of lost sectors stands beside the disk, and how many moved sectors may wait
+pub record TellsLater (code : Code) (lost : Bool) (share : ℕ) (d : Data) : Type 0 where
   pub code_is : text_at name.Code d ≡ Some (code_words code)
   pub lost_is : flag_at name.Lost d ≡ Some lost
-  pub none_waits : number_at name.Share d ≡ Some 0
+  pub share_is : number_at name.Share d ≡ Some share
 
 -- by whether it is of version 2: its number, and how many members it has
 abbrev pub shape_version_of : (second : Bool) → ℕ
@@ -111,16 +112,17 @@ abbrev pub members_of : (second : Bool) → ℕ
 members_of false = 3
 members_of true = 6
 
--- version 1 may say nothing of them, and has no code and no list
-abbrev pub TellsLaterBy : (second : Bool) → Code → (lost : Bool) → Data → Type 0
-TellsLaterBy false code lost d = (code ≡ Plain) × (lost ≡ false)
-TellsLaterBy true code lost d = TellsLater code lost d
+-- version 1 may say nothing of them, and has no code, no list, and none that waits
+abbrev pub TellsLaterBy : (second : Bool) → Code → (lost : Bool) → (share : ℕ) → Data → Type 0
+TellsLaterBy false code lost share d = (code ≡ Plain) × (lost ≡ false) × (share ≡ 0)
+TellsLaterBy true code lost share d = TellsLater code lost share d
 
--- AN OBJECT WITH THE MEMBERS OF ITS VERSION AND NO OTHER, which say this. A mark counts from version 2 on
+-- AN OBJECT WITH THE MEMBERS OF ITS VERSION AND NO OTHER, which say this; such a disk may have the share. A mark counts from version 2 on
 pub record TellsText (d : Data) (t : DiskText) : Type 0 where
   pub version : number_at name.Version d ≡ Some (shape_version_of t.marked)
   pub shape : TellsShape d t.shape.geometry t.shape.cache
-  pub later : TellsLaterBy t.marked t.shape.code t.lost d
+  pub later : TellsLaterBy t.marked t.shape.code t.lost t.shape.share d
+  pub may_wait : IsShareFor t.shape.geometry t.shape.cache t.shape.share
   pub alone : size_of d ≡ Some (members_of t.marked)
 
 -- the text is such an object
@@ -143,6 +145,10 @@ HasOther d name.Lost = flag_at name.Lost d ≡ None
 HasOther d name.Share = number_at name.Share d ≡ None
 HasOther d name.Version = number_at name.Version d ≡ None
 
+-- it tells a disk that may not have this share
+abbrev pub HasNoShare : Data → (share : ℕ) → Type 0
+HasNoShare d share = (number_at name.Share d ≡ Some share) × ((g : Geometry) × (cache : ℕ) × TellsShape d g cache × (¬ IsShareFor g cache share))
+
 -- what is wrong with the value
 abbrev pub TellsNone : Data → ShapeFault → Type 0
 TellsNone d fault.NotJson = ⊥
@@ -155,7 +161,7 @@ TellsNone d fault.BadGeometry = HasBadGeometry d word.NoNumbers
 TellsNone d (fault.Geometry limit) = HasBadGeometry d (word.Limit limit)
 TellsNone d fault.CacheRange = (cache : ℕ) × (number_at name.Cache d ≡ Some cache) × (¬ IsWithin cache)
 TellsNone d fault.Code = (code : List ℕ) × (text_at name.Code d ≡ Some code) × (code ≢ codes "none") × (code ≢ codes "hamming")
-TellsNone d (fault.Share share) = (number_at name.Share d ≡ Some share) × (share ≢ 0)
+TellsNone d (fault.Share share) = HasNoShare d share
 TellsNone d fault.OutOfMemory = ⊥
 
 -- what is wrong with the text; a growth may have been refused whatever it says

@@ -26,7 +26,7 @@ limit_words limit.Sectors = codes "Sectors"
 
 abbrev pub size_words : SizeFault → List ℕ
 size_words size.Zero = codes "a disk has at least one byte"
-size_words size.TooLarge = codes "a disk has at most 2037469184 bytes"
+size_words size.TooLarge = codes "no die has room for so many bytes with this share"
 
 abbrev pub shape_words : ShapeFault → List ℕ
 shape_words shape.NotJson = codes "not JSON"
@@ -39,7 +39,7 @@ shape_words shape.BadGeometry = codes "the geometry is no five numbers"
 shape_words (shape.Geometry broken) = codes "the geometry breaks a limit: " ++ limit_words broken
 shape_words shape.CacheRange = codes "the cache has not from 1 to 65536 entries"
 shape_words shape.Code = codes "the code is neither none nor hamming"
-shape_words (shape.Share share) = codes "the share is " ++ (decimal share ++ codes " and not 0")
+shape_words (shape.Share share) = codes "the share is " ++ (decimal share ++ codes ", and no cache has room for all that may be stale")
 shape_words shape.OutOfMemory = codes "out of memory"
 
 -- ---- the line, without its line feed
@@ -51,6 +51,7 @@ line_of (fault.PartOfByte word) = codes "usage: part of a byte " ++ word.now
 line_of (fault.BadNumber word) = codes "usage: bad number " ++ word.now
 line_of (fault.Size why) = codes "refused size: " ++ size_words why
 line_of (fault.Geometry why) = codes "refused geometry " ++ limit_words why
+line_of (fault.Share share) = codes "refused share " ++ (decimal share ++ codes ": no cache has room for all that may be stale")
 line_of (fault.BadBlock block) = codes "refused: block " ++ (decimal block ++ codes " is past the die, or named twice")
 line_of (fault.Exists path) = codes "refused: " ++ (path.now ++ codes " exists")
 line_of (fault.InUse path) = codes "refused: " ++ (path.now ++ codes " is in use")
@@ -77,6 +78,7 @@ status_of (fault.PartOfByte word) = 2
 status_of (fault.BadNumber word) = 2
 status_of (fault.Size why) = 1
 status_of (fault.Geometry why) = 1
+status_of (fault.Share share) = 1
 status_of (fault.BadBlock block) = 1
 status_of (fault.Exists path) = 1
 status_of (fault.InUse path) = 1

@@ -20,7 +20,7 @@ use Rattle.disk_commands.specs.declared.words.DiskWords.TheVariants as asked
 -- ---- what `clap` is told
 
 abbrev pub create : Shape
-create = command_of (codes "create") (option (codes "size") ∷ option (codes "geometry") ∷ option (codes "from") ∷ option (codes "bad") ∷ option (codes "cache") ∷ option (codes "code") ∷ place (codes "DISK") ∷ [])
+create = command_of (codes "create") (option (codes "size") ∷ option (codes "geometry") ∷ option (codes "from") ∷ option (codes "bad") ∷ option (codes "cache") ∷ option (codes "share") ∷ option (codes "code") ∷ place (codes "DISK") ∷ [])
 
 abbrev pub serve : Shape
 serve = command_of (codes "serve") (flag (codes "read-only") ∷ option (codes "sync") ∷ option (codes "wait") ∷ place (codes "DISK") ∷ [])
@@ -78,6 +78,7 @@ pub record IsCreateAt (rows : List Row) (read : CreateWords) : Type 0 where
   pub make_is : IsMakeAt rows read.make
   pub bad_is : first_of (codes "bad") rows ≡ option_map (λ word. word.now) read.bad
   pub cache_is : first_of (codes "cache") rows ≡ option_map (λ word. word.now) read.cache
+  pub share_is : first_of (codes "share") rows ≡ option_map (λ word. word.now) read.share
   pub code_is : code (first_of (codes "code") rows) ≡ Some read.code
 
 -- those of the words of `serve` are these

@@ -29,7 +29,7 @@ fn unformatted<'a>(path: &'a str, fault: CreateFault) -> DiskCommandFault<'a>
     }
 }
 
-// A formatted die beside a path, of which these blocks are bad from the start.
+// A die beside a path that is formatted for the share of the shape, of which these blocks are bad from the start.
 fn make_new<'a, F: DiskFiles>(
     alloc: Global,
     files: &mut F,
@@ -38,9 +38,9 @@ fn make_new<'a, F: DiskFiles>(
     bad: &[u32],
 ) -> Result<F::Store, DiskCommandFault<'a>>
     requires { AreNames shape.now.geometry bad.now }
-    ensures made { IfOk result (λ store. F.Store.honest store ≡ true → IsNewDie shape.now.geometry bad.now (F.Store.held store)) }
+    ensures made { IfOk result (λ store. F.Store.honest store ≡ true → IsNewDie shape.now bad.now (F.Store.held store)) }
     ensures honest { IfOk result (λ store. F.Store.honest store ≡ (F.answers files.old).honest) }
-    ensures fault { IfErr result (IsUnformatted F.Store.held F.Store.honest F.Store.failed (F.answers files.old) path.now shape.now.geometry bad.now) }
+    ensures fault { IfErr result (IsUnformatted F.Store.held F.Store.honest F.Store.failed (F.answers files.old) path.now shape.now bad.now) }
     ensures no_more { OnOk result (FailsNoMore (F.answers files.old) (F.answers files.new)) }
     ensures kept { F.kept files.new ≡ F.kept files.old }
     ensures opened { F.opened files.new ≡ F.opened files.old }
@@ -56,7 +56,7 @@ fn make_new<'a, F: DiskFiles>(
             return Err(fault);
         }
     }
-    match format_store(alloc, store) {
+    match format_store(alloc, store, shape.share) {
         Ok((store, _)) => Ok(store),
         Err((_, fault)) => {
             files.discard(path);

@@ -41,6 +41,12 @@ const CACHE: WordRule<'static> = WordRule {
     help: "The entries of the cache, from 1 to 65536",
 };
 
+const SHARE: WordRule<'static> = WordRule {
+    id: "share",
+    kind: WordKind::Valued("N"),
+    help: "How many moved sectors may wait for each translation page, in the mean; else 15",
+};
+
 const CODE: WordRule<'static> = WordRule {
     id: "code",
     kind: WordKind::Valued("CODE"),
@@ -74,7 +80,7 @@ const JSON: WordRule<'static> = WordRule {
 const CREATE: CommandRule<'static> = CommandRule {
     name: "create",
     about: "Makes a disk of a size, or on a die of a geometry",
-    words: &[SIZE, GEOMETRY, FROM, BAD, CACHE, CODE, DISK],
+    words: &[SIZE, GEOMETRY, FROM, BAD, CACHE, SHARE, CODE, DISK],
 };
 
 const SERVE: CommandRule<'static> = CommandRule {

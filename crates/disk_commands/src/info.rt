@@ -72,7 +72,7 @@ pub(crate) fn print_text<'a, W: Write>(text: &str, out: &mut W) -> Result<(), Di
     }
 }
 
-/// The command `info`: prints what is told of the disk DISK, its bytes, geometry, cache, free and bad blocks, wear, next sequence and lost sectors; and of one with a code how many wrong bits were turned back, and how many pages are lost.
+/// The command `info`: prints what is told of the disk DISK, its bytes, geometry, cache, share, free and bad blocks, wear, next sequence and lost sectors; and of one with a code how many wrong bits were turned back, and how many pages are lost.
 ///
 /// # Errors
 ///

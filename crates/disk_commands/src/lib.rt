@@ -3,7 +3,7 @@
 //! - `run`: does what the words say.
 //! - `DiskFiles`: the files that the words name, those of the system or some in memory; `Access`, `LockedDie`: how a die is opened.
 //! - `parse`: what the words of the command line mean, as `clap` reads them. No file is looked at, and no number but that of `--wait` is read.
-//! - `DiskShape`, `read_shape`, `write_shape`: the geometry of a disk's die, the entries of its device's cache and the code of its pages (`Code`), and the file beside the disk that tells them (`DiskText`);
+//! - `DiskShape`, `read_shape`, `write_shape`: the geometry of a disk's die, the entries of its device's cache, its share and the code of its pages (`Code`), and the file beside the disk that tells them (`DiskText`);
 //!   `size_from`, `geometry_from`: a size and a geometry as words write them; `shape_for`: the shape for a size.
 //! - `mark_of`, `slot_bytes`, `slot_at`: the file beside a disk that tells up to which sequence all was synced; `MarkFile`: as it is written; `FileSyncs`: the die's file is synced, and the mark kept.
 //! - `shape_of`, `Info`, `DiskCommandFault`: the shape that `create` is asked for, what `info` tells, why a command was not done.

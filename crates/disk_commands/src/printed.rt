@@ -26,7 +26,7 @@ pub enum Form {
 /// What is told of a disk. (This project's.)
 #[derive(Clone, Copy, Debug, PartialEq, Eq)]
 pub struct Info {
-    /// Its geometry and the entries of its cache.
+    /// Its geometry, the entries of its cache, its share and its code.
     pub shape: DiskShape,
     /// The free blocks, those of class 0.
     pub free: u32,
@@ -195,11 +195,11 @@ impl fmt::Display for Lines<'_> {
     fn fmt<W: fmt::Write>(&self, f: &mut fmt::Formatter<W>) -> fmt::Result {
         let i = self.0;
         let (size, geometry) = (size_of(&i.shape.geometry), GeometryText(&i.shape.geometry));
-        let (cache, free, bad) = (i.shape.cache, i.free, i.bad);
+        let (cache, share, free, bad) = (i.shape.cache, i.shape.share, i.free, i.bad);
         let (least, most, erases, next) = (i.least, i.most, i.erases, i.next);
         write!(
             f,
-            "size {size}\ngeometry {geometry}\ncache {cache}\nfree {free} bad {bad}\nwear least {least} most {most} erases {erases}\nnext {next}\n"
+            "size {size}\ngeometry {geometry}\ncache {cache}\nshare {share}\nfree {free} bad {bad}\nwear least {least} most {most} erases {erases}\nnext {next}\n"
         )
     }
 }
@@ -277,11 +277,12 @@ impl fmt::Display for Object<'_> {
     fn fmt<W: fmt::Write>(&self, f: &mut fmt::Formatter<W>) -> fmt::Result {
         let i = self.0;
         let (size, geometry) = (size_of(&i.shape.geometry), GeometryText(&i.shape.geometry));
-        let (cache, free, bad, wear, next) = (i.shape.cache, i.free, i.bad, Wear(i), i.next);
+        let (cache, share, free, bad) = (i.shape.cache, i.shape.share, i.free, i.bad);
+        let (wear, next) = (Wear(i), i.next);
         let (lost, mended) = (self.1, MendedMembers(i.shape.code, i.mended));
         write!(
             f,
-            "{{\"size\":{size},\"geometry\":\"{geometry}\",\"cache\":{cache},\"free\":{free},\"bad\":{bad},\"wear\":{wear},\"next\":{next},\"lost\":[{lost}]{mended}}}\n"
+            "{{\"size\":{size},\"geometry\":\"{geometry}\",\"cache\":{cache},\"share\":{share},\"free\":{free},\"bad\":{bad},\"wear\":{wear},\"next\":{next},\"lost\":[{lost}]{mended}}}\n"
         )
     }
 }

@@ -73,6 +73,7 @@ fn disk_of<'a, S: Store + Drop, K: KeepsLost>(
     requires within { IsWithin told.now.shape.cache }
     requires mounted { S.honest store ≡ true → Agrees (S.held store).geometry 65536 (S.held store).pages certificate.now }
     ensures syncs { IfOk result (λ d. SyncsWhen (sync_when words.now.sync_always) d.engine.nand) }
+    ensures share { IfOk result (λ d. d.engine.mapping.share ≡ told.now.shape.share) }
     ensures honest { IfOk result (λ d. S.honest store ≡ true → holds (is_honest_in S.honest) d ≡ true) }
     ensures bytes { IfOk result (λ d. HoldsPages words.now.read_only found.mark.synced (S.honest store ≡ true) (S.held store) (contents_of (view_in S.held S.honest S.failed) d).bytes) }
     ensures listed { OnOk result (KeepsBy words.now.read_only K.kept lost.now keeper.old keeper.new) }
@@ -80,7 +81,8 @@ fn disk_of<'a, S: Store + Drop, K: KeepsLost>(
 {
     let when = sync_when(words.sync_always);
     if words.read_only {
-        return match open_stopped(alloc, store, told.shape.cache, when, false) {
+        let (cache, share) = (told.shape.cache, told.shape.share);
+        return match open_stopped(alloc, store, cache, share, when, false) {
             Ok(disk) => Ok(disk),
             Err(why) => Err(DiskCommandFault::Open(words.disk, why)),
         };
@@ -94,6 +96,7 @@ fn disk_of<'a, S: Store + Drop, K: KeepsLost>(
         listed,
         certificate,
         told.shape.cache,
+        told.shape.share,
         found.mark.synced,
         when,
     ) {

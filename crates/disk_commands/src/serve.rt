@@ -11,7 +11,7 @@ ghost use Rattle.disk_server.specs.Reading.{AllLasts};
 use crate::files::DiskFiles;
 use crate::ready::ready;
 use crate::shape_text::DiskText;
-use crate::shapes::{DiskShape, MOST_ENTRIES};
+use crate::shapes::{DiskShape, MOST_ENTRIES, waiting};
 use crate::text::DiskCommandFault;
 use crate::words::DiskServeWords;
 use disk_server::{
@@ -48,13 +48,15 @@ fn offer_of(geometry: &Geometry, read_only: bool) -> Offer
     }
 }
 
-// How much of a disk may be changed between two syncs of its file. At a sync at most the entries of its cache and the pages of two blocks are stale, whether its device was flushed before
-// or not, and those of two more where it was opened anew with a larger one: so no sync needs that flush for what is stale to have room at the next mount. Of a disk of fewer sectors all of them have.
+// How much of a disk may be changed between two syncs of its file. At a sync at most the entries of its cache, the sectors that wait and the pages of two blocks are stale, whether its device was
+// flushed before or not, and those of two more where it was opened anew with a larger one: so no sync needs that flush for what is stale to have room at the next mount. Of a disk of fewer
+// sectors all of them have.
 fn pace_of(shape: &DiskShape) -> SyncPace
     ensures { result ≡ pace_of shape.now }
 {
     let geometry = shape.geometry;
     let beside = u64::from(shape.cache)
+        + waiting(&geometry, shape.share)
         + u64::from(geometry.pages()) * 4
         + u64::from(MOST) / geometry.data_bytes() as u64
         + 1;

@@ -1,13 +1,14 @@
 //! The file beside a disk, which tells its shape.
-ghost use Rattle.std.specs.Prelude.{◌≡◌, ◌≢◌, false, Some, IfOk, IfErr, OnOk, codes, string_bytes};
+ghost use Rattle.std.specs.Prelude.{◌≡◌, ◌≢◌, false, None, Some, IfOk, IfErr, IfSome, OnOk, codes, string_bytes};
 ghost use Rattle.serde_json.specs.View.{view};
 ghost use Rattle.disk_commands.specs.declared.shape_text.Member.{Member};
 ghost use Rattle.disk_commands.specs.ShapeText.{IsGeometryTold, IsNoShape, IsShapeText, IsTextMember, IsWithin, TellsLater, TellsLaterBy, TellsNone};
 ghost use Rattle.disk_commands.specs.ShapeText.{TellsShape, TellsText, code_words, flag_at, geometry_words, listed_text, number_at, shape_data};
 ghost use Rattle.disk_commands.specs.ShapeText.{shape_text, members_of, size_of, text_at, shape_version_of, without_feed};
+ghost use Rattle.disk_commands.specs.Shapes.{IsShareFor};
 
 use crate::shape_words::{GeometryText, GeometryWordFault, geometry_from};
-use crate::shapes::{Code, DiskShape};
+use crate::shapes::{Code, DiskShape, is_share_for};
 use crate::text::{limit, told, told_of};
 use page_layout::geometry::{Geometry, GeometryFault};
 use serde_json::{Value, json};
@@ -37,7 +38,7 @@ pub enum Member {
     Geometry,
     /// Whether a list of lost sectors stands beside the disk, `true` or `false`. Version 1 has no such member.
     Lost,
-    /// How many moved sectors may wait for each translation page in the mean, the number 0. Version 1 has no such member.
+    /// How many moved sectors may wait for each translation page in the mean, a number. Version 1 has no such member: then none may.
     Share,
     /// The version of the file, the number 1 or 2.
     Version,
@@ -85,7 +86,7 @@ pub enum ShapeFault {
     CacheRange,
     /// The code of the pages is neither `none` nor `hamming`.
     Code,
-    /// So many moved sectors may wait for each translation page, and not 0.
+    /// So many moved sectors may wait for each translation page, and no disk of this geometry and cache may have that share.
     Share(u64),
     /// A growth was refused.
     OutOfMemory,
@@ -115,7 +116,10 @@ impl fmt::Display for ShapeFault {
             }
             ShapeFault::CacheRange => f.write_str("the cache has not from 1 to 65536 entries"),
             ShapeFault::Code => f.write_str("the code is neither none nor hamming"),
-            ShapeFault::Share(share) => write!(f, "the share is {share} and not 0"),
+            ShapeFault::Share(share) => write!(
+                f,
+                "the share is {share}, and no cache has room for all that may be stale"
+            ),
             ShapeFault::OutOfMemory => f.write_str("out of memory"),
         }
     }
@@ -144,10 +148,11 @@ fn shape_value(alloc: Global, shape: &DiskShape, lost: bool) -> Result<Value, Al
 {
     let word = geometry_word(alloc, &shape.geometry)?;
     let (cache, code, geometry) = (u64::from(shape.cache), code_word(shape.code), word.as_str());
-    json!(in alloc; {"cache": cache, "code": code, "geometry": geometry, "lost": lost, "share": 0u64, "version": 2u64})
+    let share = u64::from(shape.share);
+    json!(in alloc; {"cache": cache, "code": code, "geometry": geometry, "lost": lost, "share": share, "version": 2u64})
 }
 
-/// The text of the file beside a disk of this shape, in version 2: one JSON object and a line feed. It says which code there is, that no sectors are lost and that none waits.
+/// The text of the file beside a disk of this shape, in version 2: one JSON object and a line feed. It says which code there is, that no sectors are lost and how many may wait.
 ///
 /// (The form is this project's.)
 pub fn write_shape(alloc: Global, shape: &DiskShape) -> Result<String, AllocError>
@@ -272,37 +277,68 @@ fn lost_told(value: &Value) -> Result<bool, ShapeFault>
     }
 }
 
-// That no moved sector waits for its translation page.
-fn require_no_share(value: &Value) -> Result<(), ShapeFault>
-    ensures ok { OnOk result (number_at Member.Share (view value.now) ≡ Some 0) }
-    ensures fault { IfErr result (TellsNone (view value.now)) }
+// A share that a disk of this geometry and cache may have, where a number is one.
+fn share_from(geometry: &Geometry, cache: u32, number: u64) -> Option<u32>
+    ensures some { IfSome result (λ share. (share ≡ number) × IsShareFor geometry.now cache share) }
+    ensures none { result ≡ None → ¬ IsShareFor geometry.now cache number }
 {
-    match number(value, Member::Share)? {
-        0 => Ok(()),
-        share => Err(ShapeFault::Share(share)),
+    let Ok(share) = u32::try_from(number) else {
+        return None;
+    };
+    if is_share_for(geometry, cache, share) {
+        Some(share)
+    } else {
+        None
     }
 }
 
-// What the members say which version 1 lacks, where this program reads it: the code of the pages, and whether a list of lost sectors stands beside the disk.
-fn later_told(value: &Value) -> Result<(Code, bool), ShapeFault>
-    ensures ok { IfOk result (λ later. TellsLater later.0 later.1 (view value.now)) }
+// The share of the disk, whose geometry and cache the value tells too.
+fn share_told(value: &Value, geometry: &Geometry, cache: u32) -> Result<u32, ShapeFault>
+    requires { TellsShape (view value.now) geometry.now cache }
+    ensures ok { IfOk result (λ share. number_at Member.Share (view value.now) ≡ Some share) }
+    ensures may_wait { IfOk result (IsShareFor geometry.now cache) }
+    ensures fault { IfErr result (TellsNone (view value.now)) }
+{
+    let told = number(value, Member::Share)?;
+    match share_from(geometry, cache, told) {
+        Some(share) => Ok(share),
+        None => Err(ShapeFault::Share(told)),
+    }
+}
+
+// What the members say which version 1 lacks: the code of the pages, whether a list of lost sectors stands beside the disk, and the share.
+fn later_told(
+    value: &Value,
+    geometry: &Geometry,
+    cache: u32,
+) -> Result<(Code, bool, u32), ShapeFault>
+    requires { TellsShape (view value.now) geometry.now cache }
+    ensures ok { IfOk result (λ later. TellsLater later.0 later.1 later.2 (view value.now)) }
+    ensures may_wait { IfOk result (λ later. IsShareFor geometry.now cache later.2) }
     ensures fault { IfErr result (TellsNone (view value.now)) }
 {
     let code = code_told(value)?;
     let lost = lost_told(value)?;
-    require_no_share(value)?;
-    Ok((code, lost))
+    let share = share_told(value, geometry, cache)?;
+    Ok((code, lost, share))
 }
 
 // The same by the version: the first has no such member.
-fn later_by(value: &Value, second: bool) -> Result<(Code, bool), ShapeFault>
-    ensures ok { IfOk result (λ later. TellsLaterBy second later.0 later.1 (view value.now)) }
+fn later_by(
+    value: &Value,
+    second: bool,
+    geometry: &Geometry,
+    cache: u32,
+) -> Result<(Code, bool, u32), ShapeFault>
+    requires { TellsShape (view value.now) geometry.now cache }
+    ensures ok { IfOk result (λ later. TellsLaterBy second later.0 later.1 later.2 (view value.now)) }
+    ensures may_wait { IfOk result (λ later. IsShareFor geometry.now cache later.2) }
     ensures fault { IfErr result (TellsNone (view value.now)) }
 {
     if second {
-        later_told(value)
+        later_told(value, geometry, cache)
     } else {
-        Ok((Code::Plain, false))
+        Ok((Code::Plain, false, 0))
     }
 }
 
@@ -327,7 +363,7 @@ fn require_alone(value: &Value, second: bool) -> Result<(), ShapeFault>
     }
 }
 
-// The shape that a value tells, whatever its code.
+// The geometry and the cache that a value tells.
 fn shape_told(value: &Value) -> Result<(Geometry, u32), ShapeFault>
     ensures ok { IfOk result (λ shape. TellsShape (view value.now) shape.0 shape.1) }
     ensures fault { IfErr result (TellsNone (view value.now)) }
@@ -347,12 +383,13 @@ fn text_told(value: &Value) -> Result<DiskText, ShapeFault>
     }
     let second = is_second(value)?;
     let (geometry, cache) = shape_told(value)?;
-    let (code, lost) = later_by(value, second)?;
+    let (code, lost, share) = later_by(value, second, &geometry, cache)?;
     require_alone(value, second)?;
     Ok(DiskText {
         shape: DiskShape {
             geometry,
             cache,
+            share,
             code,
         },
         marked: second,

@@ -36,6 +36,8 @@ pub enum DiskCommandFault<'a> {
     Size(SizeFault),
     /// The numbers are no geometry.
     Geometry(GeometryFault),
+    /// A disk of this shape may not have this share.
+    Share(u32),
     /// A block that was named lies past the die, or was named before.
     BadBlock(u32),
     /// There is a file of that path already.
@@ -96,6 +98,7 @@ impl DiskCommandFault<'_> {
             | DiskCommandFault::BadNumber(_) => USAGE,
             DiskCommandFault::Size(_)
             | DiskCommandFault::Geometry(_)
+            | DiskCommandFault::Share(_)
             | DiskCommandFault::BadBlock(_)
             | DiskCommandFault::Exists(_)
             | DiskCommandFault::InUse(_)
@@ -167,6 +170,10 @@ impl fmt::Display for DiskCommandFault<'_> {
             DiskCommandFault::BadNumber(word) => told(f, "usage: bad number ", word),
             DiskCommandFault::Size(fault) => write!(f, "refused size: {fault}"),
             DiskCommandFault::Geometry(fault) => told(f, "refused geometry ", limit(fault)),
+            DiskCommandFault::Share(share) => write!(
+                f,
+                "refused share {share}: no cache has room for all that may be stale"
+            ),
             DiskCommandFault::BadBlock(block) => {
                 write!(f, "refused: block {block} is past the die, or named twice")
             }

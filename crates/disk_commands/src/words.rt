@@ -32,6 +32,8 @@ pub struct CreateWords<'a> {
     pub bad: Option<&'a str>,
     /// C, where the cache is not to be the one for the geometry.
     pub cache: Option<&'a str>,
+    /// N, where the share is not to be 15.
+    pub share: Option<&'a str>,
     /// The code of the pages, which have none without `--code`.
     pub code: Code,
     pub disk: &'a str,
@@ -141,6 +143,7 @@ fn create_words<'a>(found: &CommandWords<'a>) -> Option<CreateWords<'a>>
         make: make_words(found)?,
         bad: found.word("bad"),
         cache: found.word("cache"),
+        share: found.word("share"),
         code: code(found.word("code"))?,
     })
 }

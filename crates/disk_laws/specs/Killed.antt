@@ -26,7 +26,7 @@ pub record AreFoundIn {N : Type 0} (view : View N) (old new : Device N) (found :
   pub records : Records (view.recorded old.engine.nand) log (view.recorded new.engine.nand)
   pub left : MayLeave old.engine.geometry (view.flash old.engine.nand).image log found
 
--- they mount, with as many entries as the device's cache has and a block has pages, where that is as many as a cache may have
+-- they mount, with as many entries as the device leaves sectors stale at most, where a cache may have so many
 abbrev pub MountsFor : {N : Type 0} → Device N → Image → Type 0
 MountsFor d found = room_of (ram d.engine) ≤ 65536 → IsMountable d.engine.geometry (room_of (ram d.engine)) found
 

@@ -99,7 +99,7 @@ abbrev pub CutLeavesLaw : {N : Type 0} → View N → Type 0
 CutLeavesLaw {N} die = (old new : Device N) (log : List Operation) (found : Image) (run : DeviceCalls die old log new) → IsCutIn die old log new run found
     → MayLeave old.engine.geometry (image_on die old) log found
 
--- A LOSS OF POWER AT ANY MOMENT SINCE ALL PAGES LASTED, as since a sync, of a device whose cache and a block have no more entries and pages than a cache may have: nothing from before is lost. Where no call was made since, what is found has the records that there were
+-- A LOSS OF POWER AT ANY MOMENT SINCE ALL PAGES LASTED, as since a sync, of a device that leaves no more sectors stale than a cache may have entries: nothing from before is lost. Where no call was made since, what is found has the records that there were
 abbrev pub LostRunLaw : {N : Type 0} → View N → Type 0
 LostRunLaw {N} die = (old new : Device N) (log : List Operation) (found : Image) (run : DeviceCalls die old log new) → room_of (ram old.engine) ≤ 65536
     → MayLose old.engine.geometry (image_on die old) log found → (HasNoCall die old log new run × LosesSince (image_on die old) (image_on die old) found) ⊎ IsFoundAfterLoss die old log new run found

@@ -48,7 +48,7 @@ pub opened_honest : {D E : Type 0} (holds : D → Bool) (H G : Type 0) (result :
 opened_honest holds H G (Ok d) to opened = λ h. opened (to h)
 opened_honest holds H G (Err e) to opened = tt
 
-pub opened_fault : {S A : Type 0} (held : S → Held) (honest : S → Bool) (failed : S → ℕ) (store given : S) (capacity mark : ℕ) (result : Result A OpenStoreFault) → honest given ≡ honest store
-    → (honest store ≡ true → IsLeftRecovered mark (held store) (held given)) → IfErr result (IsUnopenedLater held honest failed given capacity) → IfErr result (IsUnrecovered held honest failed store capacity mark)
-opened_fault held honest failed store given capacity mark (Ok d) same recovered later = tt
-opened_fault held honest failed store given capacity mark (Err why) same recovered later = inr (inr (given, same, recovered, later))
+pub opened_fault : {S A : Type 0} (held : S → Held) (honest : S → Bool) (failed : S → ℕ) (store given : S) (capacity share mark : ℕ) (result : Result A OpenStoreFault) → honest given ≡ honest store
+    → (honest store ≡ true → IsLeftRecovered mark (held store) (held given)) → IfErr result (IsUnopenedLater held honest failed given capacity share) → IfErr result (IsUnrecovered held honest failed store capacity share mark)
+opened_fault held honest failed store given capacity share mark (Ok d) same recovered later = tt
+opened_fault held honest failed store given capacity share mark (Err why) same recovered later = inr (inr (given, same, recovered, later))

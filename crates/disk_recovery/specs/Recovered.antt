@@ -38,8 +38,8 @@ IsNotAgain {S} held honest failed mark store fault =
     ⊎ ((mounted given : S) × HasCome held honest store mounted × IsNotTaken held honest failed mark mounted given fault)
 
 -- why there is no disk of a store that was mounted: it was not recovered; or what was torn was taken away, and it was not recovered once more; or what was left was not opened
-abbrev pub IsUnrecovered : {S : Type 0} → (S → Held) → (honest : S → Bool) → (failed : S → ℕ) → S → (capacity mark : ℕ) → OpenStoreFault → Type 0
-IsUnrecovered {S} held honest failed store capacity mark fault =
+abbrev pub IsUnrecovered : {S : Type 0} → (S → Held) → (honest : S → Bool) → (failed : S → ℕ) → S → (capacity share mark : ℕ) → OpenStoreFault → Type 0
+IsUnrecovered {S} held honest failed store capacity share mark fault =
     ((given : S) × IsNotTaken held honest failed mark store given fault)
     ⊎ (((given : S) × (honest given ≡ honest store) × (honest store ≡ true → IsRecovered mark (held store) true (held given)) × IsNotAgain held honest failed mark given fault)
-    ⊎ ((given : S) × (honest given ≡ honest store) × (honest store ≡ true → IsLeftRecovered mark (held store) (held given)) × IsUnopenedLater held honest failed given capacity fault))
+    ⊎ ((given : S) × (honest given ≡ honest store) × (honest store ≡ true → IsLeftRecovered mark (held store) (held given)) × IsUnopenedLater held honest failed given capacity share fault))

@@ -74,6 +74,7 @@ pub fn recover_listed<S: Store + Drop>(
     listed: ListedStore<S>,
     certificate: &Certificate,
     capacity: u32,
+    share: u32,
     mark: u64,
     sync_when: SyncWhen,
 ) -> Result<StoreDisk<S>, OpenStoreFault>
@@ -81,10 +82,11 @@ pub fn recover_listed<S: Store + Drop>(
     requires least { 1 ≤ capacity }
     requires most { capacity ≤ 65536 }
     ensures syncs { IfOk result (λ d. SyncsWhen sync_when d.engine.nand) }
+    ensures share { IfOk result (λ d. d.engine.mapping.share ≡ share) }
     ensures honest { IfOk result (λ d. S.honest listed.store ≡ true → holds (is_honest_in S.honest) d ≡ true) }
     ensures bytes { IfOk result (λ d. S.honest listed.store ≡ true → HoldsRecovered mark (S.held listed.store) (contents_of (view_in S.held S.honest S.failed) d).bytes) }
-    ensures fault { IfErr result (IsUnrecovered S.held S.honest S.failed listed.store capacity mark) }
+    ensures fault { IfErr result (IsUnrecovered S.held S.honest S.failed listed.store capacity share mark) }
 {
     let ListedStore { store } = listed;
-    recover_mounted(alloc, store, certificate, capacity, mark, sync_when)
+    recover_mounted(alloc, store, certificate, capacity, share, mark, sync_when)
 }

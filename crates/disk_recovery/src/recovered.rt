@@ -55,6 +55,7 @@ pub(crate) fn recover_mounted<S: Store + Drop>(
     store: S,
     certificate: &Certificate,
     capacity: u32,
+    share: u32,
     mark: u64,
     sync_when: SyncWhen,
 ) -> Result<StoreDisk<S>, OpenStoreFault>
@@ -62,17 +63,18 @@ pub(crate) fn recover_mounted<S: Store + Drop>(
     requires least { 1 ≤ capacity }
     requires most { capacity ≤ 65536 }
     ensures syncs { IfOk result (λ d. SyncsWhen sync_when d.engine.nand) }
+    ensures share { IfOk result (λ d. d.engine.mapping.share ≡ share) }
     ensures honest { IfOk result (λ d. S.honest store ≡ true → holds (is_honest_in S.honest) d ≡ true) }
     ensures bytes { IfOk result (λ d. S.honest store ≡ true → HoldsRecovered mark (S.held store) (contents_of (view_in S.held S.honest S.failed) d).bytes) }
-    ensures fault { IfErr result (IsUnrecovered S.held S.honest S.failed store capacity mark) }
+    ensures fault { IfErr result (IsUnrecovered S.held S.honest S.failed store capacity share mark) }
 {
     let mut store = store;
     let changed = recover_once(alloc, &mut store, certificate, mark)?;
     if !changed {
-        return open_stopped(alloc, store, capacity, sync_when, true);
+        return open_stopped(alloc, store, capacity, share, sync_when, true);
     }
     match recover_again(alloc, store, mark) {
-        Ok(left) => open_stopped(alloc, left, capacity, sync_when, true),
+        Ok(left) => open_stopped(alloc, left, capacity, share, sync_when, true),
         Err(fault) => Err(fault),
     }
 }

@@ -21,7 +21,7 @@ use Rattle.disk_server.specs.declared.open.OpenFault.TheVariants.{Refused, Start
 use Rattle.disk_server.specs.Open.{nand_of}
 use Rattle.mount.specs.Mounted.{Refuses}
 use Rattle.disk_server.proofs.FaultLemmas.{handed_on}
-use Rattle.disk_server.specs.Opened.{ComesBack, HasCome, IsUnmounted, IsUnopened, IsUnopenedAt, bytes_of, flash_in, is_honest_in, why_of, view_in}
+use Rattle.disk_server.specs.Opened.{ComesBack, HasCome, IsUnmounted, IsUnopened, IsUnopenedAt, IsUnstarted, bytes_of, flash_in, is_honest_in, why_of, view_in}
 
 -- a driver that was made over a store
 pub record IsOver {S : Type 0} (held : S → Held) (honest : S → Bool) (store : S) (d : DriverState (FileState S)) : Type 0 where
@@ -88,11 +88,11 @@ unopened_come held honest failed store d g capacity (Refused refusal e) given ov
 unopened_come held honest failed store d g capacity (Start e) given over behind unmounted =
     comes held honest store d e given why.OutOfMemory over behind (λ other is. unmounted.same is)
 
-pub unopened_so : {S : Type 0} (held : S → Held) (honest : S → Bool) (failed : S → ℕ) (store : S) (d : DriverState (FileState S)) (capacity : ℕ) (fault : OpenFault (DriverState (FileState S))) (given : S)
-    → IsOver held honest store d → IsUnmounted (view_in held honest failed) d (held store).geometry capacity fault → IsUnopened held honest failed store capacity given (why_of fault)
-unopened_so held honest failed store d capacity (Refused refusal e) given over unmounted = λ is.
+pub unopened_so : {S : Type 0} (held : S → Held) (honest : S → Bool) (failed : S → ℕ) (store : S) (d : DriverState (FileState S)) (capacity share : ℕ) (fault : OpenFault (DriverState (FileState S))) (given : S)
+    → IsOver held honest store d → IsUnmounted (view_in held honest failed) d (held store).geometry capacity fault → IsUnstarted held honest failed store capacity share given (why_of fault)
+unopened_so held honest failed store d capacity share (Refused refusal e) given over unmounted = λ is.
     subst (λ image. Refuses (held store).geometry capacity image refusal) (over.pages is) (unmounted.refuses (over.as_honest ∙ is))
-unopened_so held honest failed store d capacity (Start e) given over unmounted = tt
+unopened_so held honest failed store d capacity share (Start e) given over unmounted = tt
 
 -- what kept a store from being a die is told as it is
 pub before : {S : Type 0} (held : S → Held) (honest : S → Bool) (failed : S → ℕ) (store : S) (capacity : ℕ) (given : S) (fault : OpenStoreFault)
@@ -101,12 +101,28 @@ before held honest failed store capacity given why.OutOfMemory is = is
 before held honest failed store capacity given why.Device is = is
 before held honest failed store capacity given why.Reset is = is
 before held honest failed store capacity given why.Flush is = absurd is
+before held honest failed store capacity given why.Share is = absurd is
 before held honest failed store capacity given (why.Mount refusal) is = absurd is
 
 -- and so where it is handed on
 pub unbegun : {S T : Type 0} (held : S → Held) (honest : S → Bool) (failed : S → ℕ) (store : S) (capacity : ℕ) (r : Result T (S × OpenStoreFault)) (told : S × OpenStoreFault) → IsErrAnd r (λ e. e ≡ told)
     → IsUnopenedAt held honest failed store told.0 told.1 → IfErr r (λ e. IsUnopened held honest failed store capacity e.0 e.1)
 unbegun held honest failed store capacity r told is unopened = handed_on (λ e. IsUnopened held honest failed store capacity e.0 e.1) r told is (before held honest failed store capacity told.0 told.1 unopened)
+
+-- the same where a device was to be started
+before_start : {S : Type 0} (held : S → Held) (honest : S → Bool) (failed : S → ℕ) (store : S) (capacity share : ℕ) (given : S) (fault : OpenStoreFault)
+    → IsUnopenedAt held honest failed store given fault → IsUnstarted held honest failed store capacity share given fault
+before_start held honest failed store capacity share given why.OutOfMemory is = is
+before_start held honest failed store capacity share given why.Device is = is
+before_start held honest failed store capacity share given why.Reset is = is
+before_start held honest failed store capacity share given why.Flush is = absurd is
+before_start held honest failed store capacity share given why.Share is = absurd is
+before_start held honest failed store capacity share given (why.Mount refusal) is = absurd is
+
+pub unstarted : {S T : Type 0} (held : S → Held) (honest : S → Bool) (failed : S → ℕ) (store : S) (capacity share : ℕ) (r : Result T (S × OpenStoreFault)) (told : S × OpenStoreFault) → IsErrAnd r (λ e. e ≡ told)
+    → IsUnopenedAt held honest failed store told.0 told.1 → IfErr r (λ e. IsUnstarted held honest failed store capacity share e.0 e.1)
+unstarted held honest failed store capacity share r told is unopened =
+    handed_on (λ e. IsUnstarted held honest failed store capacity share e.0 e.1) r told is (before_start held honest failed store capacity share told.0 told.1 unopened)
 
 -- another refusal than that a page could not be read
 pub another : {A : Type 0} (answer : Result A Refusal) (refusal : Refusal) → answer ≡ Err refusal → why.Mount refusal ≢ why.Mount Source → answer ≢ Err Source

@@ -16,22 +16,22 @@ use Rattle.disk_server.specs.Disk.{IsDisk}
 use Rattle.disk_server.proofs.Holding.{parts}
 
 -- nothing is pinned yet
-begun_pinned : (r : Ram) (g : Geometry) (c : Claim) (stale : List ℕ) (image : Image) → r ≡ begun_ram g 0 c stale → PinIsTrue r.fault r image
-begun_pinned r g c stale image is =
+begun_pinned : (r : Ram) (g : Geometry) (share : ℕ) (c : Claim) (stale : List ℕ) (image : Image) → r ≡ begun_ram g share c stale → PinIsTrue r.fault r image
+begun_pinned r g share c stale image is =
     let P : Ram → Type 0 = λ q. PinIsTrue q.fault q image in
     subst P (sym is) ((λ p at. (let no : ⊥ = cc in absurd no)), (λ p at. (let no : ⊥ = cc in absurd no)))
 
-pub started_disk : {N : Type 0} (view : View N) (d : Device N) (nand : N) (g : Geometry) (a : Acceptance) → IsDevice view.flash d → d.engine.nand ≡ nand
-    → ram d.engine ≡ begun_ram g 0 a.claim a.stale
+pub started_disk : {N : Type 0} (view : View N) (d : Device N) (nand : N) (g : Geometry) (share : ℕ) (a : Acceptance) → IsDevice view.flash d → d.engine.nand ≡ nand
+    → ram d.engine ≡ begun_ram g share a.claim a.stale
     → (view.honest nand ≡ true → IsAcceptedFor (view.flash nand) a → IsTrue None (ram d.engine) (image_in view.flash d.engine))
     → (view.honest nand ≡ true → IsAcceptedFor (view.flash nand) a) → IsDisk view d
-started_disk view d nand g a device is begun truth accepted = record {
+started_disk view d nand g share a device is begun truth accepted = record {
   device = device;
   well = λ h.
       let its : view.honest nand ≡ true = sym (ap view.honest is) ∙ (parts view.honest d h).0 in
       record {
         going = ap (λ (r : Ram). stop_of r.fault) begun;
         truth = truth its (accepted its);
-        pinned = begun_pinned (ram d.engine) g a.claim a.stale (image_in view.flash d.engine) begun;
+        pinned = begun_pinned (ram d.engine) g share a.claim a.stale (image_in view.flash d.engine) begun;
       };
 }

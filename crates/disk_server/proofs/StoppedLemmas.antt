@@ -8,7 +8,7 @@ use Rattle.mount.specs.Mounted.{Refuses}
 use Rattle.ftl_device.specs.declared.device.Device.{Device}
 use Rattle.disk_server.specs.declared.opened.OpenStoreFault.{OpenStoreFault}
 use Rattle.disk_server.specs.declared.opened.OpenStoreFault.TheVariants as why
-use Rattle.disk_server.specs.Opened.{ComesBack, IsUnopened}
+use Rattle.disk_server.specs.Opened.{ComesBack, IsUnstarted}
 use Rattle.disk_server.specs.Stopped.{AsksToFlush, HasRoomFor, IsLastFault, IsOpenedBy, IsOpenedEither, IsOpenedFlushed, IsOpenedNeither, IsOpenedWith, IsStale, IsUnopenedLater, IsUnopenedStale, OwnCacheLaw, UnwrittenCacheLaw}
 
 -- with H for an honest store, A for a disk that held its array once it was flushed, G for the store that came of it, honest; and the bytes of each
@@ -33,11 +33,11 @@ no_source : (stale asked : ℕ) → why.Mount (TooStale stale asked) ≢ why.Mou
 no_source stale asked = λ e. cc
 
 -- it came back as it was
-pub was_stale : {S : Type 0} (held : S → Held) (honest : S → Bool) (failed : S → ℕ) (store given : S) (capacity stale : ℕ) (fault : OpenStoreFault)
-    → HasRoomFor fault stale → IsUnopened held honest failed store capacity given fault → ComesBack held honest store fault given → IsStale held honest store capacity stale given
-was_stale held honest failed store given capacity stale fault room is back = record {
+pub was_stale : {S : Type 0} (held : S → Held) (honest : S → Bool) (failed : S → ℕ) (store given : S) (capacity share stale : ℕ) (fault : OpenStoreFault)
+    → HasRoomFor fault stale → IsUnstarted held honest failed store capacity share given fault → ComesBack held honest store fault given → IsStale held honest store capacity stale given
+was_stale held honest failed store given capacity share stale fault room is back = record {
   asked = room.capacity;
-  refuses = subst (IsUnopened held honest failed store capacity given) room.is is;
+  refuses = subst (IsUnstarted held honest failed store capacity share given) room.is is;
   come = record {
     as_honest = back.as_honest;
     geometry = λ h. back.geometry h (λ e. no_reset stale room.capacity (sym room.is ∙ e));
@@ -49,21 +49,21 @@ was_stale held honest failed store given capacity stale fault room is back = rec
 
 -- ---- one that was flushed
 
-module _ {S A : Type 0} (held : S → Held) (honest : S → Bool) (failed : S → ℕ) (entries : A → ℕ) (capacity stale : ℕ) (left : Device (DriverState (FileState S)))
-    (asks : AsksToFlush held honest failed stale (Ok tt) left) (given : S) (is : given ≡ left.engine.nand.bus.store) where
-  pub then_opened : (result : Result A OpenStoreFault) → IfOk result (λ d. IsOpenedEither held honest given capacity stale (entries d)) → IfOk result (λ d. IsOpenedFlushed held honest failed capacity stale (entries d))
+module _ {S A : Type 0} (held : S → Held) (honest : S → Bool) (failed : S → ℕ) (entries : A → ℕ) (capacity stale share : ℕ) (left : Device (DriverState (FileState S)))
+    (asks : AsksToFlush held honest failed stale share (Ok tt) left) (given : S) (is : given ≡ left.engine.nand.bus.store) where
+  pub then_opened : (result : Result A OpenStoreFault) → IfOk result (λ d. IsOpenedEither held honest given capacity stale (entries d)) → IfOk result (λ d. IsOpenedFlushed held honest failed capacity stale share (entries d))
   then_opened (Ok d) either = (left, asks, subst (λ s. IsOpenedEither held honest s capacity stale (entries d)) is either)
   then_opened (Err e) either = tt
 
-  pub then_unopened : (store : S) (result : Result A OpenStoreFault) → IfErr result (IsOpenedNeither held honest failed given capacity stale) → IfErr result (IsUnopenedStale held honest failed store capacity stale)
+  pub then_unopened : (store : S) (result : Result A OpenStoreFault) → IfErr result (IsOpenedNeither held honest failed given capacity stale share) → IfErr result (IsUnopenedStale held honest failed store capacity stale share)
   then_unopened store (Ok d) neither = tt
-  then_unopened store (Err e) neither = inr (inr (left, asks, subst (λ s. IsOpenedNeither held honest failed s capacity stale e) is neither))
+  then_unopened store (Err e) neither = inr (inr (left, asks, subst (λ s. IsOpenedNeither held honest failed s capacity stale share e) is neither))
 
 -- once more: not with as many entries as were stale before
-pub neither : {S A : Type 0} (held : S → Held) (honest : S → Bool) (failed : S → ℕ) (store given : S) (capacity again stale : ℕ) (result : Result A OpenStoreFault)
-    → IsStale held honest store capacity again given → IfErr result (IsLastFault held honest failed given stale) → IfErr result (IsOpenedNeither held honest failed store capacity stale)
-neither held honest failed store given capacity again stale (Ok d) was last = tt
-neither held honest failed store given capacity again stale (Err e) was last = inr (again, given, was, last)
+pub neither : {S A : Type 0} (held : S → Held) (honest : S → Bool) (failed : S → ℕ) (store given : S) (capacity again stale share : ℕ) (result : Result A OpenStoreFault)
+    → IsStale held honest store capacity again given → IfErr result (IsLastFault held honest failed given stale share) → IfErr result (IsOpenedNeither held honest failed store capacity stale share)
+neither held honest failed store given capacity again stale share (Ok d) was last = tt
+neither held honest failed store given capacity again stale share (Err e) was last = inr (again, given, was, last)
 
 pub either : {S A : Type 0} (held : S → Held) (honest : S → Bool) (entries : A → ℕ) (store given : S) (capacity again stale : ℕ) (result : Result A OpenStoreFault)
     → IsStale held honest store capacity again given → IfOk result (λ d. entries d ≡ stale) → IfOk result (λ d. IsOpenedEither held honest store capacity stale (entries d))
@@ -72,31 +72,31 @@ either held honest entries store given capacity again stale (Err e) was is = tt
 
 -- ---- what a later attempt comes to
 
-pub opened_later : {S A : Type 0} (held : S → Held) (honest : S → Bool) (failed : S → ℕ) (entries : A → ℕ) (writes : Bool) (store given : S) (capacity stale : ℕ) (result : Result A OpenStoreFault)
-    → IsStale held honest store capacity stale given → IfOk result (λ d. IsOpenedBy held honest failed writes capacity stale (entries d))
-    → IfOk result (λ d. IsOpenedWith held honest failed writes store capacity (entries d))
-opened_later held honest failed entries writes store given capacity stale (Ok d) was is = inr (stale, given, was, is)
-opened_later held honest failed entries writes store given capacity stale (Err e) was is = tt
+pub opened_later : {S A : Type 0} (held : S → Held) (honest : S → Bool) (failed : S → ℕ) (entries : A → ℕ) (writes : Bool) (store given : S) (capacity stale share : ℕ) (result : Result A OpenStoreFault)
+    → IsStale held honest store capacity stale given → IfOk result (λ d. IsOpenedBy held honest failed writes capacity stale share (entries d))
+    → IfOk result (λ d. IsOpenedWith held honest failed writes store capacity share (entries d))
+opened_later held honest failed entries writes store given capacity stale share (Ok d) was is = inr (stale, given, was, is)
+opened_later held honest failed entries writes store given capacity stale share (Err e) was is = tt
 
-pub by_writes : {S A : Type 0} (held : S → Held) (honest : S → Bool) (failed : S → ℕ) (entries : A → ℕ) (writes : Bool) (capacity stale : ℕ) (result : Result A OpenStoreFault) → writes ≡ true
-    → IfOk result (λ d. IsOpenedFlushed held honest failed capacity stale (entries d)) → IfOk result (λ d. IsOpenedBy held honest failed writes capacity stale (entries d))
-by_writes held honest failed entries writes capacity stale (Ok d) write is = subst (λ b. IsOpenedBy held honest failed b capacity stale (entries d)) (sym write) is
-by_writes held honest failed entries writes capacity stale (Err e) write is = tt
+pub by_writes : {S A : Type 0} (held : S → Held) (honest : S → Bool) (failed : S → ℕ) (entries : A → ℕ) (writes : Bool) (capacity stale share : ℕ) (result : Result A OpenStoreFault) → writes ≡ true
+    → IfOk result (λ d. IsOpenedFlushed held honest failed capacity stale share (entries d)) → IfOk result (λ d. IsOpenedBy held honest failed writes capacity stale share (entries d))
+by_writes held honest failed entries writes capacity stale share (Ok d) write is = subst (λ b. IsOpenedBy held honest failed b capacity stale share (entries d)) (sym write) is
+by_writes held honest failed entries writes capacity stale share (Err e) write is = tt
 
-pub by_reads : {S A : Type 0} (held : S → Held) (honest : S → Bool) (failed : S → ℕ) (entries : A → ℕ) (writes : Bool) (capacity stale : ℕ) (result : Result A OpenStoreFault) → writes ≡ false
-    → IfOk result (λ d. entries d ≡ stale) → IfOk result (λ d. IsOpenedBy held honest failed writes capacity stale (entries d))
-by_reads held honest failed entries writes capacity stale (Ok d) read is = subst (λ b. IsOpenedBy held honest failed b capacity stale (entries d)) (sym read) is
-by_reads held honest failed entries writes capacity stale (Err e) read is = tt
+pub by_reads : {S A : Type 0} (held : S → Held) (honest : S → Bool) (failed : S → ℕ) (entries : A → ℕ) (writes : Bool) (capacity stale share : ℕ) (result : Result A OpenStoreFault) → writes ≡ false
+    → IfOk result (λ d. entries d ≡ stale) → IfOk result (λ d. IsOpenedBy held honest failed writes capacity stale share (entries d))
+by_reads held honest failed entries writes capacity stale share (Ok d) read is = subst (λ b. IsOpenedBy held honest failed b capacity stale share (entries d)) (sym read) is
+by_reads held honest failed entries writes capacity stale share (Err e) read is = tt
 
-pub later : {S A : Type 0} (held : S → Held) (honest : S → Bool) (failed : S → ℕ) (store given : S) (capacity stale : ℕ) (result : Result A OpenStoreFault)
-    → IsStale held honest store capacity stale given → IfErr result (IsUnopenedStale held honest failed given capacity stale) → IfErr result (IsUnopenedLater held honest failed store capacity)
-later held honest failed store given capacity stale (Ok d) was is = tt
-later held honest failed store given capacity stale (Err e) was is = inr (stale, given, was, is)
+pub later : {S A : Type 0} (held : S → Held) (honest : S → Bool) (failed : S → ℕ) (store given : S) (capacity stale share : ℕ) (result : Result A OpenStoreFault)
+    → IsStale held honest store capacity stale given → IfErr result (IsUnopenedStale held honest failed given capacity stale share) → IfErr result (IsUnopenedLater held honest failed store capacity share)
+later held honest failed store given capacity stale share (Ok d) was is = tt
+later held honest failed store given capacity stale share (Err e) was is = inr (stale, given, was, is)
 
-pub last_fault : {S A : Type 0} (held : S → Held) (honest : S → Bool) (failed : S → ℕ) (store : S) (capacity stale : ℕ) (result : Result A OpenStoreFault)
-    → IfErr result (IsLastFault held honest failed store stale) → IfErr result (IsUnopenedStale held honest failed store capacity stale)
-last_fault held honest failed store capacity stale (Ok d) is = tt
-last_fault held honest failed store capacity stale (Err e) is = inl is
+pub last_fault : {S A : Type 0} (held : S → Held) (honest : S → Bool) (failed : S → ℕ) (store : S) (capacity stale share : ℕ) (result : Result A OpenStoreFault)
+    → IfErr result (IsLastFault held honest failed store stale share) → IfErr result (IsUnopenedStale held honest failed store capacity stale share)
+last_fault held honest failed store capacity stale share (Ok d) is = tt
+last_fault held honest failed store capacity stale share (Err e) is = inl is
 
 -- the pages, by whether they may be written
 pub unwritten : {A : Type 0} (P Q : A → Type 0) (writes : Bool) (result : Result A OpenStoreFault) → writes ≡ true → IfOk result (λ d. writes ≡ false → P d → Q d)
@@ -106,10 +106,10 @@ unwritten P Q writes (Err e) write = tt
 -- ---- laws
 
 pub own_cache : {S : Type 0} (held : S → Held) (honest : S → Bool) (failed : S → ℕ) → OwnCacheLaw held honest failed
-own_cache held honest failed writes store capacity entries h room (inl own) = own
-own_cache held honest failed writes store capacity entries h room (inr larger) = absurd (room larger.0 larger.2.asked (larger.2.refuses h))
+own_cache held honest failed writes store capacity share entries h room (inl own) = own
+own_cache held honest failed writes store capacity share entries h room (inr larger) = absurd (room larger.0 larger.2.asked (larger.2.refuses h))
 
 pub unwritten_cache : {S : Type 0} (held : S → Held) (honest : S → Bool) (failed : S → ℕ) → UnwrittenCacheLaw held honest failed
-unwritten_cache held honest failed store capacity entries h (inl own) = inl own
-unwritten_cache held honest failed store capacity entries h (inr larger) =
+unwritten_cache held honest failed store capacity share entries h (inl own) = inl own
+unwritten_cache held honest failed store capacity share entries h (inr larger) =
     inr (larger.2.asked, subst (λ n. Refuses (held store).geometry capacity (held store).pages (TooStale n larger.2.asked)) (sym larger.3) (larger.2.refuses h))

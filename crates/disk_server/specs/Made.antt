@@ -1,5 +1,6 @@
 -- A STORE THAT WAS FORMATTED, and one that was not.
 use Rattle.std.specs.Prelude.{◌≡◌, ℕ, Bool, true, Result, Ok, Err}
+use Rattle.page_layout.specs.Geometry.{need_at}
 use Rattle.page_layout.specs.Flash.{Flash}
 use Rattle.file_die.specs.Store.{Held}
 use Rattle.mount.specs.declared.format_fault.FormatFault.{FormatFault}
@@ -8,19 +9,19 @@ use Rattle.disk_server.specs.Opened.{ComesBack, IsUnopenedAt, flash_of}
 use Rattle.disk_server.specs.declared.format.CreateFault.{CreateFault}
 use Rattle.disk_server.specs.declared.format.CreateFault.TheVariants as why
 
--- its die was opened, and its pages are what a format with this answer has made of them
-pub record IsFormattedFrom (s t : Held) (answer : Result ℕ FormatFault) : Type 0 where
+-- its die was opened, and its pages are what a format for a device of this share has made of them, with this answer
+pub record IsFormattedFrom (share : ℕ) (s t : Held) (answer : Result ℕ FormatFault) : Type 0 where
   pub new : Flash
   pub to : new.image ≡ t.pages
-  pub formats : Formats s.geometry (flash_of s) new answer
+  pub formats : Formats s.geometry (need_at s.geometry share) (flash_of s) new answer
 
 -- its pages became those of a formatted die with so many good blocks, and all of them last
-pub record IsDiskMade (s t : Held) (good : ℕ) : Type 0 where
-  pub formatted : IsFormattedFrom s t (Ok good)
+pub record IsDiskMade (share : ℕ) (s t : Held) (good : ℕ) : Type 0 where
+  pub formatted : IsFormattedFrom share s t (Ok good)
   pub lasts : t.durable ≡ t.pages
 
 -- why it was not formatted, or may not last, and what came back
-abbrev pub IsDiskUnmade : {S : Type 0} → (S → Held) → (honest : S → Bool) → (failed : S → ℕ) → S → S → CreateFault → Type 0
-IsDiskUnmade held honest failed store given (why.Open fault) = IsUnopenedAt held honest failed store given fault × ComesBack held honest store fault given
-IsDiskUnmade held honest failed store given (why.Format fault) = honest store ≡ true → IsFormattedFrom (held store) (held given) (Err fault)
-IsDiskUnmade held honest failed store given why.Sync = honest store ≡ true → (good : ℕ) × IsFormattedFrom (held store) (held given) (Ok good)
+abbrev pub IsDiskUnmade : {S : Type 0} → (S → Held) → (honest : S → Bool) → (failed : S → ℕ) → (share : ℕ) → S → S → CreateFault → Type 0
+IsDiskUnmade held honest failed share store given (why.Open fault) = IsUnopenedAt held honest failed store given fault × ComesBack held honest store fault given
+IsDiskUnmade held honest failed share store given (why.Format fault) = honest store ≡ true → IsFormattedFrom share (held store) (held given) (Err fault)
+IsDiskUnmade held honest failed share store given why.Sync = honest store ≡ true → (good : ℕ) × IsFormattedFrom share (held store) (held given) (Ok good)

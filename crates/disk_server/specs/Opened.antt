@@ -3,6 +3,7 @@ use Rattle.std.specs.Prelude.{◌≡◌, ◌≢◌, ℕ, Bool, true, List, [], O
 use Rattle.page_layout.specs.View.{View}
 use Rattle.page_layout.specs.declared.geometry.Geometry.{Geometry}
 use Rattle.page_layout.specs.Array.{array_of}
+use Rattle.page_layout.specs.Geometry.{IsShare}
 use Rattle.page_layout.specs.Counter.{HasRisen}
 use Rattle.page_layout.specs.Flash.{Flash}
 use Rattle.page_layout.specs.Recording.{Recording}
@@ -106,9 +107,15 @@ IsUnopenedAt held honest failed store given why.OutOfMemory = Unit {0}
 IsUnopenedAt held honest failed store given why.Device = HasRisen (failed store) (failed given)
 IsUnopenedAt held honest failed store given why.Reset = honest store ≡ true → HasRisen (failed store) (failed given)
 IsUnopenedAt held honest failed store given why.Flush = ⊥
+IsUnopenedAt held honest failed store given why.Share = ⊥
 IsUnopenedAt held honest failed store given (why.Mount refusal) = ⊥
 
 -- and after: what keeps the pages from being mounted is so of an honest store
 abbrev pub IsUnopened : {S : Type 0} → (S → Held) → (honest : S → Bool) → (failed : S → ℕ) → S → (capacity : ℕ) → S → OpenStoreFault → Type 0
 IsUnopened held honest failed store capacity given (why.Mount refusal) = honest store ≡ true → Refuses (held store).geometry capacity (held store).pages refusal
 IsUnopened held honest failed store capacity given fault = IsUnopenedAt held honest failed store given fault
+
+-- and where a device was to be started on it: its geometry has no such share
+abbrev pub IsUnstarted : {S : Type 0} → (S → Held) → (honest : S → Bool) → (failed : S → ℕ) → S → (capacity share : ℕ) → S → OpenStoreFault → Type 0
+IsUnstarted held honest failed store capacity share given why.Share = (¬ IsShare (held store).geometry share) × (given ≡ store)
+IsUnstarted held honest failed store capacity share given fault = IsUnopened held honest failed store capacity given fault

@@ -13,9 +13,9 @@ use Rattle.nbd_stream.specs.declared.task.Task.TheVariants.{Read}
 use Rattle.nbd_stream.specs.Disk.{Contents, PerformsTask}
 use Rattle.disk_server.specs.declared.opened.OpenStoreFault.{OpenStoreFault}
 use Rattle.disk_server.specs.Disk.{AsksChange, AsksClear, AsksFlush, AsksRead, AsksTurn, contents_of, holds, takes_changes}
-use Rattle.disk_server.specs.Opened.{IsUnopened, SyncsWhen, bytes_of, flash_in, flash_of, is_honest_in, view_in}
+use Rattle.disk_server.specs.Opened.{IsUnstarted, SyncsWhen, bytes_of, flash_in, flash_of, is_honest_in, view_in}
 
--- its device, where one is there; its sectors; what was next as its device stopped; whether it was opened anew; and how it is: with a cache of so many entries, and by when its die syncs its store
+-- its device, where one is there; its sectors; what was next as its device stopped; whether it was opened anew; and how it is: with a cache of so many entries, with this share, and by when its die syncs its store
 pub record Reopened (S : Type 0) : Type 0 where
   pub device : Option (Device (DriverState (FileState S)))
   pub size : ℕ
@@ -23,6 +23,7 @@ pub record Reopened (S : Type 0) : Type 0 where
   pub next : ℕ
   pub reopened : Bool
   pub capacity : ℕ
+  pub share : ℕ
   pub sync_when : SyncWhen
 
 -- what is true of its parts: its sectors are those of the device that is there
@@ -71,15 +72,16 @@ takes_in d = takes_by d.device
 
 -- ---- how it is opened anew
 
--- its sectors, the entries of the cache that it is opened anew with, and when its die syncs its store
+-- its sectors, the entries of the cache and the share that it is opened anew with, and when its die syncs its store
 pub record Terms : Type 0 where
   pub size : ℕ
   pub count : ℕ
   pub capacity : ℕ
+  pub share : ℕ
   pub sync_when : SyncWhen
 
 abbrev pub terms_of : {S : Type 0} → Reopened S → Terms
-terms_of d = record { size = d.size; count = d.count; capacity = d.capacity; sync_when = d.sync_when }
+terms_of d = record { size = d.size; count = d.count; capacity = d.capacity; share = d.share; sync_when = d.sync_when }
 
 -- so it is: with this device or none, on these terms, and opened anew or not
 pub record HasDevice {S : Type 0} (terms : Terms) (reopened : Bool) (next : ℕ) (device : Option (Device (DriverState (FileState S)))) (d : Reopened S) : Type 0 where
@@ -94,13 +96,14 @@ pub record IsOpenedFrom {S : Type 0} (held : S → Held) (honest : S → Bool) (
   pub bytes : honest store ≡ true → (contents_of (view_in held honest failed) d).bytes ≡ bytes_of (held store)
   pub pages : honest store ≡ true → flash_in held d.engine.nand ≡ flash_of (held store)
   pub entries : d.engine.mapping.capacity ≡ terms.capacity
+  pub share : d.engine.mapping.share ≡ terms.share
   pub syncs : SyncsWhen terms.sync_when d.engine.nand
   pub geometry : d.engine.geometry ≡ (held store).geometry
 
 -- why a store was not: it has no disk, or one of other sectors
 abbrev pub IsNotReopened : {S : Type 0} → (S → Held) → (honest : S → Bool) → (failed : S → ℕ) → Terms → S → Type 0
 IsNotReopened {S} held honest failed terms store =
-    ((why : OpenStoreFault) × (given : S) × IsUnopened held honest failed store terms.capacity given why)
+    ((why : OpenStoreFault) × (given : S) × IsUnstarted held honest failed store terms.capacity terms.share given why)
     ⊎ ((d : Device (DriverState (FileState S))) × IsOpenedFrom held honest failed terms store d × ((d.engine.geometry.data_bytes ≢ terms.size) ⊎ (d.engine.geometry.sectors ≢ terms.count)))
 
 -- ---- a call

@@ -10,7 +10,7 @@ use Rattle.ftl_device.specs.declared.device.Device.{Device}
 use Rattle.disk_server.specs.declared.opened.OpenStoreFault.{OpenStoreFault}
 use Rattle.disk_server.specs.declared.opened.OpenStoreFault.TheVariants.{Flush, Mount}
 use Rattle.disk_server.specs.Disk.{AsksFlush}
-use Rattle.disk_server.specs.Opened.{HasCome, IsUnopened, view_in}
+use Rattle.disk_server.specs.Opened.{HasCome, IsUnstarted, view_in}
 
 -- a store was refused for its stale sectors, and a cache of so many entries would have room for them
 pub record HasRoomFor (fault : OpenStoreFault) (stale : ℕ) : Type 0 where
@@ -32,10 +32,11 @@ pub record IsStale {S : Type 0} (held : S → Held) (honest : S → Bool) (store
   pub least : 1 ≤ stale
   pub most : stale ≤ 65536
 
--- a store was opened with so many entries, and its device was asked for one flush
-pub record AsksToFlush {S : Type 0} (held : S → Held) (honest : S → Bool) (failed : S → ℕ) (entries : ℕ) (answer : Result (Unit {0}) DiskFault) (left : Device (DriverState (FileState S))) : Type 0 where
+-- a store was opened with so many entries and this share, and its device was asked for one flush
+pub record AsksToFlush {S : Type 0} (held : S → Held) (honest : S → Bool) (failed : S → ℕ) (entries share : ℕ) (answer : Result (Unit {0}) DiskFault) (left : Device (DriverState (FileState S))) : Type 0 where
   pub opened : Device (DriverState (FileState S))
   pub entries_are : opened.engine.mapping.capacity ≡ entries
+  pub share_is : opened.engine.mapping.share ≡ share
   pub flush : AsksFlush (view_in held honest failed) opened answer left
 
 -- ---- it is opened
@@ -45,56 +46,56 @@ abbrev pub IsOpenedEither : {S : Type 0} → (S → Held) → (honest : S → Bo
 IsOpenedEither {S} held honest store capacity stale entries =
     (entries ≡ capacity) ⊎ (((again : ℕ) × (given : S) × IsStale held honest store capacity again given) × (entries ≡ stale))
 
-abbrev pub IsOpenedFlushed : {S : Type 0} → (S → Held) → (honest : S → Bool) → (failed : S → ℕ) → (capacity stale entries : ℕ) → Type 0
-IsOpenedFlushed {S} held honest failed capacity stale entries =
-    (left : Device (DriverState (FileState S))) × AsksToFlush held honest failed stale (Ok tt) left × IsOpenedEither held honest left.engine.nand.bus.store capacity stale entries
+abbrev pub IsOpenedFlushed : {S : Type 0} → (S → Held) → (honest : S → Bool) → (failed : S → ℕ) → (capacity stale share entries : ℕ) → Type 0
+IsOpenedFlushed {S} held honest failed capacity stale share entries =
+    (left : Device (DriverState (FileState S))) × AsksToFlush held honest failed stale share (Ok tt) left × IsOpenedEither held honest left.engine.nand.bus.store capacity stale entries
 
-abbrev pub IsOpenedBy : {S : Type 0} → (S → Held) → (honest : S → Bool) → (failed : S → ℕ) → (writes : Bool) → (capacity stale entries : ℕ) → Type 0
-IsOpenedBy held honest failed true capacity stale entries = IsOpenedFlushed held honest failed capacity stale entries
-IsOpenedBy held honest failed false capacity stale entries = entries ≡ stale
+abbrev pub IsOpenedBy : {S : Type 0} → (S → Held) → (honest : S → Bool) → (failed : S → ℕ) → (writes : Bool) → (capacity stale share entries : ℕ) → Type 0
+IsOpenedBy held honest failed true capacity stale share entries = IsOpenedFlushed held honest failed capacity stale share entries
+IsOpenedBy held honest failed false capacity stale share entries = entries ≡ stale
 
 -- WITH ITS OWN CACHE; or it has too many stale sectors, and is opened with as many entries, flushed where it is to be written, and opened again
-abbrev pub IsOpenedWith : {S : Type 0} → (S → Held) → (honest : S → Bool) → (failed : S → ℕ) → (writes : Bool) → S → (capacity entries : ℕ) → Type 0
-IsOpenedWith {S} held honest failed writes store capacity entries =
-    (entries ≡ capacity) ⊎ ((stale : ℕ) × (given : S) × IsStale held honest store capacity stale given × IsOpenedBy held honest failed writes capacity stale entries)
+abbrev pub IsOpenedWith : {S : Type 0} → (S → Held) → (honest : S → Bool) → (failed : S → ℕ) → (writes : Bool) → S → (capacity share entries : ℕ) → Type 0
+IsOpenedWith {S} held honest failed writes store capacity share entries =
+    (entries ≡ capacity) ⊎ ((stale : ℕ) × (given : S) × IsStale held honest store capacity stale given × IsOpenedBy held honest failed writes capacity stale share entries)
 
 -- ---- it is not
 
 -- what the last attempt tells
-abbrev pub IsLastFault : {S : Type 0} → (S → Held) → (honest : S → Bool) → (failed : S → ℕ) → S → (capacity : ℕ) → OpenStoreFault → Type 0
-IsLastFault {S} held honest failed store capacity fault = (given : S) × IsUnopened held honest failed store capacity given fault
+abbrev pub IsLastFault : {S : Type 0} → (S → Held) → (honest : S → Bool) → (failed : S → ℕ) → S → (capacity share : ℕ) → OpenStoreFault → Type 0
+IsLastFault {S} held honest failed store capacity share fault = (given : S) × IsUnstarted held honest failed store capacity share given fault
 
 -- which no larger cache mends
-abbrev pub IsFault : {S : Type 0} → (S → Held) → (honest : S → Bool) → (failed : S → ℕ) → S → (capacity : ℕ) → OpenStoreFault → Type 0
-IsFault held honest failed store capacity fault = IsLastFault held honest failed store capacity fault × ((stale : ℕ) → ¬ HasRoomFor fault stale)
+abbrev pub IsFault : {S : Type 0} → (S → Held) → (honest : S → Bool) → (failed : S → ℕ) → S → (capacity share : ℕ) → OpenStoreFault → Type 0
+IsFault held honest failed store capacity share fault = IsLastFault held honest failed store capacity share fault × ((stale : ℕ) → ¬ HasRoomFor fault stale)
 
 -- once it was flushed: not with so many entries, nor with as many as were stale before
-abbrev pub IsOpenedNeither : {S : Type 0} → (S → Held) → (honest : S → Bool) → (failed : S → ℕ) → S → (capacity stale : ℕ) → OpenStoreFault → Type 0
-IsOpenedNeither {S} held honest failed store capacity stale fault =
-    IsFault held honest failed store capacity fault
-    ⊎ ((again : ℕ) × (given : S) × IsStale held honest store capacity again given × IsLastFault held honest failed given stale fault)
+abbrev pub IsOpenedNeither : {S : Type 0} → (S → Held) → (honest : S → Bool) → (failed : S → ℕ) → S → (capacity stale share : ℕ) → OpenStoreFault → Type 0
+IsOpenedNeither {S} held honest failed store capacity stale share fault =
+    IsFault held honest failed store capacity share fault
+    ⊎ ((again : ℕ) × (given : S) × IsStale held honest store capacity again given × IsLastFault held honest failed given stale share fault)
 
 -- A STORE WITH SO MANY STALE SECTORS is not opened with as many entries; or its device failed its flush; or it is not opened again
-abbrev pub IsUnopenedStale : {S : Type 0} → (S → Held) → (honest : S → Bool) → (failed : S → ℕ) → S → (capacity stale : ℕ) → OpenStoreFault → Type 0
-IsUnopenedStale {S} held honest failed store capacity stale fault =
-    IsLastFault held honest failed store stale fault
-    ⊎ (((e : DiskFault) × (left : Device (DriverState (FileState S))) × AsksToFlush held honest failed stale (Err e) left × (fault ≡ Flush))
-    ⊎ ((left : Device (DriverState (FileState S))) × AsksToFlush held honest failed stale (Ok tt) left × IsOpenedNeither held honest failed left.engine.nand.bus.store capacity stale fault))
+abbrev pub IsUnopenedStale : {S : Type 0} → (S → Held) → (honest : S → Bool) → (failed : S → ℕ) → S → (capacity stale share : ℕ) → OpenStoreFault → Type 0
+IsUnopenedStale {S} held honest failed store capacity stale share fault =
+    IsLastFault held honest failed store stale share fault
+    ⊎ (((e : DiskFault) × (left : Device (DriverState (FileState S))) × AsksToFlush held honest failed stale share (Err e) left × (fault ≡ Flush))
+    ⊎ ((left : Device (DriverState (FileState S))) × AsksToFlush held honest failed stale share (Ok tt) left × IsOpenedNeither held honest failed left.engine.nand.bus.store capacity stale share fault))
 
 -- WHY IT IS NOT OPENED: what is told is so of the store, and no larger cache mends it; or it has too many stale sectors, and why it is not opened with a larger one
-abbrev pub IsUnopenedLater : {S : Type 0} → (S → Held) → (honest : S → Bool) → (failed : S → ℕ) → S → (capacity : ℕ) → OpenStoreFault → Type 0
-IsUnopenedLater {S} held honest failed store capacity fault =
-    IsFault held honest failed store capacity fault
-    ⊎ ((stale : ℕ) × (given : S) × IsStale held honest store capacity stale given × IsUnopenedStale held honest failed given capacity stale fault)
+abbrev pub IsUnopenedLater : {S : Type 0} → (S → Held) → (honest : S → Bool) → (failed : S → ℕ) → S → (capacity share : ℕ) → OpenStoreFault → Type 0
+IsUnopenedLater {S} held honest failed store capacity share fault =
+    IsFault held honest failed store capacity share fault
+    ⊎ ((stale : ℕ) × (given : S) × IsStale held honest store capacity stale given × IsUnopenedStale held honest failed given capacity stale share fault)
 
 -- ---- laws
 
 -- AN HONEST STORE WHOSE STALE SECTORS HAVE ROOM IS OPENED WITH ITS OWN CACHE
 abbrev pub OwnCacheLaw : {S : Type 0} → (S → Held) → (honest : S → Bool) → (failed : S → ℕ) → Type 0
-OwnCacheLaw {S} held honest failed = (writes : Bool) (store : S) (capacity entries : ℕ) → honest store ≡ true
-    → ((stale asked : ℕ) → ¬ Refuses (held store).geometry capacity (held store).pages (TooStale stale asked)) → IsOpenedWith held honest failed writes store capacity entries → entries ≡ capacity
+OwnCacheLaw {S} held honest failed = (writes : Bool) (store : S) (capacity share entries : ℕ) → honest store ≡ true
+    → ((stale asked : ℕ) → ¬ Refuses (held store).geometry capacity (held store).pages (TooStale stale asked)) → IsOpenedWith held honest failed writes store capacity share entries → entries ≡ capacity
 
 -- ONE THAT IS NOT TO BE WRITTEN IS OPENED WITH ITS OWN CACHE, or with just as many entries as it was refused for
 abbrev pub UnwrittenCacheLaw : {S : Type 0} → (S → Held) → (honest : S → Bool) → (failed : S → ℕ) → Type 0
-UnwrittenCacheLaw {S} held honest failed = (store : S) (capacity entries : ℕ) → honest store ≡ true → IsOpenedWith held honest failed false store capacity entries
+UnwrittenCacheLaw {S} held honest failed = (store : S) (capacity share entries : ℕ) → honest store ≡ true → IsOpenedWith held honest failed false store capacity share entries
     → (entries ≡ capacity) ⊎ ((asked : ℕ) × Refuses (held store).geometry capacity (held store).pages (TooStale entries asked))

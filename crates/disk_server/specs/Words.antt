@@ -21,6 +21,7 @@ open_words open_store.OutOfMemory = codes "OutOfMemory"
 open_words open_store.Device = codes "Device"
 open_words open_store.Reset = codes "Reset"
 open_words open_store.Flush = codes "Flush"
+open_words open_store.Share = codes "Share"
 open_words (open_store.Mount refusal) = codes "Mount " ++ name_of refusal
 
 abbrev pub create_words : CreateFault → List ℕ

@@ -1,5 +1,6 @@
 //! The device, by its sectors.
 ghost use Rattle.std.specs.Prelude.{◌≡◌, true, IfOk, IfErr};
+ghost use Rattle.page_layout.specs.Geometry.{IsShare};
 ghost use Rattle.certificate.specs.Claim.{sizes_of};
 ghost use Rattle.collection.specs.Safe.{ram};
 ghost use Rattle.ftl_device.specs.Begin.{begun_ram};
@@ -48,7 +49,7 @@ impl<N: Nand> DeviceDisk<N> {
         DeviceDisk { device }
     }
 
-    /// The disk of a device that is started over a die whose image a checker accepted. Nothing is asked of the die.
+    /// The disk of a device of this share that is started over a die whose image a checker accepted. Nothing is asked of the die.
     ///
     /// # Errors
     ///
@@ -56,16 +57,25 @@ impl<N: Nand> DeviceDisk<N> {
     pub fn start<'a>(
         alloc: Global,
         nand: N,
+        share: u32,
         accepted: Accepted<'a>,
     ) -> Result<DeviceDisk<N>, StartFault<'a, N>>
+        requires share { IsShare (N.view.flash nand).geometry share }
         requires same_geometry { sizes_of (N.view.flash nand).geometry ≡ accepted.claim.sizes }
         requires accepted { N.view.honest nand ≡ true → IsAcceptedFor (N.view.flash nand) accepted }
         ensures nand { IfOk result (λ d. d.engine.nand ≡ nand) }
-        ensures begun { IfOk result (λ d. ram d.engine ≡ begun_ram (N.view.flash nand).geometry 0 accepted.entry.claim accepted.entry.stale) }
+        ensures begun { IfOk result (λ d. ram d.engine ≡ begun_ram (N.view.flash nand).geometry share accepted.entry.claim accepted.entry.stale) }
         ensures fault { IfErr result (λ fault. fault ≡ StartFault.OutOfMemory nand accepted.entry) }
     {
-        let device = Device::start(alloc, nand, accepted)?;
+        let device = Device::start_at(alloc, nand, share, accepted)?;
         Ok(DeviceDisk { device })
+    }
+
+    /// How many moved sectors may wait for each translation page in the mean.
+    pub fn share(&self) -> u32
+        ensures { result ≡ self.now.engine.mapping.share }
+    {
+        self.device.engine.mapping.share()
     }
 
     /// Gives the device back.

@@ -4,7 +4,7 @@ ghost use Rattle.disk_server.specs.Made.{IsDiskMade, IsDiskUnmade};
 
 use crate::opened::{OpenStoreFault, driver_over};
 use file_die::{Store, SyncWhen};
-use mount::{FormatFault, format};
+use mount::{FormatFault, format_at};
 use std::alloc::Global;
 use std::error::Error;
 use std::fmt;
@@ -46,15 +46,19 @@ impl fmt::Display for CreateFault {
     }
 }
 
-/// Formats the die that a store holds, has all its pages last, and answers its good blocks. None of its blocks is bad but those that their pages show. (This project's.)
+/// Formats the die that a store holds for a device of this share, has all its pages last, and answers its good blocks. None of its blocks is bad but those that their pages show. (This project's.)
 ///
 /// # Errors
 ///
-/// With the store: `Open` where a load failed or a growth was refused, and its pages are as they were but where a load failed; `Format` as `mount::format` has it; `Sync` where the last
+/// With the store: `Open` where a load failed or a growth was refused, and its pages are as they were but where a load failed; `Format` as `mount::format_at` has it; `Sync` where the last
 /// sync failed: it is formatted, and its pages may not all last.
-pub fn format_store<S: Store + Drop>(alloc: Global, store: S) -> Result<(S, u32), (S, CreateFault)>
-    ensures made { IfOk result (λ made. S.honest store ≡ true → IsDiskMade (S.held store) (S.held made.0) made.1) }
-    ensures unmade { IfErr result (λ e. IsDiskUnmade S.held S.honest S.failed store e.0 e.1) }
+pub fn format_store<S: Store + Drop>(
+    alloc: Global,
+    store: S,
+    share: u32,
+) -> Result<(S, u32), (S, CreateFault)>
+    ensures made { IfOk result (λ made. S.honest store ≡ true → IsDiskMade share (S.held store) (S.held made.0) made.1) }
+    ensures unmade { IfErr result (λ e. IsDiskUnmade S.held S.honest S.failed share store e.0 e.1) }
     ensures honest { MatchResult result (λ made. S.honest made.0 ≡ S.honest store) (λ e. S.honest e.0 ≡ S.honest store) }
 {
     let geometry = store.geometry();
@@ -62,7 +66,7 @@ pub fn format_store<S: Store + Drop>(alloc: Global, store: S) -> Result<(S, u32)
         Ok(driver) => driver,
         Err((store, fault)) => return Err((store, CreateFault::Open(fault))),
     };
-    let formatted = format(alloc, &mut driver, &geometry);
+    let formatted = format_at(alloc, &mut driver, &geometry, share);
     let mut die = driver.into_bus();
     let good = match formatted {
         Ok(good) => good,

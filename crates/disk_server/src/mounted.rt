@@ -1,6 +1,7 @@
 //! A die is mounted, and the disk of a device is started over it.
 ghost use Rattle.std.specs.Prelude.{◌≡◌, ◌≤◌, true, IfOk, IfErr};
 ghost use Rattle.page_layout.specs.Array.{array_of};
+ghost use Rattle.page_layout.specs.Geometry.{IsShare};
 ghost use Rattle.page_layout.specs.OnlyReads.{OnlyReads};
 ghost use Rattle.certificate.specs.Claim.{sizes_of};
 ghost use Rattle.collection.specs.Safe.{ram};
@@ -22,19 +23,21 @@ use onfi_cycles::Nand;
 use page_layout::geometry::Geometry;
 use std::alloc::Global;
 
-// The disk of a device that is started over a die whose image was mounted. The die comes back where a growth was refused.
+// The disk of a device of this share that is started over a die whose image was mounted. The die comes back where a growth was refused.
 fn start_disk<'a, N: Nand>(
     alloc: Global,
     nand: N,
+    share: u32,
     accepted: Accepted<'a>,
 ) -> Result<SectorDisk<DeviceDisk<N>>, N>
+    requires share { IsShare (N.view.flash nand).geometry share }
     requires same_geometry { sizes_of (N.view.flash nand).geometry ≡ accepted.claim.sizes }
     requires accepted { N.view.honest nand ≡ true → IsAcceptedFor (N.view.flash nand) accepted }
     ensures nand { IfOk result (λ d. d.engine.nand ≡ nand) }
-    ensures begun { IfOk result (λ d. ram d.engine ≡ begun_ram (N.view.flash nand).geometry 0 accepted.entry.claim accepted.entry.stale) }
+    ensures begun { IfOk result (λ d. ram d.engine ≡ begun_ram (N.view.flash nand).geometry share accepted.entry.claim accepted.entry.stale) }
     ensures back { IfErr result (λ back. back ≡ nand) }
 {
-    let disk = match DeviceDisk::start(alloc, nand, accepted) {
+    let disk = match DeviceDisk::start(alloc, nand, share, accepted) {
         Ok(disk) => disk,
         Err(StartFault::OutOfMemory { nand, .. }) => return Err(nand),
     };
@@ -46,7 +49,8 @@ fn start_disk<'a, N: Nand>(
 
 /// Mounts what a die holds, and starts a device from it: of a die that is honest, the disk has the array that the image holds, byte by byte, and is
 /// honest. The certificate of a mount agrees with the image, so it is not checked again, and each page is looked at once, the newest translation pages
-/// twice. Whatever the die is, it is asked for reads alone. The cache has room for `capacity` entries.
+/// twice. Whatever the die is, it is asked for reads alone. The cache has room for `capacity` entries, and
+/// `share` moved sectors may wait for each translation page in the mean.
 ///
 /// # Errors
 ///
@@ -59,12 +63,15 @@ pub fn open_mounted<N: Nand>(
     mut nand: N,
     geometry: &Geometry,
     capacity: u32,
+    share: u32,
 ) -> Result<SectorDisk<DeviceDisk<N>>, OpenFault<N>>
     requires same_geometry { (N.view.flash nand).geometry ≡ geometry.now }
     requires least { 1 ≤ capacity }
     requires most { capacity ≤ 65536 }
+    requires share { IsShare geometry.now share }
     ensures geometry { IfOk result (λ d. d.engine.geometry ≡ geometry.now) }
     ensures entries { IfOk result (λ d. d.engine.mapping.capacity ≡ capacity) }
+    ensures share { IfOk result (λ d. d.engine.mapping.share ≡ share) }
     ensures honest { IfOk result (λ d. holds N.view.honest d ≡ N.view.honest nand) }
     ensures array { IfOk result (λ d. N.view.honest nand ≡ true → array_in N.view.flash d ≡ array_of geometry.now (N.view.flash nand).image) }
     ensures pages { IfOk result (λ d. N.view.honest nand ≡ true → N.view.flash d.engine.nand ≡ N.view.flash nand) }
@@ -77,7 +84,7 @@ pub fn open_mounted<N: Nand>(
         Err(refusal) => return Err(OpenFault::Refused { refusal, nand }),
     };
     let accepted = Accepted::new(&certificate, stale);
-    match start_disk(alloc, nand, accepted) {
+    match start_disk(alloc, nand, share, accepted) {
         Ok(disk) => Ok(disk),
         Err(nand) => Err(OpenFault::Start { nand }),
     }

@@ -1,6 +1,7 @@
 //! A die is checked, and the disk of a device is started over it.
 ghost use Rattle.std.specs.Prelude.{◌≡◌, true, IfOk, IfErr};
 ghost use Rattle.page_layout.specs.Array.{array_of};
+ghost use Rattle.page_layout.specs.Geometry.{IsShare};
 ghost use Rattle.page_layout.specs.OnlyReads.{OnlyReads};
 ghost use Rattle.ftl_device.specs.Calls.{array_in};
 ghost use Rattle.disk_server.specs.Disk.{holds};
@@ -26,7 +27,7 @@ pub enum OpenFault<N> {
     Start { nand: N },
 }
 
-/// Checks that the certificate agrees with what the die holds, and starts a device from it: of a die that is honest, the disk has the array that the
+/// Checks that the certificate agrees with what the die holds, and starts a device of this share from it: of a die that is honest, the disk has the array that the
 /// image holds, byte by byte, and is honest. Whatever the die is, it is asked for reads alone.
 ///
 /// # Errors
@@ -40,10 +41,13 @@ pub fn open_checked<N: Nand>(
     mut nand: N,
     geometry: &Geometry,
     capacity: u32,
+    share: u32,
     certificate: &Certificate,
 ) -> Result<DeviceDisk<N>, OpenFault<N>>
     requires same_geometry { (N.view.flash nand).geometry ≡ geometry.now }
+    requires share { IsShare geometry.now share }
     ensures geometry { IfOk result (λ d. d.engine.geometry ≡ geometry.now) }
+    ensures share { IfOk result (λ d. d.engine.mapping.share ≡ share) }
     ensures honest { IfOk result (λ d. holds N.view.honest d ≡ N.view.honest nand) }
     ensures array { IfOk result (λ d. N.view.honest nand ≡ true → array_in N.view.flash d ≡ array_of geometry.now (N.view.flash nand).image) }
     ensures reads { IfOk result (λ d. OnlyReads N.view nand d.engine.nand) }
@@ -54,7 +58,7 @@ pub fn open_checked<N: Nand>(
         Ok(accepted) => accepted,
         Err(refusal) => return Err(OpenFault::Refused { refusal, nand }),
     };
-    let disk = match DeviceDisk::start(alloc, nand, accepted) {
+    let disk = match DeviceDisk::start(alloc, nand, share, accepted) {
         Ok(disk) => disk,
         Err(StartFault::OutOfMemory { nand, .. }) => return Err(OpenFault::Start { nand }),
     };

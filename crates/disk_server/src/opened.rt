@@ -2,7 +2,7 @@
 ghost use Rattle.std.specs.Prelude.{◌≡◌, ◌≤◌, ℕ, true, IfOk, IfErr};
 ghost use Rattle.mount.specs.Mounted.{IsMounted};
 ghost use Rattle.disk_server.specs.Disk.{contents_of, holds};
-ghost use Rattle.disk_server.specs.Opened.{bytes_of, flash_in, flash_of, is_honest_in, ComesBack, HasCome, IsUnopened, IsUnopenedAt, SyncsWhen, why_of, view_in};
+ghost use Rattle.disk_server.specs.Opened.{bytes_of, flash_in, flash_of, is_honest_in, ComesBack, HasCome, IsUnopened, IsUnopenedAt, IsUnstarted, SyncsWhen, why_of, view_in};
 ghost use Rattle.disk_server.specs.Open.{nand_of};
 
 use crate::device_disk::DeviceDisk;
@@ -32,6 +32,8 @@ pub enum OpenStoreFault {
     Reset,
     /// The device over the die failed to flush what a stop had left. Only `open_stopped` answers so.
     Flush,
+    /// No device of the die's geometry may have this share. Nothing was asked of the store.
+    Share,
     /// Its pages are no die with a device on it that a cache of this size goes with.
     Mount(Refusal),
 }
@@ -50,6 +52,7 @@ impl fmt::Display for OpenStoreFault {
             OpenStoreFault::Device => f.write_str("Device"),
             OpenStoreFault::Reset => f.write_str("Reset"),
             OpenStoreFault::Flush => f.write_str("Flush"),
+            OpenStoreFault::Share => f.write_str("Share"),
             OpenStoreFault::Mount(refusal) => write!(f, "Mount {refusal}"),
         }
     }
@@ -133,34 +136,39 @@ pub fn mount_store<S: Store + Drop>(
     }
 }
 
-/// Opens the disk of the die that a store holds: its pages are mounted, and a device with a cache of `capacity` entries is started. **Of a store that is honest
+/// Opens the disk of the die that a store holds: its pages are mounted, and a device with a cache of `capacity` entries is started, in which `share` moved sectors may wait for each translation page in the mean. **Of a store that is honest
 /// the disk's bytes are those of the array that its pages hold, one sector behind another, and it is honest.** The pages stay. The die syncs the store as
 /// `sync_when` says.
 ///
 /// # Errors
 ///
 /// `Mount` with what keeps the pages from being mounted, which is so of an honest store. `Device` where a load failed before that, `Reset` where the die over the store
-/// took no reset. `OutOfMemory` where a growth was refused. The store comes back, its pages as they were but where a load failed. (This project's.)
+/// took no reset. `OutOfMemory` where a growth was refused. `Share` where the geometry has no such share, and then nothing is asked of the store. The store comes back, its pages as they were but where a load failed. (This project's.)
 pub fn open_store<S: Store + Drop>(
     alloc: Global,
     store: S,
     capacity: u32,
+    share: u32,
     sync_when: SyncWhen,
 ) -> Result<StoreDisk<S>, (S, OpenStoreFault)>
     requires least { 1 ≤ capacity }
     requires most { capacity ≤ 65536 }
     ensures geometry { IfOk result (λ d. d.engine.geometry ≡ (S.held store).geometry) }
     ensures entries { IfOk result (λ d. d.engine.mapping.capacity ≡ capacity) }
+    ensures share { IfOk result (λ d. d.engine.mapping.share ≡ share) }
     ensures syncs { IfOk result (λ d. SyncsWhen sync_when d.engine.nand) }
     ensures honest { IfOk result (λ d. holds (is_honest_in S.honest) d ≡ S.honest store) }
     ensures bytes { IfOk result (λ d. S.honest store ≡ true → (contents_of (view_in S.held S.honest S.failed) d).bytes ≡ bytes_of (S.held store)) }
     ensures pages { IfOk result (λ d. S.honest store ≡ true → flash_in S.held d.engine.nand ≡ flash_of (S.held store)) }
-    ensures fault { IfErr result (λ e. IsUnopened S.held S.honest S.failed store capacity e.0 e.1) }
+    ensures fault { IfErr result (λ e. IsUnstarted S.held S.honest S.failed store capacity share e.0 e.1) }
     ensures given { IfErr result (λ e. ComesBack S.held S.honest store e.1 e.0) }
 {
     let geometry = store.geometry();
+    if !geometry.is_share(share) {
+        return Err((store, OpenStoreFault::Share));
+    }
     let driver = driver_over(alloc, store, sync_when)?;
-    match open_mounted(alloc, driver, &geometry, capacity) {
+    match open_mounted(alloc, driver, &geometry, capacity, share) {
         Ok(disk) => Ok(disk),
         Err(fault) => Err(unopened(fault)),
     }

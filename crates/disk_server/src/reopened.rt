@@ -16,7 +16,7 @@ type StoreDevice<S> = DeviceDisk<Driver<FileDie<S>>>;
 /// The device of the die that a store holds, which goes on where the store had no room for a page. (This project's.)
 ///
 /// A page that was not programmed stops the device. Where the store tells that it was full, it is opened anew then, from the pages that the device has left, with a cache of
-/// `capacity` entries, and nothing is programmed for that: the change is answered `NoSpace`, and the next one is asked of the device that is there. Where it was not full, or was not
+/// `capacity` entries and the share that it had, and nothing is programmed for that: the change is answered `NoSpace`, and the next one is asked of the device that is there. Where it was not full, or was not
 /// opened, the device is gone, and each call answers `Failed`. A torn page costs its block until the disk is recovered, as after a kill.
 ///
 /// Its contents are those of the device that is there. They are known to be what it was given until it is opened anew: from then on it is honest no more, and what the device
@@ -30,6 +30,7 @@ pub struct ReopenedDevice<S: Store> {
     reopened: bool,
     alloc: Global,
     capacity: u32,
+    share: u32,
     sync_when: SyncWhen,
 }
 
@@ -45,6 +46,7 @@ impl<S: Store> Model for ReopenedDevice<S> {
       next = d.next;
       reopened = d.reopened;
       capacity = d.capacity;
+      share = d.share;
       sync_when = d.sync_when;
     } };
 
@@ -79,10 +81,12 @@ impl<S: Store + TellsFull + Drop> ReopenedDevice<S> {
         ensures device { result.device ≡ Some device }
         ensures reopened { result.reopened ≡ false }
         ensures capacity { result.capacity ≡ capacity }
+        ensures share { result.share ≡ device.engine.mapping.share }
         ensures sync_when { result.sync_when ≡ sync_when }
     {
         let size = device.sector_bytes();
         let count = device.sector_count();
+        let share = device.share();
         ReopenedDevice {
             device: Some(device),
             size,
@@ -91,6 +95,7 @@ impl<S: Store + TellsFull + Drop> ReopenedDevice<S> {
             reopened: false,
             alloc,
             capacity,
+            share,
             sync_when,
         }
     }
@@ -119,7 +124,7 @@ impl<S: Store + TellsFull + Drop> ReopenedDevice<S> {
         ensures unopened { result ≡ false → IsNotReopened S.held S.honest S.failed (terms_of self.old) store }
         ensures same { result ≡ false → self.new ≡ self.old }
     {
-        match open_store(self.alloc, store, self.capacity, self.sync_when) {
+        match open_store(self.alloc, store, self.capacity, self.share, self.sync_when) {
             Ok(disk) => self.take_in(disk.into_sectors()),
             Err(_) => false,
         }

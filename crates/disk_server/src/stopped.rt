@@ -40,18 +40,20 @@ fn open_once<S: Store + Drop>(
     alloc: Global,
     store: S,
     capacity: u32,
+    share: u32,
     sync_when: SyncWhen,
 ) -> Result<StoreDisk<S>, OpenStoreFault>
     requires least { 1 ≤ capacity }
     requires most { capacity ≤ 65536 }
     ensures syncs { IfOk result (λ d. SyncsWhen sync_when d.engine.nand) }
+    ensures share { IfOk result (λ d. d.engine.mapping.share ≡ share) }
     ensures honest { IfOk result (λ d. holds (is_honest_in S.honest) d ≡ S.honest store) }
     ensures bytes { IfOk result (λ d. S.honest store ≡ true → (contents_of (view_in S.held S.honest S.failed) d).bytes ≡ bytes_of (S.held store)) }
     ensures pages { IfOk result (λ d. S.honest store ≡ true → flash_in S.held d.engine.nand ≡ flash_of (S.held store)) }
     ensures entries { IfOk result (λ d. d.engine.mapping.capacity ≡ capacity) }
-    ensures fault { IfErr result (IsLastFault S.held S.honest S.failed store capacity) }
+    ensures fault { IfErr result (IsLastFault S.held S.honest S.failed store capacity share) }
 {
-    match open_store(alloc, store, capacity, sync_when) {
+    match open_store(alloc, store, capacity, share, sync_when) {
         Ok(disk) => Ok(disk),
         Err((_, fault)) => Err(fault),
     }
@@ -63,23 +65,25 @@ fn open_either<S: Store + Drop>(
     store: S,
     capacity: u32,
     stale: u32,
+    share: u32,
     sync_when: SyncWhen,
 ) -> Result<StoreDisk<S>, OpenStoreFault>
     requires least { (1 ≤ capacity) × (1 ≤ stale) }
     requires most { (capacity ≤ 65536) × (stale ≤ 65536) }
     ensures syncs { IfOk result (λ d. SyncsWhen sync_when d.engine.nand) }
+    ensures share { IfOk result (λ d. d.engine.mapping.share ≡ share) }
     ensures honest { IfOk result (λ d. holds (is_honest_in S.honest) d ≡ S.honest store) }
     ensures bytes { IfOk result (λ d. S.honest store ≡ true → (contents_of (view_in S.held S.honest S.failed) d).bytes ≡ bytes_of (S.held store)) }
     ensures entries { IfOk result (λ d. IsOpenedEither S.held S.honest store capacity stale d.engine.mapping.capacity) }
-    ensures fault { IfErr result (IsOpenedNeither S.held S.honest S.failed store capacity stale) }
+    ensures fault { IfErr result (IsOpenedNeither S.held S.honest S.failed store capacity stale share) }
 {
-    let (store, fault) = match open_store(alloc, store, capacity, sync_when) {
+    let (store, fault) = match open_store(alloc, store, capacity, share, sync_when) {
         Ok(disk) => return Ok(disk),
         Err(back) => back,
     };
     match stale_in(&fault) {
         None => Err(fault),
-        Some(_) => open_once(alloc, store, stale, sync_when),
+        Some(_) => open_once(alloc, store, stale, share, sync_when),
     }
 }
 
@@ -89,22 +93,24 @@ fn open_stale<S: Store + Drop>(
     store: S,
     capacity: u32,
     stale: u32,
+    share: u32,
     sync_when: SyncWhen,
 ) -> Result<StoreDisk<S>, OpenStoreFault>
     requires least { (1 ≤ capacity) × (1 ≤ stale) }
     requires most { (capacity ≤ 65536) × (stale ≤ 65536) }
     ensures syncs { IfOk result (λ d. SyncsWhen sync_when d.engine.nand) }
+    ensures share { IfOk result (λ d. d.engine.mapping.share ≡ share) }
     ensures honest { IfOk result (λ d. S.honest store ≡ true → holds (is_honest_in S.honest) d ≡ true) }
     ensures bytes { IfOk result (λ d. S.honest store ≡ true → (contents_of (view_in S.held S.honest S.failed) d).bytes ≡ bytes_of (S.held store)) }
-    ensures entries { IfOk result (λ d. IsOpenedFlushed S.held S.honest S.failed capacity stale d.engine.mapping.capacity) }
-    ensures fault { IfErr result (IsUnopenedStale S.held S.honest S.failed store capacity stale) }
+    ensures entries { IfOk result (λ d. IsOpenedFlushed S.held S.honest S.failed capacity stale share d.engine.mapping.capacity) }
+    ensures fault { IfErr result (IsUnopenedStale S.held S.honest S.failed store capacity stale share) }
 {
-    let mut disk = match open_store(alloc, store, stale, sync_when) {
+    let mut disk = match open_store(alloc, store, stale, share, sync_when) {
         Ok(disk) => disk,
         Err((_, fault)) => return Err(fault),
     };
     match flush(&mut disk) {
-        Ok(()) => open_either(alloc, close_store(disk), capacity, stale, sync_when),
+        Ok(()) => open_either(alloc, close_store(disk), capacity, stale, share, sync_when),
         Err(_) => Err(OpenStoreFault::Flush),
     }
 }
@@ -113,7 +119,7 @@ fn open_stale<S: Store + Drop>(
 /// then it is opened with as many entries as it wants, flushed, and opened again. One that takes no change any more keeps that larger cache. **Of a store that is
 /// honest the disk holds its array, and its bytes are those of the array that its pages held.**
 ///
-/// With `writes` false nothing is flushed, the pages stay, and so does the larger cache.
+/// With `writes` false nothing is flushed, the pages stay, and so does the larger cache. The share stays in each case.
 ///
 /// # Errors
 ///
@@ -123,19 +129,21 @@ pub fn open_stopped<S: Store + Drop>(
     alloc: Global,
     store: S,
     capacity: u32,
+    share: u32,
     sync_when: SyncWhen,
     writes: bool,
 ) -> Result<StoreDisk<S>, OpenStoreFault>
     requires least { 1 ≤ capacity }
     requires most { capacity ≤ 65536 }
     ensures syncs { IfOk result (λ d. SyncsWhen sync_when d.engine.nand) }
+    ensures share { IfOk result (λ d. d.engine.mapping.share ≡ share) }
     ensures honest { IfOk result (λ d. S.honest store ≡ true → holds (is_honest_in S.honest) d ≡ true) }
     ensures bytes { IfOk result (λ d. S.honest store ≡ true → (contents_of (view_in S.held S.honest S.failed) d).bytes ≡ bytes_of (S.held store)) }
     ensures pages { IfOk result (λ d. writes ≡ false → S.honest store ≡ true → flash_in S.held d.engine.nand ≡ flash_of (S.held store)) }
-    ensures entries { IfOk result (λ d. IsOpenedWith S.held S.honest S.failed writes store capacity d.engine.mapping.capacity) }
-    ensures fault { IfErr result (IsUnopenedLater S.held S.honest S.failed store capacity) }
+    ensures entries { IfOk result (λ d. IsOpenedWith S.held S.honest S.failed writes store capacity share d.engine.mapping.capacity) }
+    ensures fault { IfErr result (IsUnopenedLater S.held S.honest S.failed store capacity share) }
 {
-    let (store, fault) = match open_store(alloc, store, capacity, sync_when) {
+    let (store, fault) = match open_store(alloc, store, capacity, share, sync_when) {
         Ok(disk) => return Ok(disk),
         Err(back) => back,
     };
@@ -143,9 +151,9 @@ pub fn open_stopped<S: Store + Drop>(
         None => Err(fault),
         Some(stale) => {
             if writes {
-                open_stale(alloc, store, capacity, stale, sync_when)
+                open_stale(alloc, store, capacity, stale, share, sync_when)
             } else {
-                open_once(alloc, store, stale, sync_when)
+                open_once(alloc, store, stale, share, sync_when)
             }
         }
     }

@@ -9,5 +9,7 @@ mod noise;
 mod old;
 mod pairs;
 mod script;
+mod script_rows;
 mod stop_rows;
 mod stops;
+mod waiting;

@@ -21,7 +21,7 @@ use Rattle.ftl_device.specs.declared.fault.CallFault.TheVariants as call
 use Rattle.ftl_device.specs.declared.fault.DeviceFault.{DeviceFault}
 use Rattle.ftl_device.specs.declared.fault.DeviceFault.TheVariants.{BusFault, OutOfMemory}
 use Rattle.ftl_device.specs.Calls.{stop_of, PinIsTrue, IsWell, HoldsSector, CallRefused, standing_after, answer_of, IsMostRecent}
-use Rattle.ftl_device.proofs.MountableLemmas.{restart_law}
+use Rattle.ftl_device.proofs.MountableLemmas.{restart_more}
 
 pub pin_at : (r : Ram) (image : Image) (fault : Option EngineFault) → r.fault ≡ fault → PinIsTrue fault r image → PinIsTrue r.fault r image
 pin_at r image fault is h = subst (λ f. PinIsTrue f r image) (sym is) h
@@ -62,13 +62,12 @@ mountable_after {N} flash old d e same sized limits safe w most =
     let cap : d.engine.mapping.capacity ≡ old.mapping.capacity = ap (λ (x : Engine N). x.mapping.capacity) same ∙ limits.capacity in
     let share : d.engine.mapping.share ≡ old.mapping.share = ap (λ (x : Engine N). x.mapping.share) same ∙ limits.share in
     let room : room_of (ram d.engine) ≡ room_of (ram old) = rw (cap, share, g) refl in
-    subst (λ n. IsMountable old.geometry n (image_in flash d.engine)) room
-    (subst (λ h. IsMountable h (room_of (ram d.engine)) (image_in flash d.engine)) g (restart_law (ram d.engine) (image_in flash d.engine) safe w.truth (omega (arith, most, room))))
+    subst (λ h. IsMountable h (room_of (ram old)) (image_in flash d.engine)) g (restart_more (ram d.engine) (image_in flash d.engine) (room_of (ram old)) safe w.truth (omega (arith, room)) most)
 
 -- so it is where nothing was programmed
 pub mountable_kept : {N : Type 0} (flash : N → Flash) (old new : Engine N) → flash new.nand ≡ flash old.nand → IsRam (ram old)
     → IsTrue None (ram old) (image_in flash old) → room_of (ram old) ≤ 65536 → IsMountable old.geometry (room_of (ram old)) (image_in flash new)
-mountable_kept flash old new same safe truth most = subst (λ (s : Flash). IsMountable old.geometry (room_of (ram old)) s.image) (sym same) (restart_law (ram old) (image_in flash old) safe truth most)
+mountable_kept flash old new same safe truth most = subst (λ (s : Flash). IsMountable old.geometry (room_of (ram old)) s.image) (sym same) (restart_more (ram old) (image_in flash old) (room_of (ram old)) safe truth (omega arith) most)
 
 -- what is so of a call that was done is so of the answer
 pub done_too : (P : Type 0) (answer : Result (Unit {0}) CallFault) (good : ℕ) (q : Ram) → OnOk answer P → OnOk (answer_of q good answer) P

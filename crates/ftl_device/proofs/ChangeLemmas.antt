@@ -20,7 +20,7 @@ use Rattle.collection.specs.declared.fault.EngineFault.TheVariants as engine_fau
 use Rattle.collection.specs.State.{Ram}
 use Rattle.collection.specs.Safe.{ram, image_in, page_in}
 use Rattle.collection.specs.Results.{array_after}
-use Rattle.collection.specs.Stops.{Cuts, IsPutByStop}
+use Rattle.collection.specs.Stops.{Cuts, IsPutByStop, room_of}
 use Rattle.collection.proofs.Logs.{went_same}
 use Rattle.ftl_device.specs.declared.device.Device.{Device}
 use Rattle.ftl_device.specs.declared.fault.CallFault.{CallFault}
@@ -37,7 +37,7 @@ use Rattle.ftl_device.specs.Changes.{EndsCall, PinsNone, MayPin, Readies, HasLoo
 use Rattle.ftl_device.proofs.CallLemmas.{well_ram, well_device, memory_only, mountable_after, went_after, done_too}
 use Rattle.ftl_device.proofs.PinLemmas.{knows_well, unpinned_moved, none_moved}
 use Rattle.ftl_device.proofs.CostLemmas.{closed_is, spent_is, never_memory}
-use Rattle.ftl_device.proofs.MountableLemmas.{stale_law, restart_law}
+use Rattle.ftl_device.proofs.MountableLemmas.{stale_law, restart_more}
 use Rattle.ftl_device.proofs.ShownLemmas.{shown_refused, shown_after, left_after, left_refused}
 use Rattle.ftl_device.proofs.SpentLemmas.{funded_begun, call_short}
 use Rattle.ftl_device.proofs.StoppedLemmas.{cut_put, dead_call, stopped_call, stops_same}
@@ -391,7 +391,7 @@ module _ {N : Type 0} (view : View N) (n : ℕ) (bytes : List ℕ) (command : Co
       step = takes _ _ (step_refusal (ram old.engine) old.read_only n old.engine.geometry (array_of old.engine.geometry (image_in view.flash old.engine)) bytes fault refl not well.going);
       well = well;
       versions = λ two key row at. at;
-      mountable = λ most. restart_law (ram old.engine) _ device.engine.memory well.truth most;
+      mountable = λ most. restart_more (ram old.engine) _ (room_of (ram old.engine)) device.engine.memory well.truth (omega arith) most;
     };
     stale = λ is_honest well none unpinned is e. absurd (never_memory (ram old.engine) old.read_only n fault not e);
   }

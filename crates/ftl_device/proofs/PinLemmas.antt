@@ -92,6 +92,6 @@ none_moved r unshared few = by r.mapping.moved (let may = none_waits r unshared 
     by [] le = refl
     by (e ∷ ms) le = absurd (omega arith)
 
--- and a device mounts at its capacity and the pages of a block
-pub room_is : (r : Ram) → r.mapping.share ≡ 0 → room_of r ≡ r.mapping.capacity + r.geometry.pages
-room_is r unshared = (let may = none_waits r unshared in omega arith)
+-- and a device mounts at its capacity and the pages of a block, or at fewer
+pub room_within : (r : Ram) → r.mapping.share ≡ 0 → room_of r ≤ r.mapping.capacity + r.geometry.pages
+room_within r unshared = (let may = none_waits r unshared in omega arith)

@@ -28,6 +28,7 @@ use Rattle.collection.proofs.Stops.{IsSized, array_sized, leaves_more, one_gain,
 use Rattle.ftl_device.specs.declared.fault.DeviceFault.{DeviceFault}
 use Rattle.ftl_device.specs.Calls.{Knows, KeepsArray, reply_of}
 use Rattle.ftl_device.specs.Stopped.{changes_sector, HoldsEither, SurvivesStops, SurvivesCut, QuietStopLaw, RefusedStopLaw, MountsStopLaw, AnsweredStaysLaw, QuietCutLaw, OtherSectorCutLaw}
+use Rattle.ftl_device.proofs.MountableLemmas.{some_room}
 
 -- the part before keeps the array, and what is known of the image is so after it
 abbrev pub KeepsOn : {N : Type 0} → View N → Engine N → Engine N → Type 0
@@ -80,7 +81,7 @@ module _ {N : Type 0} (view : View N) where
         let l = left_by left some may in
         record {
           array = either left l.array;
-          mountable = λ most. (mountable old.geometry (room_of (ram old)) left may.whole.rows (omega (arith, safe.memory.mapping.holds_one)) most).1 l.orderly;
+          mountable = λ most. (mountable old.geometry (room_of (ram old)) left may.whole.rows (some_room (ram old) safe.memory) most).1 l.orderly;
         }
 
 -- ---- a fault of the die ended the call
@@ -141,7 +142,7 @@ module _ {N : Type 0} (view : View N) where
 
   module _ (old new : Engine N) (command : Command) (safe : IsSafe view.flash old) where
     mounts_cut : (left : Image) → IsImage old.geometry left → IsOrderly old.geometry (room_of (ram old)) left → room_of (ram old) ≤ 65536 → IsMountable old.geometry (room_of (ram old)) left
-    mounts_cut left whole o most = (mountable old.geometry (room_of (ram old)) left whole.rows (omega (arith, safe.memory.mapping.holds_one)) most).1 o
+    mounts_cut left whole o most = (mountable old.geometry (room_of (ram old)) left whole.rows (some_room (ram old) safe.memory) most).1 o
 
     -- one that changes no sector
     pub cut_kept : CutsSafely view old new → CutShort (view.flash old.nand) (view.recorded old.nand) (view.recorded new.nand) (SurvivesCut old.geometry (room_of (ram old)) command (image_in view.flash old))

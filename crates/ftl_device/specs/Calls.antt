@@ -372,6 +372,6 @@ abbrev pub StaleLaw : Type 0
 StaleLaw = (r : Ram) (image : Image) (n : ℕ) → IsTrue None r image → r.mapping.moved ≡ [] → n < r.geometry.sectors → is_stale r.geometry image n ≡ true → IsSome (slot_of r.mapping n)
 
 -- A device may be started again from what it holds: of a memory that agrees with the image, the image has a certificate at the capacity of
--- the cached mapping table, the moved sectors that may wait, and the pages of a block.
+-- the cached mapping table, the moved sectors that may wait, and the pages of a block together, or at the number of sectors, where that is less.
 abbrev pub RestartLaw : Type 0
 RestartLaw = (r : Ram) (image : Image) → IsRam r → IsTrue None r image → room_of r ≤ 65536 → IsMountable r.geometry (room_of r) image

@@ -134,9 +134,9 @@ pub record First : Type 0 where
   pub wear : ℕ → ℕ
   pub next : ℕ
 
--- for how many stale entries an image mounts that is left in it
+-- for how many stale entries an image mounts that is left in it: those that are cached and those that may be moved, and never more than there are sectors
 abbrev pub room_in : First → ℕ
-room_in first = first.capacity + (waiting_at first.geometry first.share + first.geometry.pages)
+room_in first = min first.geometry.sectors (first.capacity + (waiting_at first.geometry first.share + first.geometry.pages))
 
 -- by the memory, where it begins with a device as it is
 abbrev pub first_of : Ram → First

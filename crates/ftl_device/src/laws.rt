@@ -95,7 +95,7 @@ pub fn brought_laws<N: Nand>()
 {}
 
 /// What a stop inside a call leaves: a read, a flush and a turn change no sector, nor does a command
-/// that is refused; the image mounts for as many stale sectors as the cache holds and a block has pages;
+/// that is refused; the image mounts for as many stale sectors as a device leaves at most;
 /// and what a write was answered Done for stays, where a later write of another sector is stopped. And what
 /// a fault of the die leaves that ends a call: a read, a flush and a turn change no sector, and a write none
 /// but its own. (This project.)

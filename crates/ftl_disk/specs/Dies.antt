@@ -2,6 +2,7 @@
 use Rattle.std.specs.Prelude.{◌≡◌, ◌≢◌, ◌⊎◌, ℕ, true, List, length, Some, None, Result, Ok, Err}
 use Rattle.page_layout.specs.View.{View}
 use Rattle.page_layout.specs.declared.geometry.Geometry.{Geometry}
+use Rattle.page_layout.specs.Geometry.{need}
 use Rattle.page_layout.specs.Array.{array_of}
 use Rattle.page_layout.specs.Counter.{HasRisen}
 use Rattle.certificate.specs.Claim.{Claim}
@@ -26,8 +27,8 @@ use Rattle.ftl_disk.specs.Numbers.{of_formatting, of_power, of_refusal}
 pub record FormatsBy {N : Type 0} (view : View N) (g : Geometry) (old : N) (number : ℕ) (new : N) : Type 0 where
   pub result : Result ℕ FormatFault
   pub number_is : number ≡ of_formatting result
-  pub formats : view.honest old ≡ true → Formats g (view.flash old) (view.flash new) result
-  pub answers : Answers g (view.programs old) (view.programs new) result
+  pub formats : view.honest old ≡ true → Formats g (need g) (view.flash old) (view.flash new) result
+  pub answers : Answers g (need g) (view.programs old) (view.programs new) result
   pub rose : result ≡ Err Bus → HasRisen (view.failed old) (view.failed new)
 
 -- one that was done or refused

@@ -14,14 +14,14 @@ use Rattle.image_laws.specs.Formats.{UntouchedLaw, LostLaw, EnoughLaw, AloneLaw,
 use Rattle.image_laws.proofs.KeptLemmas.{lowest_table}
 
 pub untouched : UntouchedLaw
-untouched g old new before after row = (
+untouched g needed old new before after row = (
   λ h. (elim h [ inl same ↦ same | inr used ↦ used.untouched ]),
   λ h. (elim h [ inl same ↦ same | inr used ↦ used.1 ]),
   λ used. used.0,
 )
 
 pub lost : LostLaw
-lost g old new before after good asked = (
+lost g needed old new before after good asked = (
   λ h. (elim h [
     | inl f ↦ let few = f.at_most in let fewer = f.fewer in omega arith
     | inr f ↦ let few = f.at_most in let fewer = f.fewer in omega arith
@@ -31,7 +31,7 @@ lost g old new before after good asked = (
 )
 
 pub enough : EnoughLaw
-enough g old new before after good asked = (
+enough g needed old new before after good asked = (
   λ h. (elim h [ inl f ↦ f.enough | inr a ↦ a.0 ]),
   λ h. (elim h [
     | inl f ↦ let few = f.few in let is = f.asked_is in (omega arith, is)
@@ -65,7 +65,7 @@ marked_below a b none (inl is) = is
 marked_below a b none (inr is) = absurd cc
 
 pub no_failure : NoFailureLaw
-no_failure g old new good f none = (
+no_failure g needed old new good f none = (
   (let fewer = f.fewer in omega arith),
   λ lower below. marked_below _ _ (none_failed g.pages f.log lower none) (lowest_table g old new f.log f.block lower f.table below),
 )
@@ -79,4 +79,4 @@ table_page g image row u sequence table p h at =
     (ap record_of same ∙ h.says, ap version_of same ∙ h.version, ap (λ (q : Page). q.body) same ∙ h.body)
 
 pub low_sequence : LowSequenceLaw
-low_sequence g old new good row r f here = let below = f.blank.below.below row r here in let few = f.few_programs in omega arith
+low_sequence g needed old new good row r f here = let below = f.blank.below.below row r here in let few = f.few_programs in omega arith

@@ -22,7 +22,7 @@ other_rows entries u v i old new kept apart within = elim (cases_order v u) [
 ]
 
 pub other_pages : OtherPagesLaw
-other_pages g old new good row f within is_good apart = elim (cases_lt row (f.block * g.pages)) [
+other_pages g needed old new good row f within is_good apart = elim (cases_lt row (f.block * g.pages)) [
   | inl below ↦ f.others row within is_good (inl below)
   | inr above ↦ elim (cases_lt row (f.block * g.pages + table_pages g)) [
     | inl inside ↦ absurd (apart (row - f.block * g.pages) (omega arith) (omega arith))

@@ -2,7 +2,7 @@
 use Rattle.std.specs.Prelude.{◌≡◌, List, slice_get, ℕ, ◌+◌, ◌*◌, ◌^◌, ◌<◌, ◌≤◌, ◌⊎◌, true, false, [], ◌∷◌, ◌++◌, get_or, Some, None, Ok, Err}
 use Rattle.page_layout.specs.declared.geometry.Geometry.{Geometry}
 use Rattle.page_layout.specs.declared.record.Record.{Record}
-use Rattle.page_layout.specs.Geometry.{entries, need, row_count, table_pages}
+use Rattle.page_layout.specs.Geometry.{entries, row_count, table_pages}
 use Rattle.page_layout.specs.Page.{Page, Image}
 use Rattle.page_layout.specs.Sound.{record_of, version_of, version_for}
 use Rattle.page_layout.specs.Array.{marks}
@@ -17,25 +17,25 @@ use Rattle.mount.specs.declared.format_fault.FormatFault.TheVariants.{TooFewGood
 
 -- NOTHING WAS DONE by a format that was refused for memory or for a used page, which is one of the die, and no program was counted
 abbrev pub UntouchedLaw : Type 0
-UntouchedLaw = (g : Geometry) (old new : Flash) (before after row : ℕ)
-    → (Formats g old new (Err OutOfMemory) ⊎ Formats g old new (Err (NotFresh row)) → new ≡ old)
-    × (Answers g before after (Err OutOfMemory) ⊎ Answers g before after (Err (NotFresh row)) → after ≡ before)
-    × (Answers g before after (Err (NotFresh row)) → row < row_count g)
+UntouchedLaw = (g : Geometry) (needed : ℕ) (old new : Flash) (before after row : ℕ)
+    → (Formats g needed old new (Err OutOfMemory) ⊎ Formats g needed old new (Err (NotFresh row)) → new ≡ old)
+    × (Answers g needed before after (Err OutOfMemory) ⊎ Answers g needed before after (Err (NotFresh row)) → after ≡ before)
+    × (Answers g needed before after (Err (NotFresh row)) → row < row_count g)
 
 -- TWO BLOCKS ARE LOST AT MOST by a format that ends well or is left with too few, and three by one that gives up, after three programs at least
 abbrev pub LostLaw : Type 0
-LostLaw = (g : Geometry) (old new : Flash) (before after good asked : ℕ)
-    → (Formats g old new (Ok good) ⊎ Formats g old new (Err (TooFewGood good asked)) → good_after g old.image [] ≤ good + 2)
-    × ((f : IsWriteFailed g old new) → (failures f.log ≡ 3) × (good_after g old.image f.log + 3 ≡ good_after g old.image []))
-    × (Answers g before after (Err WriteFailed) → before + 3 < 2 ^ 64 → before + 3 ≤ after)
+LostLaw = (g : Geometry) (needed : ℕ) (old new : Flash) (before after good asked : ℕ)
+    → (Formats g needed old new (Ok good) ⊎ Formats g needed old new (Err (TooFewGood good asked)) → good_after g old.image [] ≤ good + 2)
+    × ((f : IsWriteFailed g needed old new) → (failures f.log ≡ 3) × (good_after g old.image f.log + 3 ≡ good_after g old.image []))
+    × (Answers g needed before after (Err WriteFailed) → before + 3 < 2 ^ 64 → before + 3 ≤ after)
 
--- ENOUGH BLOCKS ARE GOOD after a format that ended well, whatever the die was, and too few where it says so, which asks for just as many as the
--- geometry does
+-- ENOUGH BLOCKS ARE GOOD after a format that ended well, whatever the die was, and too few where it says so, which asks for just as many as are
+-- needed
 abbrev pub EnoughLaw : Type 0
-EnoughLaw = (g : Geometry) (old new : Flash) (before after good asked : ℕ)
-    → (Formats g old new (Ok good) ⊎ Answers g before after (Ok good) → need g ≤ good)
-    × (Formats g old new (Err (TooFewGood good asked)) ⊎ Answers g before after (Err (TooFewGood good asked)) → (good < asked) × (asked ≡ need g))
-    × (Answers g before after (Ok good) → good ≤ g.blocks)
+EnoughLaw = (g : Geometry) (needed : ℕ) (old new : Flash) (before after good asked : ℕ)
+    → (Formats g needed old new (Ok good) ⊎ Answers g needed before after (Ok good) → needed ≤ good)
+    × (Formats g needed old new (Err (TooFewGood good asked)) ⊎ Answers g needed before after (Err (TooFewGood good asked)) → (good < asked) × (asked ≡ needed))
+    × (Answers g needed before after (Ok good) → good ≤ g.blocks)
 
 -- A FORMAT ERASES NOTHING and leaves the marked blocks alone
 abbrev pub AloneLaw : Type 0
@@ -44,7 +44,7 @@ AloneLaw = (g : Geometry) (old new : Flash) (log : List Operation) → IsDone g 
 
 -- A DIE WITHOUT FAILURES: its format loses no block, and its table stands in the first that isn't marked
 abbrev pub NoFailureLaw : Type 0
-NoFailureLaw = (g : Geometry) (old new : Flash) (good : ℕ) (f : IsFormatted g old new good) → failures f.log ≡ 0
+NoFailureLaw = (g : Geometry) (needed : ℕ) (old new : Flash) (good : ℕ) (f : IsFormatted g needed old new good) → failures f.log ≡ 0
     → (good ≡ good_after g old.image []) × ((lower : ℕ) → lower < f.block → is_marked g old.image lower ≡ true)
 
 -- A TABLE PAGE THAT A FORMAT WROTE is sound, of its number and sequence and of no erase, in the version for the die, and holds the table's bytes
@@ -54,5 +54,5 @@ TablePageLaw = (g : Geometry) (image : Image) (row u sequence : ℕ) (table : Li
 
 -- THE SEQUENCES OF A FORMATTED DIE ARE LOW: three tables were begun at most
 abbrev pub LowSequenceLaw : Type 0
-LowSequenceLaw = (g : Geometry) (old new : Flash) (good row : ℕ) (r : Record) → IsFormatted g old new good → get_or (marks new.image) row None ≡ Some r
+LowSequenceLaw = (g : Geometry) (needed : ℕ) (old new : Flash) (good row : ℕ) (r : Record) → IsFormatted g needed old new good → get_or (marks new.image) row None ≡ Some r
     → r.sequence ≤ 3 * table_pages g

@@ -16,7 +16,7 @@ OtherRowsLaw = (entries u v i : ℕ) (old new : List TableRow) → KeepsOthers e
 
 -- NO OTHER PAGE OF A GOOD BLOCK is changed by a format than the table pages
 abbrev pub OtherPagesLaw : Type 0
-OtherPagesLaw = (g : Geometry) (old new : Flash) (good row : ℕ) (f : IsFormatted g old new good) → row < row_count g → is_good_after g old.image f.log (row / g.pages) ≡ true
+OtherPagesLaw = (g : Geometry) (needed : ℕ) (old new : Flash) (good row : ℕ) (f : IsFormatted g needed old new good) → row < row_count g → is_good_after g old.image f.log (row / g.pages) ≡ true
     → ((u : ℕ) → u < table_pages g → row ≢ f.block * g.pages + u) → slice_get new.image row ≡ slice_get old.image row
 
 -- THE TABLE STANDS AS LOW AS IT CAN: each block below it was marked, or a program failed in it

@@ -7,7 +7,7 @@ use Rattle.std.proofs.lemmas.Bool.{cases_lt, cases_eq, or_from, false_from_ne_tr
 use Rattle.std.proofs.lemmas.Option.{unwrap_or-slice_get, get_or_from_slice_get}
 use Rattle.page_layout.specs.declared.geometry.Geometry.{Geometry}
 use Rattle.page_layout.specs.declared.record.Key.TheVariants.{Sector}
-use Rattle.page_layout.specs.Geometry.{need, row_count, table_pages}
+use Rattle.page_layout.specs.Geometry.{row_count, table_pages}
 use Rattle.page_layout.specs.Page.{Page, Image}
 use Rattle.page_layout.specs.Sound.{record_of, is_erased_page}
 use Rattle.page_layout.specs.Block.{block_pages, is_broken, has_gap}
@@ -98,9 +98,9 @@ shows_none g first now table block done next b log u within good =
 
 -- ---- the whole die
 
-pub finished : (g : Geometry) (first now : Flash) (table : List TableRow) (block next good : ℕ) (log : List Operation) → IsUnderway g first now table block (table_pages g) next log → block < g.blocks → is_good_at table block ≡ true
-    → ((lower : ℕ) → lower < block → is_good_at table lower ≡ false) → failures log ≤ 2 → next ≤ 1 + 3 * table_pages g → good ≡ good_count table → good + failures log ≡ good_after g first.image [] → need g ≤ good → IsFormatted g first now good
-finished g first now table block next good log u within is_good lowest most few good_is fewer enough =
+pub finished : (g : Geometry) (needed : ℕ) (first now : Flash) (table : List TableRow) (block next good : ℕ) (log : List Operation) → IsUnderway g first now table block (table_pages g) next log → block < g.blocks → is_good_at table block ≡ true
+    → ((lower : ℕ) → lower < block → is_good_at table lower ≡ false) → failures log ≤ 2 → next ≤ 1 + 3 * table_pages g → good ≡ good_count table → good + failures log ≡ good_after g first.image [] → needed ≤ good → IsFormatted g needed first now good
+finished g needed first now table block next good log u within is_good lowest most few good_is fewer enough =
     let same : table ≡ table_after g first.image log = u.table_is in
     let alike : (b : ℕ) → b < g.blocks → is_good_at table b ≡ is_good_after g first.image log b =
     λ b l. ap (λ (t : List TableRow). is_good_at t b) same ∙ good_after-table g first.image log b l in

@@ -53,8 +53,8 @@ body_is : (g : Geometry) (image : Image) (row u sequence : ℕ) (table : List Ta
 body_is g image row u sequence table page = table_is image u row page.newest_is ∙ (body_page image row page.its page.at ∙ page.body)
 
 -- the table pages, word by word
-tables_taken : (g : Geometry) (old new : Flash) (good : ℕ) (f : IsFormatted g old new good) → AreTaken g new.image (table_pages g) (table_after g old.image f.log)
-tables_taken g old new good f =
+tables_taken : (g : Geometry) (needed : ℕ) (old new : Flash) (good : ℕ) (f : IsFormatted g needed old new good) → AreTaken g new.image (table_pages g) (table_after g old.image f.log)
+tables_taken g needed old new good f =
     let rows : List TableRow = table_after g old.image f.log in
     let page : (u : ℕ) → u < table_pages g → IsTablePage (entries g) rows u (table_body new.image u) =
     λ u l.
@@ -74,12 +74,12 @@ code_after false true = refl
 code_after false false = refl
 
 -- the class that the newest table gives a block
-table_class_is : (g : Geometry) (old new : Flash) (good b : ℕ) (f : IsFormatted g old new good) → b < g.blocks
+table_class_is : (g : Geometry) (needed : ℕ) (old new : Flash) (good b : ℕ) (f : IsFormatted g needed old new good) → b < g.blocks
     → table_class g new.image b ≡ code_of (class_after (is_marked g old.image b) (failed_in g.pages f.log b))
-table_class_is g old new good b f l =
+table_class_is g needed old new good b f l =
     let rows : List TableRow = table_after g old.image f.log in
     let size : length rows ≡ g.blocks = length-table_after g old.image f.log in
-    let table : IsTableOf g new.image rows = table_of g new.image rows size (tables_taken g old new good f) in
+    let table : IsTableOf g new.image rows = table_of g new.image rows size (tables_taken g needed old new good f) in
     let row : slice_get rows b ≡ Some (row_after g old.image f.log b) =
     slice_get-get_or rows b no_table_row (omega (arith, size, l)) ∙ ap Some (table_after-at g old.image f.log b l) in
     ap (λ word. word % 256) (table.word b l ∙ ap word_or_padding row)
@@ -98,10 +98,10 @@ four true failed code other is ne = (λ c. refl, λ m. rw is refl)
 four false true code other is ne = (λ c. absurd (ne (sym (rw is refl) ∙ c)), λ m. absurd (cc m))
 four false false code other is ne = (λ c. absurd (ne (sym (rw is refl) ∙ c)), λ m. absurd (cc m))
 
-class_four : (g : Geometry) (old new : Flash) (good b : ℕ) → IsFormatted g old new good → b < g.blocks → (class g new.image b ≡ 4) ↔ (is_marked g old.image b ≡ true)
+class_four : (g : Geometry) (needed : ℕ) (old new : Flash) (good b : ℕ) → IsFormatted g needed old new good → b < g.blocks → (class g new.image b ≡ 4) ↔ (is_marked g old.image b ≡ true)
 unfolding class
-class_four g old new good b f l =
-    four (is_marked g old.image b) (failed_in g.pages f.log b) (table_class g new.image b) _ (table_class_is g old new good b f l)
+class_four g needed old new good b f l =
+    four (is_marked g old.image b) (failed_in g.pages f.log b) (table_class g new.image b) _ (table_class_is g needed old new good b f l)
     (other_class (is_grown g new.image b) (is_free g new.image b) (is_open g new.image b) (is_of_data g new.image b))
 
 good_seen : (marked failed broken gap : Bool) (code : ℕ) → code ≡ code_of (class_after marked failed) → (not (marked || failed) ≡ true → (broken || gap) ≡ false)
@@ -111,11 +111,11 @@ good_seen false true broken gap code is quiet = rw is refl
 good_seen false false broken gap code is quiet = rw (is, quiet refl) refl
 
 -- the checker calls good what the table calls good
-good_same : (g : Geometry) (old new : Flash) (good b : ℕ) (f : IsFormatted g old new good) → b < g.blocks → is_good g new.image b ≡ is_good_after g old.image f.log b
+good_same : (g : Geometry) (needed : ℕ) (old new : Flash) (good b : ℕ) (f : IsFormatted g needed old new good) → b < g.blocks → is_good g new.image b ≡ is_good_after g old.image f.log b
 unfolding is_good
-good_same g old new good b f l =
+good_same g needed old new good b f l =
     let ps = block_pages g new.image b in
-    good_seen (is_marked g old.image b) (failed_in g.pages f.log b) (list_any is_broken ps) (has_gap ps) (table_class g new.image b) (table_class_is g old new good b f l) (f.shown b l)
+    good_seen (is_marked g old.image b) (failed_in g.pages f.log b) (list_any is_broken ps) (has_gap ps) (table_class g new.image b) (table_class_is g needed old new good b f l) (f.shown b l)
 
 count_within : (p q : ℕ → Bool) (from n : ℕ) → ((k : ℕ) → from ≤ k → k < from + n → p k ≡ q k) → count_by p (range_with_len from n) ≡ count_by q (range_with_len from n)
 count_within p q from zero same = refl
@@ -137,11 +137,11 @@ none_stale g image no_sector no_translation =
 
 -- ---- the whole image
 
-orderly : (g : Geometry) (old new : Flash) (good capacity : ℕ) → IsFormatted g old new good → IsOrderly g capacity new.image
-orderly g old new good capacity f =
+orderly : (g : Geometry) (needed : ℕ) (old new : Flash) (good capacity : ℕ) → IsFormatted g needed old new good → IsOrderly g capacity new.image
+orderly g needed old new good capacity f =
     let rows : List TableRow = table_after g old.image f.log in
     let tables : HasTables g new.image =
-    tables_hold g new.image rows (λ u l. record { row = f.block * g.pages + u; newest_is = (f.table.pages u l).newest_is }) (tables_taken g old new good f) in
+    tables_hold g new.image rows (λ u l. record { row = f.block * g.pages + u; newest_is = (f.table.pages u l).newest_is }) (tables_taken g needed old new good f) in
     let none : stale_count g new.image ≡ 0 = ap length (none_stale g new.image f.blank.no_sector f.blank.no_translation) in
     record {
       numbers = record { in_range = f.blank.one.in_range };
@@ -152,12 +152,12 @@ orderly g old new good capacity f =
     }
 
 pub ready : FormattedLaw
-ready g old new good f = record {
-  factory = λ b l. class_four g old new good b f l;
-  good_is = count_within (is_good g new.image) (is_good_after g old.image f.log) 0 g.blocks (λ k low high. good_same g old new good k f (omega (arith, high))) ∙ sym f.good_is;
+ready g needed old new good f = record {
+  factory = λ b l. class_four g needed old new good b f l;
+  good_is = count_within (is_good g new.image) (is_good_after g old.image f.log) 0 g.blocks (λ k low high. good_same g needed old new good k f (omega (arith, high))) ∙ sym f.good_is;
   fresh = none_stale g new.image f.blank.no_sector f.blank.no_translation;
   mountable = λ capacity least most.
       let size : length new.image ≡ row_count g = length_after old new f.log f.done.leads f.done.erases ∙ f.whole.rows in
-      (mountable g capacity new.image size least most).1 (orderly g old new good capacity f);
+      (mountable g capacity new.image size least most).1 (orderly g needed old new good capacity f);
   zero = λ n l. zero_sector g new.image n (f.blank.no_sector n);
 }

@@ -1,7 +1,7 @@
 -- Writing the table pages into one block after another.
 use Rattle.std.proofs.Common.{◌≡◌, refl, ℕ, ◌+◌, ◌*◌, ◌<◌, ◌≤◌, true, false, List, [], ◌∷◌, Result, Ok, Err, sym, ◌∙◌, ap, arith}
 use Rattle.page_layout.specs.declared.geometry.Geometry.{Geometry}
-use Rattle.page_layout.specs.Geometry.{need, row_count, table_pages}
+use Rattle.page_layout.specs.Geometry.{row_count, table_pages}
 use Rattle.page_layout.specs.Flash.{Flash, Operation, Program, Erase, Leads}
 use Rattle.onfi_cycles.specs.declared.nand.Outcome.{Outcome}
 use Rattle.onfi_cycles.specs.declared.nand.Outcome.TheVariants.{Passed, Failed}
@@ -31,19 +31,19 @@ tries-failed g first now table block next failed Failed passed tries other = tri
 
 -- ---- the answers
 
-pub writes_all : (g : Geometry) (first now : Flash) (table : List TableRow) (block next failed good : ℕ) → IsTrying g first now table block (table_pages g) next failed → block < g.blocks → is_good_at table block ≡ true
-    → ((lower : ℕ) → lower < block → is_good_at table lower ≡ false) → failed ≤ 2 → next ≤ 1 + 3 * table_pages g → good ≡ good_count table → need g ≤ good → IsFormatted g first now good
-writes_all g first now table block next failed good trying within is_good lowest most few good_is enough =
-    finished g first now table block next good trying.log trying.underway within is_good lowest (omega (arith, trying.failed_is, most)) few good_is (omega (arith, trying.failed_is, trying.fewer, good_is)) enough
+pub writes_all : (g : Geometry) (needed : ℕ) (first now : Flash) (table : List TableRow) (block next failed good : ℕ) → IsTrying g first now table block (table_pages g) next failed → block < g.blocks → is_good_at table block ≡ true
+    → ((lower : ℕ) → lower < block → is_good_at table lower ≡ false) → failed ≤ 2 → next ≤ 1 + 3 * table_pages g → good ≡ good_count table → needed ≤ good → IsFormatted g needed first now good
+writes_all g needed first now table block next failed good trying within is_good lowest most few good_is enough =
+    finished g needed first now table block next good trying.log trying.underway within is_good lowest (omega (arith, trying.failed_is, most)) few good_is (omega (arith, trying.failed_is, trying.fewer, good_is)) enough
 
 no_log : (a b : Flash) (log : List Operation) → Leads a log b → programs_in log ≡ 0 → erases_in log ≡ 0 → b ≡ a
 no_log a b [] leads programs erases = leads
 no_log a b (Program row page passed left ∷ log) leads programs erases = absurd (omega arith)
 no_log a b (Erase block passed left ∷ log) leads programs erases = absurd (omega arith)
 
-pub too_few : (g : Geometry) (first now : Flash) (table : List TableRow) (block next failed good asked : ℕ) → IsTrying g first now table block 0 next failed → good ≡ good_count table → good < need g → asked ≡ need g → failed ≤ 2
-    → (failed ≡ 0 → next ≤ 1) → (0 < failed → need g ≤ good_count table + 1) → IsTooFewGood g first now good asked
-too_few g first now table block next failed good asked trying good_is few asked_is most none just =
+pub too_few : (g : Geometry) (needed : ℕ) (first now : Flash) (table : List TableRow) (block next failed good asked : ℕ) → IsTrying g first now table block 0 next failed → good ≡ good_count table → good < needed → asked ≡ needed → failed ≤ 2
+    → (failed ≡ 0 → next ≤ 1) → (0 < failed → needed ≤ good_count table + 1) → IsTooFewGood g needed first now good asked
+too_few g needed first now table block next failed good asked trying good_is few asked_is most none just =
     let same : good_count table ≡ good_after g first.image trying.log = ap good_count trying.underway.table_is ∙ good_count-table g first.image trying.log in
     let is : failures trying.log ≡ failed = trying.failed_is in
     record {
@@ -58,11 +58,11 @@ too_few g first now table block next failed good asked trying good_is few asked_
           let at_most : next ≤ 1 = none (sym is ∙ zero_failed) in
           no_log first now trying.log trying.underway.did.leads (omega (arith, trying.underway.count, at_most)) trying.underway.did.erases;
       fresh = λ some. trying.underway.fresh;
-      just = λ some. let enough : need g ≤ good_count table + 1 = just (omega (arith, is, some)) in omega (arith, good_is, few);
+      just = λ some. let enough : needed ≤ good_count table + 1 = just (omega (arith, is, some)) in omega (arith, good_is, few);
     }
 
-pub gives_up : (g : Geometry) (first now : Flash) (table : List TableRow) (block next failed : ℕ) → IsTrying g first now table block 0 next failed → failed ≡ 3 → need g ≤ good_count table + 1 → IsWriteFailed g first now
-gives_up g first now table block next failed trying three enough = record {
+pub gives_up : (g : Geometry) (needed : ℕ) (first now : Flash) (table : List TableRow) (block next failed : ℕ) → IsTrying g first now table block 0 next failed → failed ≡ 3 → needed ≤ good_count table + 1 → IsWriteFailed g needed first now
+gives_up g needed first now table block next failed trying three enough = record {
   log = trying.log;
   done = trying.underway.did;
   three = trying.failed_is ∙ three;
@@ -71,18 +71,18 @@ gives_up g first now table block next failed trying three enough = record {
   enough = (let same : good_count table ≡ good_after g first.image trying.log = ap good_count trying.underway.table_is ∙ good_count-table g first.image trying.log in omega (arith, enough));
 }
 
-pub writes_formats : (g : Geometry) (first now : Flash) (r : Result ℕ FormatFault) → WritesFormat g first now r → Formats g first now r
-writes_formats g first now (Ok good) writes = writes
-writes_formats g first now (Err (TooFewGood good asked)) writes = writes
-writes_formats g first now (Err Bus) writes = writes
-writes_formats g first now (Err OutOfMemory) writes = absurd writes
-writes_formats g first now (Err WriteFailed) writes = writes
-writes_formats g first now (Err (NotFresh row)) writes = absurd writes
+pub writes_formats : (g : Geometry) (needed : ℕ) (first now : Flash) (r : Result ℕ FormatFault) → WritesFormat g needed first now r → Formats g needed first now r
+writes_formats g needed first now (Ok good) writes = writes
+writes_formats g needed first now (Err (TooFewGood good asked)) writes = writes
+writes_formats g needed first now (Err Bus) writes = writes
+writes_formats g needed first now (Err OutOfMemory) writes = absurd writes
+writes_formats g needed first now (Err WriteFailed) writes = writes
+writes_formats g needed first now (Err (NotFresh row)) writes = absurd writes
 
 -- ---- refusals by the scan
 
-pub few_at_once : (g : Geometry) (old : Flash) (table : List TableRow) → table ≡ table_after g old.image [] → good_count table < need g → IsTooFewGood g old old (good_count table) (need g)
-few_at_once g old table is few = record {
+pub few_at_once : (g : Geometry) (needed : ℕ) (old : Flash) (table : List TableRow) → table ≡ table_after g old.image [] → good_count table < needed → IsTooFewGood g needed old old (good_count table) needed
+few_at_once g needed old table is few = record {
   log = [];
   done = record { leads = refl; legal = tt; erases = refl };
   good_is = ap good_count is ∙ good_count-table g old.image [];
@@ -95,8 +95,8 @@ few_at_once g old table is few = record {
   just = λ some. absurd (omega arith);
 }
 
-pub used_at : (g : Geometry) (old : Flash) (table : List TableRow) (row : ℕ) → table ≡ table_after g old.image [] → need g ≤ good_count table → IsFirstPass (is_used g old.image) 0 (row_count g) row → IsNotFresh g old old row
-used_at g old table row is enough first = record {
+pub used_at : (g : Geometry) (needed : ℕ) (old : Flash) (table : List TableRow) (row : ℕ) → table ≡ table_after g old.image [] → needed ≤ good_count table → IsFirstPass (is_used g old.image) 0 (row_count g) row → IsNotFresh g needed old old row
+used_at g needed old table row is enough first = record {
   enough = (let same : good_count table ≡ good_after g old.image [] = ap good_count is ∙ good_count-table g old.image [] in omega arith);
   first = first;
   untouched = refl;

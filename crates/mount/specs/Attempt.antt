@@ -2,7 +2,7 @@
 use Rattle.std.specs.Prelude.{◌≡◌, ◌⊎◌, [], ℕ, ◌+◌, ◌*◌, ◌/◌, ◌%◌, ◌<◌, ◌≤◌, ◌==◌, true, false, List, slice_get, Some, None, Result, Ok, Err, if◌then◌else◌}
 use Rattle.page_layout.specs.declared.geometry.Geometry.{Geometry}
 use Rattle.page_layout.specs.declared.record.Key.TheVariants.{Sector, Translation}
-use Rattle.page_layout.specs.Geometry.{entries, need, row_count, table_pages}
+use Rattle.page_layout.specs.Geometry.{entries, row_count, table_pages}
 use Rattle.page_layout.specs.Page.{Page, IsImage}
 use Rattle.page_layout.specs.Sound.{record_of, version_of, version_for}
 use Rattle.page_layout.specs.Newest.{newest}
@@ -76,20 +76,20 @@ Tries g first now table block next failed Failed = (other : ℕ) → IsTrying g 
 -- ---- the answers of the programs
 
 -- what writing the table pages of a fresh die answers
-abbrev pub WritesFormat : Geometry → Flash → Flash → Result ℕ FormatFault → Type 0
-WritesFormat g first now (Ok good) = IsFormatted g first now good
-WritesFormat g first now (Err (TooFewGood good asked)) = IsTooFewGood g first now good asked
-WritesFormat g first now (Err Bus) = Unit {0}
-WritesFormat g first now (Err OutOfMemory) = ⊥
-WritesFormat g first now (Err WriteFailed) = IsWriteFailed g first now
-WritesFormat g first now (Err (NotFresh row)) = ⊥
+abbrev pub WritesFormat : Geometry → ℕ → Flash → Flash → Result ℕ FormatFault → Type 0
+WritesFormat g needed first now (Ok good) = IsFormatted g needed first now good
+WritesFormat g needed first now (Err (TooFewGood good asked)) = IsTooFewGood g needed first now good asked
+WritesFormat g needed first now (Err Bus) = Unit {0}
+WritesFormat g needed first now (Err OutOfMemory) = ⊥
+WritesFormat g needed first now (Err WriteFailed) = IsWriteFailed g needed first now
+WritesFormat g needed first now (Err (NotFresh row)) = ⊥
 
 -- what it answers for any die, by the programs before and after
-abbrev pub AnswersWrite : Geometry → ℕ → ℕ → Result ℕ FormatFault → Type 0
-AnswersWrite g old_programs new_programs (Ok good) = (need g ≤ good) × (good ≤ g.blocks)
-AnswersWrite g old_programs new_programs (Err (TooFewGood good asked)) =
-    (good < need g) × (asked ≡ need g) × ((new_programs ≡ old_programs) ⊎ (good + 1 ≡ need g))
-AnswersWrite g old_programs new_programs (Err Bus) = Unit {0}
-AnswersWrite g old_programs new_programs (Err OutOfMemory) = ⊥
-AnswersWrite g old_programs new_programs (Err WriteFailed) = AreThreeMore old_programs new_programs
-AnswersWrite g old_programs new_programs (Err (NotFresh row)) = ⊥
+abbrev pub AnswersWrite : Geometry → ℕ → ℕ → ℕ → Result ℕ FormatFault → Type 0
+AnswersWrite g needed old_programs new_programs (Ok good) = (needed ≤ good) × (good ≤ g.blocks)
+AnswersWrite g needed old_programs new_programs (Err (TooFewGood good asked)) =
+    (good < needed) × (asked ≡ needed) × ((new_programs ≡ old_programs) ⊎ (good + 1 ≡ needed))
+AnswersWrite g needed old_programs new_programs (Err Bus) = Unit {0}
+AnswersWrite g needed old_programs new_programs (Err OutOfMemory) = ⊥
+AnswersWrite g needed old_programs new_programs (Err WriteFailed) = AreThreeMore old_programs new_programs
+AnswersWrite g needed old_programs new_programs (Err (NotFresh row)) = ⊥

@@ -6,7 +6,7 @@ use Rattle.page_layout.specs.declared.geometry.Geometry.{Geometry}
 use Rattle.page_layout.specs.declared.record.Record.{Record}
 use Rattle.page_layout.specs.declared.record.Kind.TheVariants as kind
 use Rattle.page_layout.specs.declared.record.Key.TheVariants.{Sector, Translation, Table}
-use Rattle.page_layout.specs.Geometry.{entries, need, row_count, table_pages}
+use Rattle.page_layout.specs.Geometry.{entries, row_count, table_pages}
 use Rattle.page_layout.specs.Page.{Page, Image, IsImage}
 use Rattle.page_layout.specs.Sound.{record_of, version_of, version_for}
 use Rattle.page_layout.specs.Block.{block_pages, is_broken, has_gap}
@@ -97,7 +97,7 @@ pub record IsBlank (g : Geometry) (image : Image) (next : ℕ) : Type 0 where
 -- a formatted die with so many good blocks: those that the table calls good, in which no page shows a failure. What isn't
 -- a table page in them is erased as it was. At most three blocks were tried.
 -- Law: what the checker finds in such a die (`FormattedLaw`).
-pub record IsFormatted (g : Geometry) (old new : Flash) (good : ℕ) : Type 0 where
+pub record IsFormatted (g : Geometry) (needed : ℕ) (old new : Flash) (good : ℕ) : Type 0 where
   pub whole : IsImage g old.image
   pub fresh : IsFresh g old.image
   pub log : List Operation
@@ -106,7 +106,7 @@ pub record IsFormatted (g : Geometry) (old new : Flash) (good : ℕ) : Type 0 wh
   pub few_programs : programs_in log ≤ 3 * table_pages g
   pub good_is : good ≡ good_after g old.image log
   pub fewer : good + failures log ≡ good_after g old.image []
-  pub enough : need g ≤ good
+  pub enough : needed ≤ good
   pub block : ℕ
   pub table : HasTable g old new log block
   pub blank : IsBlank g new.image (programs_in log + 1)
@@ -117,42 +117,42 @@ pub record IsFormatted (g : Geometry) (old new : Flash) (good : ℕ) : Type 0 wh
 -- ---- refusals
 
 -- fewer good blocks than a die needs: at once, and then nothing was done, or by the failure of the last program of a log
-pub record IsTooFewGood (g : Geometry) (old new : Flash) (good asked : ℕ) : Type 0 where
+pub record IsTooFewGood (g : Geometry) (needed : ℕ) (old new : Flash) (good asked : ℕ) : Type 0 where
   pub log : List Operation
   pub done : IsDone g old new log
   pub good_is : good ≡ good_after g old.image log
   pub fewer : good + failures log ≡ good_after g old.image []
-  pub few : good < need g
-  pub asked_is : asked ≡ need g
+  pub few : good < needed
+  pub asked_is : asked ≡ needed
   pub at_most : failures log ≤ 2
   pub untouched : failures log ≡ 0 → new ≡ old
   pub fresh : 0 < failures log → IsFresh g old.image
-  pub just : 0 < failures log → good + 1 ≡ need g
+  pub just : 0 < failures log → good + 1 ≡ needed
 
 -- a program failed in each of three blocks, though there were good blocks enough each time
-pub record IsWriteFailed (g : Geometry) (old new : Flash) : Type 0 where
+pub record IsWriteFailed (g : Geometry) (needed : ℕ) (old new : Flash) : Type 0 where
   pub log : List Operation
   pub done : IsDone g old new log
   pub three : failures log ≡ 3
   pub fewer : good_after g old.image log + 3 ≡ good_after g old.image []
   pub fresh : IsFresh g old.image
-  pub enough : need g ≤ good_after g old.image log + 1
+  pub enough : needed ≤ good_after g old.image log + 1
 
 -- the lowest row that keeps the die from being fresh, of a die with good blocks enough. Nothing was done.
-pub record IsNotFresh (g : Geometry) (old new : Flash) (row : ℕ) : Type 0 where
-  pub enough : need g ≤ good_after g old.image []
+pub record IsNotFresh (g : Geometry) (needed : ℕ) (old new : Flash) (row : ℕ) : Type 0 where
+  pub enough : needed ≤ good_after g old.image []
   pub first : IsFirstPass (is_used g old.image) 0 (row_count g) row
   pub untouched : new ≡ old
 
 -- What the format of an honest die answers, by its state before and after.
 -- Laws: too few unmarked blocks, a used page and a fresh die each allow their own answers alone (`FewLaw`, `UsedLaw`, `FreshLaw`).
-abbrev pub Formats : Geometry → Flash → Flash → Result ℕ FormatFault → Type 0
-Formats g old new (Ok good) = IsFormatted g old new good
-Formats g old new (Err (TooFewGood good asked)) = IsTooFewGood g old new good asked
-Formats g old new (Err Bus) = Unit {0}
-Formats g old new (Err OutOfMemory) = new ≡ old
-Formats g old new (Err WriteFailed) = IsWriteFailed g old new
-Formats g old new (Err (NotFresh row)) = IsNotFresh g old new row
+abbrev pub Formats : Geometry → ℕ → Flash → Flash → Result ℕ FormatFault → Type 0
+Formats g needed old new (Ok good) = IsFormatted g needed old new good
+Formats g needed old new (Err (TooFewGood good asked)) = IsTooFewGood g needed old new good asked
+Formats g needed old new (Err Bus) = Unit {0}
+Formats g needed old new (Err OutOfMemory) = new ≡ old
+Formats g needed old new (Err WriteFailed) = IsWriteFailed g needed old new
+Formats g needed old new (Err (NotFresh row)) = IsNotFresh g needed old new row
 
 -- three programs were counted, where the count didn't stand at the greatest u64
 abbrev pub AreThreeMore : ℕ → ℕ → Type 0
@@ -161,11 +161,11 @@ AreThreeMore old new = old + 3 < 2 ^ 64 → old + 3 ≤ new
 -- What any die's format answers, honest or not: numbers in range, and no program before a refusal by the scan. Too few good
 -- blocks are found by the scan, or after a program failed in the last block that could be spared. Writing is given up after
 -- three programs at least.
-abbrev pub Answers : Geometry → ℕ → ℕ → Result ℕ FormatFault → Type 0
-Answers g old_programs new_programs (Ok good) = (need g ≤ good) × (good ≤ g.blocks)
-Answers g old_programs new_programs (Err (TooFewGood good asked)) =
-    (good < need g) × (asked ≡ need g) × ((new_programs ≡ old_programs) ⊎ (good + 1 ≡ need g))
-Answers g old_programs new_programs (Err Bus) = Unit {0}
-Answers g old_programs new_programs (Err OutOfMemory) = new_programs ≡ old_programs
-Answers g old_programs new_programs (Err WriteFailed) = AreThreeMore old_programs new_programs
-Answers g old_programs new_programs (Err (NotFresh row)) = (row < row_count g) × (new_programs ≡ old_programs)
+abbrev pub Answers : Geometry → ℕ → ℕ → ℕ → Result ℕ FormatFault → Type 0
+Answers g needed old_programs new_programs (Ok good) = (needed ≤ good) × (good ≤ g.blocks)
+Answers g needed old_programs new_programs (Err (TooFewGood good asked)) =
+    (good < needed) × (asked ≡ needed) × ((new_programs ≡ old_programs) ⊎ (good + 1 ≡ needed))
+Answers g needed old_programs new_programs (Err Bus) = Unit {0}
+Answers g needed old_programs new_programs (Err OutOfMemory) = new_programs ≡ old_programs
+Answers g needed old_programs new_programs (Err WriteFailed) = AreThreeMore old_programs new_programs
+Answers g needed old_programs new_programs (Err (NotFresh row)) = (row < row_count g) × (new_programs ≡ old_programs)

@@ -22,4 +22,4 @@ pub record IsReady (g : Geometry) (old new : Image) (good : ℕ) : Type 0 where
 
 -- the image that a format leaves
 abbrev pub FormattedLaw : Type 0
-FormattedLaw = (g : Geometry) (old new : Flash) (good : ℕ) → IsFormatted g old new good → IsReady g old.image new.image good
+FormattedLaw = (g : Geometry) (needed : ℕ) (old new : Flash) (good : ℕ) → IsFormatted g needed old new good → IsReady g old.image new.image good

@@ -1,7 +1,7 @@
 //! Formatting a fresh die.
 ghost use Rattle.std.specs.Prelude.{◌≡◌, ◌<◌, ◌≤◌, ◌+◌, ◌*◌, ◌^◌, true, IsErrOf, OnOk};
 ghost use Rattle.page_layout.specs.Counter.{HasRisen};
-ghost use Rattle.page_layout.specs.Geometry.{row_count, table_pages};
+ghost use Rattle.page_layout.specs.Geometry.{need, need_at, row_count, table_pages};
 ghost use Rattle.mount.specs.Formatted.{Answers, Formats};
 
 use crate::format_fault::FormatFault;
@@ -31,8 +31,8 @@ const _: () = prove!(size_of::<Class>() == 1);
 /// program failed, and then nothing is known of the die.
 pub fn format<N: Nand>(alloc: Global, nand: &mut N, geometry: &Geometry) -> Result<u32, FormatFault>
     requires { (N.view.flash nand.old).geometry ≡ geometry.now }
-    ensures formats { N.view.honest nand.old ≡ true → Formats geometry.now (N.view.flash nand.old) (N.view.flash nand.new) result }
-    ensures answers { Answers geometry.now (N.view.programs nand.old) (N.view.programs nand.new) result }
+    ensures formats { N.view.honest nand.old ≡ true → Formats geometry.now (need geometry.now) (N.view.flash nand.old) (N.view.flash nand.new) result }
+    ensures answers { Answers geometry.now (need geometry.now) (N.view.programs nand.old) (N.view.programs nand.new) result }
     ensures bus { IsErrOf result FormatFault.Bus → HasRisen (N.view.failed nand.old) (N.view.failed nand.new) }
     ensures memory { IsErrOf result FormatFault.OutOfMemory → nand.new ≡ nand.old }
 
@@ -47,13 +47,42 @@ pub fn format<N: Nand>(alloc: Global, nand: &mut N, geometry: &Geometry) -> Resu
     ensures calm { N.view.calm nand.new ≡ N.view.calm nand.old }
     ensures failed { N.view.failed nand.old ≤ N.view.failed nand.new }
 {
+    format_at(alloc, nand, geometry, 0)
+}
+
+/// [`format`] for a device of this share (this project): `TooFewGood` is answered by the good blocks
+/// that [`Geometry::need_at`] tells.
+pub fn format_at<N: Nand>(
+    alloc: Global,
+    nand: &mut N,
+    geometry: &Geometry,
+    share: u32,
+) -> Result<u32, FormatFault>
+    requires { (N.view.flash nand.old).geometry ≡ geometry.now }
+    ensures formats { N.view.honest nand.old ≡ true → Formats geometry.now (need_at geometry.now share) (N.view.flash nand.old) (N.view.flash nand.new) result }
+    ensures answers { Answers geometry.now (need_at geometry.now share) (N.view.programs nand.old) (N.view.programs nand.new) result }
+    ensures bus { IsErrOf result FormatFault.Bus → HasRisen (N.view.failed nand.old) (N.view.failed nand.new) }
+    ensures memory { IsErrOf result FormatFault.OutOfMemory → nand.new ≡ nand.old }
+
+    // Each page is read once, and nothing is erased.
+    ensures reads { OnOk result (N.view.reads nand.old + row_count geometry.now < 2 ^ 64 →
+        N.view.reads nand.new ≡ N.view.reads nand.old + row_count geometry.now) }
+    ensures most_reads { N.view.reads nand.new ≤ N.view.reads nand.old + row_count geometry.now }
+    ensures most_programs { N.view.programs nand.new ≤ N.view.programs nand.old + 3 * table_pages geometry.now }
+    ensures erases { N.view.erases nand.new ≡ N.view.erases nand.old }
+    ensures geometry { (N.view.flash nand.new).geometry ≡ (N.view.flash nand.old).geometry }
+    ensures honest { N.view.honest nand.new ≡ N.view.honest nand.old }
+    ensures calm { N.view.calm nand.new ≡ N.view.calm nand.old }
+    ensures failed { N.view.failed nand.old ≤ N.view.failed nand.new }
+{
+    let need = geometry.need_at(share);
     let mut classes = vec![in alloc; Class::Good; geometry.blocks() as usize]?;
     let mut body = vec![in alloc; 0; geometry.data_bytes()]?;
     let mut spare = vec![in alloc; 0; geometry.spare_bytes()]?;
     let used = survey(nand, geometry, &mut classes, &mut body, &mut spare)?;
-    require_good(&classes, geometry)?;
+    require_good(&classes, need)?;
     match used {
         Some(row) => Err(FormatFault::NotFresh { row }),
-        None => write_tables(nand, geometry, &mut classes, &mut body, &mut spare),
+        None => write_tables(nand, geometry, need, &mut classes, &mut body, &mut spare),
     }
 }

@@ -2,7 +2,7 @@
 ghost use Rattle.std.specs.Prelude.{◌≡◌, ◌<◌, ◌≤◌, ℕ, ◌+◌, ◌*◌, ◌^◌, true, false, length, IfOk, IfErr, IsErrOf, OnOk, OnErr};
 ghost use Rattle.page_layout.specs.Counter.{counted, HasRisen};
 ghost use Rattle.page_layout.specs.Flash.{Flash};
-ghost use Rattle.page_layout.specs.Geometry.{need, table_pages};
+ghost use Rattle.page_layout.specs.Geometry.{table_pages};
 ghost use Rattle.bad_blocks.specs.Table.{good_count, is_good_at, unworn};
 ghost use Rattle.mount.specs.Attempt.{IsTableProgram, IsTrying, Tries, WritesFormat, AnswersWrite};
 
@@ -120,14 +120,13 @@ fn count_good(classes: &[Class]) -> u32
 }
 
 /// Refuses a die with fewer good blocks than it needs.
-pub fn require_good(classes: &[Class], geometry: &Geometry) -> Result<(), FormatFault>
-    requires { length classes.now ≡ geometry.now.blocks }
-    ensures ok { OnOk result (need geometry.now ≤ good_count (unworn classes.now)) }
-    ensures few { IfErr result (λ fault. (good_count (unworn classes.now) < need geometry.now)
-        × (fault ≡ FormatFault.TooFewGood (good_count (unworn classes.now)) (need geometry.now))) }
+pub fn require_good(classes: &[Class], need: u32) -> Result<(), FormatFault>
+    requires { length classes.now < 2 ^ 32 }
+    ensures ok { OnOk result (need ≤ good_count (unworn classes.now)) }
+    ensures few { IfErr result (λ fault. (good_count (unworn classes.now) < need)
+        × (fault ≡ FormatFault.TooFewGood (good_count (unworn classes.now)) need)) }
 {
     let good = count_good(classes);
-    let need = geometry.need();
     if good < need {
         return Err(FormatFault::TooFewGood { good, need });
     }
@@ -138,10 +137,11 @@ pub fn require_good(classes: &[Class], geometry: &Geometry) -> Result<(), Format
 const TRIES: u32 = 3;
 
 /// Writes the table pages into the lowest good block, and into the next one where a program failed,
-/// with sequences from 1 on. Answers the good blocks.
+/// with sequences from 1 on, while `need` blocks are good. Answers the good blocks.
 pub fn write_tables<N: Nand>(
     nand: &mut N,
     geometry: &Geometry,
+    need: u32,
     classes: &mut [Class],
     body: &mut [u8],
     spare: &mut [u8],
@@ -150,10 +150,11 @@ pub fn write_tables<N: Nand>(
     requires classes_whole { length classes.old ≡ geometry.now.blocks }
     requires body_whole { length body.old ≡ geometry.now.data_bytes }
     requires spare_whole { length spare.old ≡ geometry.now.spare_bytes }
+    requires some { 0 < need }
     ensures writes { N.view.honest nand.old ≡ true →
         IsTrying geometry.now (N.view.flash nand.old) (N.view.flash nand.old) (unworn classes.old) 0 0 1 0 →
-        WritesFormat geometry.now (N.view.flash nand.old) (N.view.flash nand.new) result }
-    ensures answers { AnswersWrite geometry.now (N.view.programs nand.old) (N.view.programs nand.new) result }
+        WritesFormat geometry.now need (N.view.flash nand.old) (N.view.flash nand.new) result }
+    ensures answers { AnswersWrite geometry.now need (N.view.programs nand.old) (N.view.programs nand.new) result }
     ensures geometry { (N.view.flash nand.new).geometry ≡ (N.view.flash nand.old).geometry }
     ensures honest { N.view.honest nand.new ≡ N.view.honest nand.old }
     ensures calm { N.view.calm nand.new ≡ N.view.calm nand.old }
@@ -165,7 +166,7 @@ pub fn write_tables<N: Nand>(
 {
     let mut sequence = 1;
     for _failures in 0..TRIES {
-        require_good(classes, geometry)?;
+        require_good(classes, need)?;
         let block = lowest_good(classes, geometry);
         if write_in_block(nand, geometry, classes, block, &mut sequence, body, spare)?.passed() {
             return Ok(count_good(classes));

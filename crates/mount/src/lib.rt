@@ -9,6 +9,6 @@ pub mod laws;
 mod mount_image;
 mod mount_pages;
 
-pub use format_die::format;
+pub use format_die::{format, format_at};
 pub use format_fault::FormatFault;
 pub use mount_image::{Mounted, mount, mount_counted};

@@ -140,7 +140,8 @@ impl<N: Nand> Engine<N> {
 
     /// Collects a closed block. Its pages that are the newest of their keys are copied by rising row,
     /// each in its stream; the rows of cached sectors become dirty, and the other sectors are moved
-    /// ones for the time being. Then, while more sectors are moved than may wait, the lowest translation
+    /// ones for the time being. But where sectors may wait, a translation page among them is written
+    /// back in place of copied, with all that wait for it. Then, while more sectors are moved than may wait, the lowest translation
     /// page is written back that more than the share of them wait for: with share 0 each one of a moved
     /// sector, rising. While flushing, which is for share 0, each of another sector that was copied is
     /// too. Then the block is erased: it is free, with an erase count of one more, or where the erase
@@ -161,12 +162,12 @@ impl<N: Nand> Engine<N> {
     /// # Errors
     ///
     /// Those of `write_back`, as there; each stands. After `ReadOnly` and `SequenceSpent` the array is
-    /// as it was, and the block is as it was but for pages that were copied.
+    /// as it was, and the block is as it was but for pages that were brought out.
     ///
     /// The block is pinned meanwhile, and stays so where a step is refused. It takes no memory.
     ///
     /// Source: the garbage collection of the DFTL paper, with its lazy copying and batch updates; the
-    /// moved sectors and flushing are this project's.
+    /// moved sectors, the write-back in place of a copy, and flushing are this project's.
     pub fn collect(&mut self, block: u32, flushing: bool) -> Result<(), WriteFault>
         requires safe { IsSafe N.view.flash self.old }
         requires flushes { flushing ≡ true → self.old.mapping.share ≡ 0 }

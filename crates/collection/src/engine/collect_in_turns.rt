@@ -4,10 +4,10 @@ ghost use Rattle.std.specs.Option.{option_map, ForSome};
 ghost use Rattle.page_layout.specs.Page.{Image};
 ghost use Rattle.page_layout.specs.Geometry.{translation_pages};
 ghost use Rattle.allocation.specs.State.{is_closed, live_at};
-ghost use Rattle.collection.specs.Safe.{IsSafe, IsIdle, ram, image_in};
+ghost use Rattle.collection.specs.Safe.{IsSafe, IsIdle, ram, image_in, page_in};
 ghost use Rattle.collection.specs.Truth as truth;
 ghost use Rattle.collection.specs.Results.{Refused, Goes};
-ghost use Rattle.collection.specs.Collect.{excess, OwesPage, Refreshes, KeepsKeys, GoesBut, IsReleased, StepCosts, IsStepped};
+ghost use Rattle.collection.specs.Collect.{excess, OwesPage, Refreshes, KeepsKeys, GoesBut, IsReleased, IsBroughtOut, StepCosts, IsStepped};
 ghost use Rattle.collection.specs.Whole.{step_within, erases_after};
 ghost use Rattle.collection.specs.Left.{IsCalm, IsHalfDone, HasPassed, PinHasPassed, TouchesNoMore, pin_after, told};
 ghost use Rattle.collection.specs.Acts.{EngineActs, Stands};
@@ -22,9 +22,10 @@ use onfi_cycles::Nand;
 /// What one step of a collection did. (This project.)
 #[derive(Clone, Copy, Debug, PartialEq, Eq)]
 pub enum Step {
-    /// The block's first page that was the newest of its key was copied.
+    /// The block's first page that was the newest of its key was copied or, a translation page where
+    /// sectors may wait, written back.
     Copied,
-    /// A translation page was written back.
+    /// A translation page was written back before the erase.
     WroteBack,
     /// The block was erased, or has failed; no block is pinned any more.
     Erased,
@@ -115,6 +116,7 @@ impl<N: Nand> Engine<N> {
         ensures erases { IfOk result (λ progress. N.view.erases self.new.nand ≡ erases_after progress (N.view.erases self.old.nand)) }
         ensures owed { result ≡ Err EngineFault.ReadOnly → (0 < live_at (ram self.old).blocks pinned.block) ⊎ OwesPage flushing (ram self.old) }
         ensures cost { StepCosts flushing pinned.block pinned.first (ram self.old) (ram self.new) result }
+        ensures brought { (page : ℕ) → result ≡ Ok (Progress.Copied page) → IsBroughtOut (ram self.old) (ram self.new) (page_in self.new.page) }
         ensures truth { N.view.honest self.old.nand ≡ true → truth.IsTrue None (ram self.old) (image_in N.view.flash self.old) →
             HasPassed (ram self.old) (image_in N.view.flash self.old) pinned →
             MatchResult result
@@ -154,7 +156,8 @@ impl<N: Nand> Engine<N> {
     }
 
     /// Takes the collection of the pinned block one step further: its page of lowest row that is the
-    /// newest of its key is copied; with none left, while more sectors are moved than may wait, the
+    /// newest of its key is copied or, a translation page where sectors may wait, written back with all
+    /// that wait for it; with none left, while more sectors are moved than may wait, the
     /// lowest translation page is written back that more than the share of them wait for, and while
     /// flushing also one of another sector that was copied; with none left, the block is erased, and
     /// no block is pinned any more. It is free then, with an erase count of
@@ -164,8 +167,9 @@ impl<N: Nand> Engine<N> {
     /// erase leaves less to do. One page is programmed at most, and one more for each failure. It
     /// reads each page of the block once at most, from where the last step ended, and with it the
     /// translation page that tells whether it is the newest of its sector; a copy reads no page past
-    /// the one that it copies. Where a translation page is written back, that is read too. Unless
-    /// flushing, more of its sectors than the share were moved.
+    /// the one that it copies, and a write-back in its place no more. Where a translation page is
+    /// written back with none left, that is read too. Unless flushing, more of its sectors than the
+    /// share were moved.
     ///
     /// # Errors
     ///

@@ -14,9 +14,9 @@ ghost use Rattle.collection.specs.Live.{HoldsNoneIn, IsLivePage};
 ghost use Rattle.collection.specs.Results.{IsSame, IsImageKept, Refused, Goes, IsLastPage};
 ghost use Rattle.collection.specs.Whole.{erases_after};
 ghost use Rattle.collection.specs.Collect.{is_over as over, waiting, excess, OwesPage, marks_after, IsLowestDue, OwesNone, Refreshes, KeepsKeys};
-ghost use Rattle.collection.specs.Settle.{SetsMapping};
+ghost use Rattle.collection.specs.Settle.{SetsMapping, BringsOut};
 ghost use Rattle.collection.specs.Left.{TouchesNoMore};
-ghost use Rattle.collection.specs.Collect.{GoesBut, HasCopied, HasWritten, HasErased, IsReleased, FaultCosts, StepCosts, IsMovedOut, IsRenewed};
+ghost use Rattle.collection.specs.Collect.{GoesBut, HasCopied, HasBroughtOut, IsBroughtOut, HasWritten, HasErased, IsReleased, FaultCosts, StepCosts, IsMovedOut, IsRenewed};
 ghost use Rattle.collection.specs.Collect.{IsCopiedOr, IsStepped};
 ghost use Rattle.collection.specs.Acts.{EngineActs, OnlyPrograms};
 ghost use Rattle.collection.specs.Stops.{CutsSafely, StopsSafely};
@@ -30,9 +30,9 @@ use page_layout::record::{Key, Record};
 // What one step of a collection did.
 #[derive(Clone, Copy, Debug, PartialEq, Eq)]
 pub(crate) enum Progress {
-    // The block's first page that was the newest of its key was copied: this one.
+    // The block's first page that was the newest of its key was brought out: this one.
     Copied(u32),
-    // A translation page was written back.
+    // A translation page was written back before the erase.
     WroteBack,
     // The block was erased, or has failed.
     Erased,
@@ -125,8 +125,51 @@ impl<N: Nand> Engine<N> {
         Ok(())
     }
 
-    // Copies the first page of a closed block, from a page on, that is the newest of its key. Answers
-    // that page, or none where there is none.
+    // Brings the page in the page buffer, the newest of its key, out of its block, at the cost of one
+    // page. It is copied; but where moved sectors may wait, a translation page is written back, and
+    // none waits for it any more.
+    fn bring_out(&mut self, found: &Record, row: u32, flushing: bool) -> Result<(), EngineFault>
+        requires safe { IsSafe N.view.flash self.old }
+        requires key { IsKeyOf self.old.geometry (key_of found.now) }
+        requires row { row < row_count self.old.geometry }
+        requires room { length self.old.mapping.moved < waiting (ram self.old) + self.old.geometry.pages }
+        ensures acts { EngineActs N.view self.old self.new result }
+        ensures goes { Goes (ram self.old) (ram self.new) }
+        ensures only_programs { OnlyPrograms N.view self.old.nand self.new.nand }
+        ensures keys { KeepsKeys self.old.mapping self.new.mapping }
+        ensures refreshes { flushing ≡ true → Refreshes (ram self.old) (ram self.new) }
+        ensures cost { MatchResult result (λ _. HasBroughtOut flushing (ram self.old) (ram self.new)) (FaultCosts (ram self.old) (ram self.new)) }
+        ensures pinned { flushing ≡ false → (ram self.new).pin ≡ (ram self.old).pin }
+        ensures pin { (ram self.new).pin.block ≡ (ram self.old).pin.block }
+        ensures brought { OnOk result ((at : ℕ) × BringsOut (key_of found.now) at self.old.mapping self.new.mapping) }
+        ensures unmoved { OnErr result (self.new.mapping ≡ self.old.mapping) }
+        ensures touched { N.view.honest self.old.nand ≡ true → truth.IsTrue None (ram self.old) (image_in N.view.flash self.old) →
+            is_shut (ram self.old).blocks (row / self.old.geometry.pages) ≡ true →
+            IsLivePage row self.old.page.body.items found.now (image_in N.view.flash self.old) →
+            OnOk result (TouchesNoMore flushing (row / self.old.geometry.pages) (ram self.old) (image_in N.view.flash self.old) (ram self.new) (image_in N.view.flash self.new)) }
+        ensures programmed { OnOk result (IsLastPage found.now.kind found.now.number (ram self.new) (page_in self.new.page)) }
+        ensures truth { N.view.honest self.old.nand ≡ true → truth.IsTrue None (ram self.old) (image_in N.view.flash self.old) →
+            is_shut (ram self.old).blocks (row / self.old.geometry.pages) ≡ true →
+            IsLivePage row self.old.page.body.items found.now (image_in N.view.flash self.old) →
+            MatchResult result
+            (λ _. IsMovedOut row (ram self.old) (image_in N.view.flash self.old) (ram self.new) (image_in N.view.flash self.new))
+            (Refused (ram self.old) (image_in N.view.flash self.old) (ram self.new) (image_in N.view.flash self.new)) }
+        ensures stops { N.view.honest self.old.nand ≡ true → truth.IsTrue None (ram self.old) (image_in N.view.flash self.old) →
+            IsLivePage row self.old.page.body.items found.now (image_in N.view.flash self.old) → result ≢ Err EngineFault.Bus →
+            StopsSafely N.view self.old self.new }
+        ensures cut { N.view.honest self.old.nand ≡ true → truth.IsTrue None (ram self.old) (image_in N.view.flash self.old) →
+            IsLivePage row self.old.page.body.items found.now (image_in N.view.flash self.old) → result ≡ Err EngineFault.Bus →
+            CutsSafely N.view self.old self.new }
+    {
+        if let (Key::Translation(t), true) = (found.key(), self.mapping.share() > 0) {
+            self.write_loaded(t, Some(row))
+        } else {
+            self.copy_page(found, row, flushing)
+        }
+    }
+
+    // Brings out the first page of a closed block, from a page on, that is the newest of its key.
+    // Answers that page, or none where there is none.
     fn copy_lowest(
         &mut self,
         block: u32,
@@ -152,7 +195,8 @@ impl<N: Nand> Engine<N> {
         ensures unmarked { flushing ≡ false → OnOk result ((ram self.new).pin ≡ (ram self.old).pin) }
         ensures touched { N.view.honest self.old.nand ≡ true → truth.IsTrue None (ram self.old) (image_in N.view.flash self.old) →
             IfOk result (λ copied. IfSome copied (λ _. TouchesNoMore flushing block (ram self.old) (image_in N.view.flash self.old) (ram self.new) (image_in N.view.flash self.new))) }
-        ensures cost { MatchResult result (λ copied. ForSome copied (λ _. HasCopied flushing (ram self.old) (ram self.new))) (FaultCosts (ram self.old) (ram self.new)) }
+        ensures cost { MatchResult result (λ copied. ForSome copied (λ _. HasBroughtOut flushing (ram self.old) (ram self.new))) (FaultCosts (ram self.old) (ram self.new)) }
+        ensures brought { IfOk result (λ copied. ForSome copied (λ _. IsBroughtOut (ram self.old) (ram self.new) (page_in self.new.page))) }
         ensures truth { N.view.honest self.old.nand ≡ true → truth.IsTrue None (ram self.old) (image_in N.view.flash self.old) →
             HoldsNoneIn self.old.geometry.pages block 0 first (image_in N.view.flash self.old) →
             MatchResult result
@@ -171,7 +215,7 @@ impl<N: Nand> Engine<N> {
             return Ok(None);
         };
         let row = self.geometry.row(block, page);
-        self.copy_page(&found, row, flushing)?;
+        self.bring_out(&found, row, flushing)?;
         Ok(Some(page))
     }
 
@@ -280,7 +324,7 @@ impl<N: Nand> Engine<N> {
     }
 
     // One step of the collection of a closed block: its first page that is the newest of its key is
-    // copied; with none left, the lowest translation page that has to be is written; with none left,
+    // brought out; with none left, the lowest translation page that has to be is written; with none left,
     // the block is erased.
     pub(crate) fn collect_step(
         &mut self,
@@ -309,6 +353,7 @@ impl<N: Nand> Engine<N> {
         ensures erases { IfOk result (λ step. N.view.erases self.new.nand ≡ erases_after step (N.view.erases self.old.nand)) }
         ensures owed { result ≡ Err EngineFault.ReadOnly → (0 < live_at (ram self.old).blocks block) ⊎ OwesPage flushing (ram self.old) }
         ensures cost { StepCosts flushing block first (ram self.old) (ram self.new) result }
+        ensures brought { (page : ℕ) → result ≡ Ok (Progress.Copied page) → IsBroughtOut (ram self.old) (ram self.new) (page_in self.new.page) }
         ensures truth { N.view.honest self.old.nand ≡ true → truth.IsTrue None (ram self.old) (image_in N.view.flash self.old) →
             HoldsNoneIn self.old.geometry.pages block 0 first (image_in N.view.flash self.old) →
             MatchResult result

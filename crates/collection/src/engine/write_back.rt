@@ -1,18 +1,20 @@
 //! Translation pages are brought up to date.
-ghost use Rattle.std.specs.Prelude.{◌≡◌, ◌≢◌, ℕ, ◌+◌, ◌<◌, ◌≤◌, true, slice_get, Option, Some, None, Ok, OnOk, OnErr, MatchResult};
+ghost use Rattle.std.specs.Prelude.{◌≡◌, ◌≢◌, ℕ, ◌+◌, ◌/◌, ◌<◌, ◌≤◌, true, slice_get, Option, Some, None, Ok, OnOk, OnErr, MatchResult};
 ghost use Rattle.std.specs.Option.{ForSome};
 ghost use Rattle.std.specs.Map.{keys_of};
 ghost use Rattle.page_layout.specs.Geometry.{row_count, translation_pages};
 ghost use Rattle.page_layout.specs.declared.record.Key.TheVariants.{Translation};
 ghost use Rattle.mapping_cache.specs.Mapping.{per_page, cleaned};
 ghost use Rattle.collection.specs.Pages.{newest_row};
-ghost use Rattle.collection.specs.Safe.{IsSafe, ram, image_in, page_in};
+ghost use Rattle.collection.specs.Safe.{IsSafe, ram, image_in, page_in, is_shut};
 ghost use Rattle.collection.specs.Truth.{IsTrue};
-ghost use Rattle.collection.specs.Cost.{WriteBackCosts};
-ghost use Rattle.collection.specs.Looks.{IsLoaded, IsFilled, IsPadded, StartsFrom, IsBroughtUp};
+ghost use Rattle.budget.specs.declared.stream.Stream.TheVariants.{Meta};
+ghost use Rattle.collection.specs.Collect.{IsMovedOut};
+ghost use Rattle.collection.specs.Cost.{PageCosts, WriteBackCosts};
+ghost use Rattle.collection.specs.Looks.{IsLoaded, HoldsNewest, IsPadded, StartsFrom, IsBroughtUp};
 ghost use Rattle.collection.specs.Settle.{Cleans, HasNoMore};
 ghost use Rattle.collection.specs.Results.{IsLastPage, IsWrittenBack, Refused, Goes};
-ghost use Rattle.collection.specs.Acts.{EngineLooks, EngineActs, Stands};
+ghost use Rattle.collection.specs.Acts.{EngineLooks, EngineActs, OnlyPrograms, Stands};
 ghost use Rattle.collection.specs.Stops.{CutsSafely, StopsSafely};
 
 use super::Engine;
@@ -45,24 +47,45 @@ impl<N: Nand> Engine<N> {
         Ok(())
     }
 
-    // Takes translation page `t` into the page buffer, with each row that it lacks, and no row in an
-    // entry past the last sector's.
-    fn fill_translation(&mut self, t: u32, row: Option<u32>) -> Result<(), EngineFault>
+    // Writes translation page `t` anew, which is in the page buffer as it stands in its row: with each
+    // row that it lacks, and no row in an entry past the last sector's.
+    pub(crate) fn write_loaded(&mut self, t: u32, row: Option<u32>) -> Result<(), EngineFault>
         requires safe { IsSafe N.view.flash self.old }
         requires page { t < translation_pages self.old.geometry }
         requires row { ForSome row (λ r. r < row_count self.old.geometry) }
-        ensures looks { EngineLooks N.view self.old self.new result }
-        ensures reads { N.view.reads self.new.nand ≤ N.view.reads self.old.nand + 1 }
+        ensures acts { EngineActs N.view self.old self.new result }
+        ensures goes { Goes (ram self.old) (ram self.new) }
+        ensures only_programs { OnlyPrograms N.view self.old.nand self.new.nand }
+        ensures pin { (ram self.new).pin ≡ (ram self.old).pin }
+        ensures cleaned { OnOk result (self.new.mapping ≡ cleaned self.old.mapping t) }
+        ensures cleans { OnOk result (Cleans (per_page self.old.mapping) t self.old.mapping self.new.mapping) }
+        ensures keys { keys_of self.new.mapping.cached ≡ keys_of self.old.mapping.cached }
+        ensures no_more { HasNoMore self.old.mapping self.new.mapping }
+        ensures mapping { OnErr result (self.new.mapping ≡ self.old.mapping) }
         ensures padded { OnOk result (IsPadded self.old.geometry t self.new.page.body.items) }
-        ensures checked { OnOk result (IsBroughtUp t row self.old.geometry self.old.mapping self.new.page.body.items) }
+        ensures checked { OnOk result (StartsFrom t row (page_in self.old.page) →
+            IsBroughtUp t row self.old.geometry self.old.mapping self.new.page.body.items) }
+        ensures programmed { OnOk result (IsLastPage Kind.Translation t (ram self.new) (page_in self.new.page)) }
+        ensures cost { PageCosts Meta (ram self.old) (ram self.new) result }
         ensures truth { N.view.honest self.old.nand ≡ true → IsTrue None (ram self.old) (image_in N.view.flash self.old) →
-            newest_row (image_in N.view.flash self.old) (Translation t) ≡ row →
+            HoldsNewest t row self.old.page.body.items self.old.geometry (image_in N.view.flash self.old) →
             MatchResult result
-            (λ _. IsFilled t self.new.page.body.items self.old.geometry (image_in N.view.flash self.old))
-            (λ fault. fault ≡ EngineFault.Bus) }
+            (λ _. IsWrittenBack t (ram self.old) (image_in N.view.flash self.old) (ram self.new) (image_in N.view.flash self.new))
+            (Refused (ram self.old) (image_in N.view.flash self.old) (ram self.new) (image_in N.view.flash self.new)) }
+        ensures moved_out { N.view.honest self.old.nand ≡ true → IsTrue None (ram self.old) (image_in N.view.flash self.old) →
+            HoldsNewest t row self.old.page.body.items self.old.geometry (image_in N.view.flash self.old) →
+            ForSome row (λ at. is_shut (ram self.old).blocks (at / self.old.geometry.pages) ≡ true →
+            OnOk result (IsMovedOut at (ram self.old) (image_in N.view.flash self.old) (ram self.new) (image_in N.view.flash self.new))) }
+        ensures stops { N.view.honest self.old.nand ≡ true → IsTrue None (ram self.old) (image_in N.view.flash self.old) →
+            HoldsNewest t row self.old.page.body.items self.old.geometry (image_in N.view.flash self.old) →
+            result ≢ Err EngineFault.Bus → StopsSafely N.view self.old self.new }
+        ensures cut { N.view.honest self.old.nand ≡ true → IsTrue None (ram self.old) (image_in N.view.flash self.old) →
+            HoldsNewest t row self.old.page.body.items self.old.geometry (image_in N.view.flash self.old) →
+            result ≡ Err EngineFault.Bus → CutsSafely N.view self.old self.new }
     {
-        self.load_translation(t, row)?;
         fill_entries(&self.mapping, &self.geometry, t, &mut self.page.body);
+        self.replace(Kind::Translation, t, row)?;
+        self.mapping.clean(t);
         Ok(())
     }
 
@@ -95,10 +118,8 @@ impl<N: Nand> Engine<N> {
             result ≡ Err EngineFault.Bus → CutsSafely N.view self.old self.new }
     {
         let row = self.directory.row_of(t);
-        self.fill_translation(t, row)?;
-        self.replace(Kind::Translation, t, row)?;
-        self.mapping.clean(t);
-        Ok(())
+        self.load_translation(t, row)?;
+        self.write_loaded(t, row)
     }
 
     /// Writes translation page `t` anew: as it stands on the die, or empty where it was never

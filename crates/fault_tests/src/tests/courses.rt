@@ -6,7 +6,7 @@ use super::collecting::collected;
 use super::fault_scripts::nth_call;
 use super::noise::{noisy, quiet};
 use super::script::Script;
-use device_fixtures::bench::{driver_on, formatted_die, handed_on, started};
+use device_fixtures::bench::{driver_on, formatted_die_at, handed_on, started, started_at};
 use device_fixtures::calls::{Answer, CLOSING, Call, make};
 use device_fixtures::dies::image_of;
 use ftl_device::{Device, DeviceFault};
@@ -29,6 +29,30 @@ pub enum Calls {
     Spread,
     /// A formatted die, and the calls before a collection of block 1, which comes after them.
     Collecting,
+    /// A formatted die with more sectors than share 0 can have, and calls of which sectors wait for their translation pages.
+    Waiting,
+}
+
+/// Call i where sectors wait: one in four is of any sector, and the others of three. So a block that is collected has a page of a sector that is
+/// seldom written.
+pub fn waiting_call(i: u32) -> Call {
+    let byte = (i % 251) as u8;
+    match (i % 128, i % 16, i % 4) {
+        (127, _, _) => Call::Flush,
+        (_, 14, _) => Call::Turn,
+        (_, _, 1) if i % 32 == 21 => Call::Trim(i.wrapping_mul(5) % 48),
+        (_, _, 1) => Call::Write((i / 4).wrapping_mul(11) % 48, byte),
+        _ => Call::Write(i % 3, byte),
+    }
+}
+
+/// The die of these calls: 34 blocks of four pages, with 48 sectors. 31 blocks are needed above share 0.
+///
+/// # Errors
+///
+/// None comes.
+pub fn waiting_die(spare: u32) -> Result<Geometry, Fail> {
+    Ok(Geometry::new(64, spare, 4, 34, 48)?)
 }
 
 // The calls before a collection.
@@ -40,7 +64,7 @@ impl Calls {
         match self {
             Calls::Migrating => Some(Calls::Plain),
             Calls::Spread => Some(Calls::Spread),
-            Calls::Plain | Calls::Collecting => None,
+            Calls::Plain | Calls::Collecting | Calls::Waiting => None,
         }
     }
 
@@ -51,6 +75,7 @@ impl Calls {
             Calls::Spread if i % 8 == 0 => Call::Write(i / 8 % 31, (i % 251) as u8),
             Calls::Spread => Call::Write(31, (i % 251) as u8),
             Calls::Collecting if i < 8 => BEFORE[i as usize],
+            Calls::Waiting => waiting_call(i),
             _ => nth_call(i),
         }
     }
@@ -67,6 +92,25 @@ pub struct Course {
     pub count: u32,
     /// Whether reads have wrong bits.
     pub noise: bool,
+    /// How many moved sectors may wait for each translation page, in the mean.
+    pub share: u32,
+}
+
+impl Course {
+    fn geometry(&self) -> Result<Geometry, Fail> {
+        match self.calls {
+            Calls::Waiting => waiting_die(self.spare),
+            _ => Ok(Geometry::new(64, self.spare, 8, 32, 32)?),
+        }
+    }
+
+    /// The entries of the cache of a device that is started again: enough for all that may be stale.
+    pub fn entries(&self) -> u32 {
+        match self.calls {
+            Calls::Waiting => 48,
+            _ => 12,
+        }
+    }
 }
 
 /// Where a course begins: the geometry and the image of its die, and the sectors that this holds.
@@ -193,7 +237,7 @@ fn run_on<N: Nand + Drop>(
     requires { (N.view.flash nand).geometry ≡ start.now.geometry }
     ensures { IfOk result (λ pair. (N.view.flash pair.0).geometry ≡ pair.1) }
 {
-    let device = started(alloc, nand, &start.geometry, 4)?;
+    let device = started_at(alloc, nand, &start.geometry, 4, course.share)?;
     after(device, course, went)
 }
 
@@ -300,9 +344,10 @@ fn image_after(
     geometry: Geometry,
     calls: Calls,
     count: u32,
+    share: u32,
     went: &mut Went,
 ) -> Result<Vec<u8>, Fail> {
-    let driver = formatted_die(alloc, geometry, &[], 0)?;
+    let driver = formatted_die_at(alloc, geometry, &[], 0, share)?;
     let (driver, geometry) = after_calls(alloc, driver, &geometry, calls, count, went)?;
     image_of(alloc, &geometry, driver)
 }
@@ -313,7 +358,7 @@ fn image_after(
 ///
 /// A call is refused, or a growth was, or few pages are in version 1.
 pub fn start_of(alloc: Global, course: &Course) -> Result<Start, Fail> {
-    let geometry = Geometry::new(64, course.spare, 8, 32, 32)?;
+    let geometry = course.geometry()?;
     let mut went = going_on(Script::new());
     let first = course.calls.first();
     let count = if first.is_some() { 128 } else { 0 };
@@ -322,6 +367,7 @@ pub fn start_of(alloc: Global, course: &Course) -> Result<Start, Fail> {
         geometry,
         first.unwrap_or(Calls::Plain),
         count,
+        course.share,
         &mut went,
     )?;
     if first.is_some() && age(&geometry, &mut image) < 128 {

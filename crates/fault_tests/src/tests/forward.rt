@@ -37,6 +37,7 @@ const OLD: Course = Course {
     calls: Calls::Migrating,
     count: 16,
     noise: false,
+    share: 0,
 };
 
 static FAILURES: Row = Row {

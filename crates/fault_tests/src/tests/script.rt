@@ -1,10 +1,11 @@
 //! Thousands of pseudorandom commands and restarts, with programs and erases that fail, against a plain
-//! list of sectors.
+//! list of sectors, with and without sectors that wait for their translation pages.
 ghost use Rattle.std.specs.Prelude.{◌≡◌, IfOk};
 ghost use Rattle.ftl_device.specs.Device.{IsDevice};
 
 use super::noise::{noisy, quiet};
-use device_fixtures::bench::{driver_on, formatted_die, handed_on, started};
+use super::script_rows::{ROWS, Row, Stage};
+use device_fixtures::bench::{driver_on, formatted_die_at, handed_on, started, started_at};
 use device_fixtures::calls::{Answer, Call, hold_call, make};
 use device_fixtures::cases::erases_of;
 use device_fixtures::hold::hold_same;
@@ -80,7 +81,10 @@ fn shown_by<N: Nand>(device: &Device<N>) -> Shown {
         read_only: device.read_only(),
         good: device.engine.blocks.good(),
         free: device.engine.blocks.free(),
-        need: device.engine.geometry.need(),
+        need: device
+            .engine
+            .geometry
+            .need_at(device.engine.mapping.share()),
     }
 }
 
@@ -132,20 +136,43 @@ fn drawn(geometry: &Geometry, number: u64) -> u32 {
     (number % u64::from(geometry.sectors().max(1))) as u32
 }
 
+// What a number from 0 to 31 draws.
+fn drawn_call(sector: u32, byte: u8, dice: u64) -> Call {
+    match dice {
+        0..=15 => Call::Write(sector, byte),
+        16..=19 => Call::Trim(sector),
+        20 => Call::Flush,
+        21..=23 => Call::Turn,
+        _ => Call::Read(sector, byte),
+    }
+}
+
+// The same where three sectors take most writes, and nothing is flushed.
+fn drawn_hot(sector: u32, byte: u8, dice: u64) -> Call {
+    match dice {
+        0..=23 => Call::Write(sector % 3, byte),
+        24..=25 => Call::Write(sector, byte),
+        26..=28 => Call::Turn,
+        _ => Call::Read(sector, byte),
+    }
+}
+
 // Gives a device the next command.
-fn give<N: Nand>(device: &mut Device<N>, script: &mut Script) -> Result<(), Fail>
+fn give<N: Nand>(device: &mut Device<N>, script: &mut Script, hot: bool) -> Result<(), Fail>
     requires { IsDevice N.view.flash device.old }
     ensures { IsDevice N.view.flash device.new }
 {
     let dice = script.step();
     let sector = drawn(&device.engine.geometry, dice >> 33);
     let byte = ((dice >> 40) % 256) as u8;
-    match dice >> 59 {
-        0..=15 => change(device, script, Call::Write(sector, byte)),
-        16..=19 => change(device, script, Call::Trim(sector)),
-        20 => change(device, script, Call::Flush),
-        21..=23 => change(device, script, Call::Turn),
-        _ => hold_sector(device, script, sector),
+    let call = if hot {
+        drawn_hot(sector, byte, dice >> 59)
+    } else {
+        drawn_call(sector, byte, dice >> 59)
+    };
+    match call {
+        Call::Read(sector, _) => hold_sector(device, script, sector),
+        call => change(device, script, call),
     }
 }
 
@@ -201,12 +228,12 @@ pub fn changes_of(driver: Driver<Die>, failing: &[u16], formatting: u64) -> Resu
 }
 
 // Gives a device 250 commands, and compares all sectors then.
-fn give_each<N: Nand>(device: &mut Device<N>, script: &mut Script) -> Result<(), Fail>
+fn give_each<N: Nand>(device: &mut Device<N>, script: &mut Script, hot: bool) -> Result<(), Fail>
     requires { IsDevice N.view.flash device.old }
     ensures { IsDevice N.view.flash device.new }
 {
     for _ in 0..250 {
-        give(device, script)?;
+        give(device, script, hot)?;
     }
     compare(device, script)
 }
@@ -219,39 +246,39 @@ fn hold_end<N: Nand>(device: &Device<N>, its: &Stage) -> Result<(), Fail> {
     hold_same("a stage", "its end", &found, &(its.next, its.blocks))
 }
 
-// Gives a device what it is given in a stage, and flushes it then if that is wanted.
+// Gives a device what it is given in a stage, and flushes it then unless failures leave bytes.
 fn give_stage<N: Nand>(
     device: &mut Device<N>,
     its: &Stage,
-    flushed: bool,
+    row: &Row,
     script: &mut Script,
 ) -> Result<(), Fail>
     requires { IsDevice N.view.flash device.old }
     ensures { IsDevice N.view.flash device.new }
 {
     compare(device, script)?;
-    give_each(device, script)?;
-    if flushed {
+    give_each(device, script, row.hot)?;
+    if !row.torn {
         change(device, script, Call::Flush)?;
     }
     hold_end(device, its)
 }
 
-// A device is started on a die that holds what the list says, is given 250 commands, and is flushed if
-// that is wanted.
+// A device is started on a die that holds what the list says, is given 250 commands, and is flushed
+// unless failures leave bytes.
 fn give_started<N: Nand + Drop>(
     alloc: Global,
     nand: N,
     geometry: &Geometry,
     its: &Stage,
-    flushed: bool,
+    row: &Row,
     script: &mut Script,
 ) -> Result<(N, Geometry), Fail>
     requires { (N.view.flash nand).geometry ≡ geometry.now }
     ensures { IfOk result (λ pair. (N.view.flash pair.0).geometry ≡ pair.1) }
 {
-    let mut device = started(alloc, nand, geometry, its.capacity)?;
-    let came = give_stage(&mut device, its, flushed, script);
+    let mut device = started_at(alloc, nand, geometry, its.capacity, row.share)?;
+    let came = give_stage(&mut device, its, row, script);
     handed_on(device, came)
 }
 
@@ -269,209 +296,12 @@ fn give_over<N: Nand + Drop>(
     ensures { IfOk result (λ pair. (N.view.flash pair.0).geometry ≡ pair.1) }
 {
     if !noise {
-        return give_started(alloc, nand, geometry, its, !row.torn, script);
+        return give_started(alloc, nand, geometry, its, row, script);
     }
     let nand = noisy(alloc, nand, geometry)?;
-    let (nand, now) = give_started(alloc, nand, geometry, its, !row.torn, script)?;
+    let (nand, now) = give_started(alloc, nand, geometry, its, row, script)?;
     Ok((quiet(nand)?, now))
 }
-
-// A device: the capacity of its cache, and at its end the next sequence, the free and the good blocks, and
-// the erases of all blocks that it counts. `bench/device_model.py` says so too.
-struct Stage {
-    capacity: u32,
-    next: u64,
-    blocks: (u32, u32, u32),
-}
-
-// A die, and the devices that are started on it one after the other.
-struct Row {
-    // Bytes of a spare area, pages of a block, blocks and sectors.
-    sizes: (u32, u32, u32, u32),
-    // Programs and erases that fail.
-    failing: &'static [u16],
-    // Whether they leave bytes 00h in the page. No table page need tell of a block that failed so.
-    torn: bool,
-    // The devices. Where the failures leave no bytes each is flushed at its end.
-    devices: &'static [Stage],
-}
-
-const FIRST: (u32, u32, u32, u32) = (32, 8, 32, 32);
-
-// Three translation pages, and up to twelve live pages in a block that is collected.
-const LONG: (u32, u32, u32, u32) = (40, 16, 24, 48);
-
-// One live page in a block that is collected. 29 of its 32 blocks are needed.
-const SHORT: (u32, u32, u32, u32) = (32, 4, 32, 32);
-
-static ROWS: [Row; 6] = [
-    Row {
-        sizes: FIRST,
-        failing: &[
-            5, 30, 31, 200, 210, 333, 400, 401, 555, 700, 801, 900, 1001, 1100, 1300,
-        ],
-        torn: false,
-        devices: &[
-            Stage {
-                capacity: 4,
-                next: 247,
-                blocks: (10, 27, 13),
-            },
-            Stage {
-                capacity: 1,
-                next: 610,
-                blocks: (9, 23, 58),
-            },
-            Stage {
-                capacity: 16,
-                next: 824,
-                blocks: (9, 20, 87),
-            },
-            Stage {
-                capacity: 2,
-                next: 1151,
-                blocks: (9, 18, 128),
-            },
-        ],
-    },
-    Row {
-        sizes: FIRST,
-        failing: &[
-            2, 60, 90, 250, 251, 340, 420, 500, 600, 601, 750, 850, 950, 1020, 1200,
-        ],
-        torn: true,
-        devices: &[
-            Stage {
-                capacity: 3,
-                next: 251,
-                blocks: (10, 27, 11),
-            },
-            Stage {
-                capacity: 64,
-                next: 467,
-                blocks: (9, 24, 34),
-            },
-            Stage {
-                capacity: 32,
-                next: 657,
-                blocks: (9, 22, 55),
-            },
-            Stage {
-                capacity: 40,
-                next: 850,
-                blocks: (9, 20, 75),
-            },
-        ],
-    },
-    Row {
-        sizes: LONG,
-        failing: &[9, 10, 40, 300, 500, 650, 651, 900, 1200],
-        torn: false,
-        devices: &[
-            Stage {
-                capacity: 5,
-                next: 250,
-                blocks: (10, 21, 5),
-            },
-            Stage {
-                capacity: 48,
-                next: 492,
-                blocks: (9, 19, 19),
-            },
-            Stage {
-                capacity: 1,
-                next: 872,
-                blocks: (9, 16, 43),
-            },
-            Stage {
-                capacity: 3,
-                next: 1242,
-                blocks: (9, 15, 67),
-            },
-        ],
-    },
-    Row {
-        sizes: LONG,
-        failing: &[1, 2, 77, 350, 480, 700, 800, 1000, 1101],
-        torn: true,
-        devices: &[
-            Stage {
-                capacity: 2,
-                next: 284,
-                blocks: (10, 21, 7),
-            },
-            Stage {
-                capacity: 48,
-                next: 518,
-                blocks: (9, 19, 20),
-            },
-            Stage {
-                capacity: 64,
-                next: 721,
-                blocks: (9, 18, 31),
-            },
-            Stage {
-                capacity: 50,
-                next: 939,
-                blocks: (9, 17, 45),
-            },
-        ],
-    },
-    Row {
-        sizes: SHORT,
-        failing: &[100, 600, 1100],
-        torn: false,
-        devices: &[
-            Stage {
-                capacity: 4,
-                next: 232,
-                blocks: (9, 31, 35),
-            },
-            Stage {
-                capacity: 8,
-                next: 473,
-                blocks: (9, 31, 95),
-            },
-            Stage {
-                capacity: 1,
-                next: 797,
-                blocks: (9, 30, 177),
-            },
-            Stage {
-                capacity: 32,
-                next: 974,
-                blocks: (8, 29, 221),
-            },
-        ],
-    },
-    Row {
-        sizes: SHORT,
-        failing: &[50, 51, 52, 700, 701, 900],
-        torn: true,
-        devices: &[
-            Stage {
-                capacity: 8,
-                next: 206,
-                blocks: (9, 29, 31),
-            },
-            Stage {
-                capacity: 64,
-                next: 419,
-                blocks: (9, 29, 77),
-            },
-            Stage {
-                capacity: 40,
-                next: 613,
-                blocks: (9, 27, 124),
-            },
-            Stage {
-                capacity: 33,
-                next: 796,
-                blocks: (9, 26, 161),
-            },
-        ],
-    },
-];
 
 // The geometry of a row, and the bytes that a failure leaves.
 fn sizes_of(row: &Row) -> Result<(Geometry, usize), Fail> {
@@ -485,11 +315,11 @@ fn sizes_of(row: &Row) -> Result<(Geometry, usize), Fail> {
     Ok((geometry, page_left))
 }
 
-// Gives commands to the devices of a row, the die handed on. Nothing illegal is asked of it.
+// Gives commands to the devices of a row, each with its share, the die handed on. Nothing illegal is asked of it.
 fn give_row(alloc: Global, row: &Row, noise: bool) -> Result<u32, Fail> {
     let mut script = Script::new();
     let (mut geometry, page_left) = sizes_of(row)?;
-    let mut driver = formatted_die(alloc, geometry, row.failing, page_left)?;
+    let mut driver = formatted_die_at(alloc, geometry, row.failing, page_left, row.share)?;
     for its in row.devices {
         let (given, now) = give_over(alloc, driver, &geometry, its, row, &mut script, noise)?;
         let die = given.into_bus();

@@ -8,7 +8,7 @@ use super::courses::{Calls, Course, Left, Start, left_by, start_of};
 use super::listed::{is_listed, scanned};
 use super::noise::{noisy, quiet};
 use super::script::{Script, compare, hold_sector};
-use device_fixtures::bench::{handed_on, started};
+use device_fixtures::bench::{handed_on, started_at};
 use device_fixtures::calls::{Call, hold_call};
 use device_fixtures::dies::loaded;
 use device_fixtures::hold::hold_same;
@@ -68,7 +68,7 @@ fn give_fifty<N: Nand>(
     compare(device, script)
 }
 
-// A die mounts with a cache of twelve and is accepted, and a device on it makes fifty calls more.
+// A die mounts with a cache of enough entries and is accepted, and a device on it makes fifty calls more.
 fn go_on<N: Nand + Drop>(
     alloc: Global,
     nand: N,
@@ -78,7 +78,7 @@ fn go_on<N: Nand + Drop>(
 ) -> Result<N, Fail>
     requires { (N.view.flash nand).geometry ≡ geometry.now }
 {
-    let mut device = started(alloc, nand, geometry, 12)?;
+    let mut device = started_at(alloc, nand, geometry, course.entries(), course.share)?;
     let came = give_fifty(&mut device, course, script);
     let (nand, _) = handed_on(device, came)?;
     Ok(nand)
@@ -101,7 +101,7 @@ fn go_over<N: Nand + Drop>(
     quiet(go_on(alloc, nand, course, geometry, script)?)
 }
 
-// The image that is left mounts with a cache of twelve and is accepted, its sectors are from before the call or from after it, and
+// The image that is left mounts with a cache of enough entries and is accepted, its sectors are from before the call or from after it, and
 // a device on it goes on. Whether they are from after it.
 fn hold_left(
     alloc: Global,
@@ -301,6 +301,7 @@ const SCRIPT: Course = Course {
     calls: Calls::Plain,
     count: 400,
     noise: false,
+    share: 0,
 };
 
 // As many programs and erases as `bench/device_model.py` counts.
@@ -332,6 +333,7 @@ const FORWARD: Course = Course {
     calls: Calls::Migrating,
     count: 128,
     noise: false,
+    share: 0,
 };
 
 static OLD: Case = Case {
@@ -350,6 +352,7 @@ const COLLECTED: Course = Course {
     calls: Calls::Collecting,
     count: 8,
     noise: false,
+    share: 0,
 };
 
 // Eight writes and trims, of which nine pages are programmed; then nine programs and erases of a collection.

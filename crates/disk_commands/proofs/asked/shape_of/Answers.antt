@@ -1,5 +1,5 @@
-use Rattle.std.proofs.Common.{inr}
+use Rattle.disk_commands.proofs.AskedLemmas.{no_shape}
 use Rattle.disk_commands.proofs.asked.shape_of.Goals as goal
 
-pub returns-in-Err-clause-fault : goal.returns-in-Err-clause-fault
-returns-in-Err-clause-fault c = inr (c.in_ok-geometry.geometry, c.in_ok-geometry.ensures.ok, c.in-Err.ensures.fault)
+pub returns-clause-fault : goal.returns-clause-fault
+returns-clause-fault c = no_shape c.args.words c.in_ok-share.share c.shape_at.result c.in_ok-share.ensures.ok c.shape_at.ensures.fault

@@ -24,5 +24,5 @@ returns-in-Err-recover_listed-clause-fault g c =
       refl,
       subst (λ r. KeepsBy r g.K.KeepsLost.kept c.args.lost.now c.args.keeper.now c.list_first.new.keeper) (sym c.if-words.false) c.in-Ok-list_first.ensures.listed,
       subst (λ r. IsNoDiskBy r held honest failed c.args.told.now c.args.found c.args.store why) (sym c.if-words.false)
-          (subst (λ s. IsUnrecovered held honest failed s c.args.told.now.shape.cache c.args.found.mark.synced why) c.in-Ok-list_first.ensures.same c.in-Err-recover_listed.ensures.fault),
+          (subst (λ s. IsUnrecovered held honest failed s c.args.told.now.shape.cache c.args.told.now.shape.share c.args.found.mark.synced why) c.in-Ok-list_first.ensures.same c.in-Err-recover_listed.ensures.fault),
     )

@@ -92,10 +92,12 @@ returns-in-Ok-clause-ok g c = record {
   device_is = ap (λ d. d.device) c.in-Ok.ensures.sectors ∙ c.reopening-device.ensures.device;
   not_reopened = ap (λ d. d.reopened) c.in-Ok.ensures.sectors ∙ c.reopening-device.ensures.reopened;
   room = ap (λ d. d.capacity) c.in-Ok.ensures.sectors ∙ c.reopening-device.ensures.capacity;
+  share = ap (λ d. d.share) c.in-Ok.ensures.sectors ∙ c.reopening-device.ensures.share ∙ c.in_ok-disk.ensures.share;
   again = ap (λ d. d.sync_when) c.in-Ok.ensures.sectors ∙ c.reopening-device.ensures.sync_when ∙ c.sync_when.ensures;
   of = record {
     held_array = c.in_ok-disk.ensures.honest;
     bytes = c.in_ok-disk.ensures.bytes;
+    share = c.in_ok-disk.ensures.share;
     syncs_when = c.in_ok-disk.ensures.syncs;
     keeps = λ writes marked. c.in_ok-syncs.ensures.marked writes marked ∙ ap (λ n. after_sync n false c.in_ok-looked.looked.found.mark) c.next_sequence-next.ensures;
   };

@@ -13,5 +13,6 @@ returns-clause-some c = record {
   make_is = c.in_ok-make_words.ensures.some;
   bad_is = sym c.word-2.ensures;
   cache_is = sym c.word-3.ensures;
+  share_is = sym c.word-4.ensures;
   code_is = search rules;
 }

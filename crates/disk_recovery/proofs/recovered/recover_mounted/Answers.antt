@@ -19,7 +19,7 @@ returns-then-not-changed-clause-bytes g c =
 pub returns-then-not-changed-clause-fault : goal.returns-then-not-changed-clause-fault
 returns-then-not-changed-clause-fault g c =
     let held = g.S.Store.held in
-    opened_fault held g.S.Store.honest g.S.Store.failed c.args.store c.recover_once.new.store c.args.capacity c.args.mark c.open_stopped.result c.in_ok-changed.ensures.honest
+    opened_fault held g.S.Store.honest g.S.Store.failed c.args.store c.recover_once.new.store c.args.capacity c.args.share c.args.mark c.open_stopped.result c.in_ok-changed.ensures.honest
     (λ h. left_once c.args.mark (held c.args.store) (held c.recover_once.new.store) c.in_ok-changed.changed c.if-not-changed.true (c.in_ok-changed.ensures.recovered h))
     c.open_stopped.ensures.fault
 
@@ -39,12 +39,12 @@ pub returns-in-Ok-clause-fault : goal.returns-in-Ok-clause-fault
 returns-in-Ok-clause-fault g c =
     let held = g.S.Store.held in
     let left = c.in-Ok.left in
-    opened_fault held g.S.Store.honest g.S.Store.failed c.args.store left c.args.capacity c.args.mark c.open_stopped-in-Ok.result (c.in-Ok.ensures.honest ∙ c.in_ok-changed.ensures.honest)
+    opened_fault held g.S.Store.honest g.S.Store.failed c.args.store left c.args.capacity c.args.share c.args.mark c.open_stopped-in-Ok.result (c.in-Ok.ensures.honest ∙ c.in_ok-changed.ensures.honest)
     (λ h. left_twice c.args.mark (held c.args.store) (held c.recover_once.new.store) (held left) c.in_ok-changed.changed c.if-not-changed.false (c.in_ok-changed.ensures.recovered h)
     (c.in-Ok.ensures.recovered (c.in_ok-changed.ensures.honest ∙ h)))
     c.open_stopped-in-Ok.ensures.fault
 
 pub returns-in_err-changed-clause-fault : goal.returns-in_err-changed-clause-fault
 returns-in_err-changed-clause-fault g c =
-    handed_on (IsUnrecovered g.S.Store.held g.S.Store.honest g.S.Store.failed c.args.store c.args.capacity c.args.mark) _ _ c.from_residual.ensures.1
+    handed_on (IsUnrecovered g.S.Store.held g.S.Store.honest g.S.Store.failed c.args.store c.args.capacity c.args.share c.args.mark) _ _ c.from_residual.ensures.1
     (inl (c.recover_once.new.store, c.in_err-changed.ensures.fault))

@@ -7,7 +7,7 @@ returns-in-Err-formatted-clause-unmade g c = λ honest.
     let held = g.S.Store.held in
     let begun = c.in-Ok.ensures.honest ∙ honest in
     let pages = ap (λ d. (held d.store).pages) (sym c.into_bus-die.ensures.bus) ∙ ap (λ s. (held s).pages) (sym c.into_store.ensures) in
-    formatted_from held (held c.args.store) (held c.into_store.result) c.geometry-geometry.result c.in-Ok.driver c.format-formatted.new.nand (Err c.in-Err-formatted.fault)
+    formatted_from c.args.share held (held c.args.store) (held c.into_store.result) c.geometry-geometry.result c.in-Ok.driver c.format_at-formatted.new.nand (Err c.in-Err-formatted.fault)
     c.geometry-geometry.ensures.geometry (c.in-Ok.ensures.flash honest) (c.in-Err-formatted.ensures.formats begun) pages
 
 pub returns-in-Ok-sync-clause-made : goal.returns-in-Ok-sync-clause-made
@@ -19,7 +19,7 @@ returns-in-Ok-sync-clause-made g c = λ honest.
     let store = sym c.into_store-in-Ok-sync.ensures in
     let pages = ap (λ d. (held d.store).pages) (sym c.into_bus-die.ensures.bus) ∙ sym synced.same ∙ ap (λ s. (held s).pages) store in
     record {
-      formatted = formatted_from held (held c.args.store) (held c.into_store-in-Ok-sync.result) c.geometry-geometry.result c.in-Ok.driver c.format-formatted.new.nand (Ok c.in-Ok-formatted.good)
+      formatted = formatted_from c.args.share held (held c.args.store) (held c.into_store-in-Ok-sync.result) c.geometry-geometry.result c.in-Ok.driver c.format_at-formatted.new.nand (Ok c.in-Ok-formatted.good)
           c.geometry-geometry.ensures.geometry (c.in-Ok.ensures.flash honest) (c.in-Ok-formatted.ensures.formats begun) pages;
       lasts = subst (λ s. (held s).durable ≡ (held s).pages) store (synced.synced refl ∙ sym synced.same);
     }
@@ -32,6 +32,6 @@ returns-in-Err-sync-clause-unmade g c = λ honest.
     let synced = c.in-Err-sync.ensures.syncs kept in
     let pages = ap (λ d. (held d.store).pages) (sym c.into_bus-die.ensures.bus) ∙ sym synced.same ∙ ap (λ s. (held s).pages) (sym c.into_store-in-Err-sync.ensures) in (
       c.in-Ok-formatted.good,
-      formatted_from held (held c.args.store) (held c.into_store-in-Err-sync.result) c.geometry-geometry.result c.in-Ok.driver c.format-formatted.new.nand (Ok c.in-Ok-formatted.good)
+      formatted_from c.args.share held (held c.args.store) (held c.into_store-in-Err-sync.result) c.geometry-geometry.result c.in-Ok.driver c.format_at-formatted.new.nand (Ok c.in-Ok-formatted.good)
           c.geometry-geometry.ensures.geometry (c.in-Ok.ensures.flash honest) (c.in-Ok-formatted.ensures.formats begun) pages,
     )

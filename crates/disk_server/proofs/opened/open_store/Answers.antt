@@ -1,12 +1,12 @@
 use Rattle.std.proofs.Common.{sym, subst, ◌∙◌}
 use Rattle.disk_server.specs.Open.{nand_of}
 use Rattle.disk_server.proofs.FaultLemmas.{handed_on}
-use Rattle.disk_server.proofs.OpenedLemmas.{opened_bytes, unbegun, unopened_come, unopened_so, IsBehind, IsOver}
-use Rattle.disk_server.specs.Opened.{ComesBack, IsUnmounted, IsUnopened, view_in}
+use Rattle.disk_server.proofs.OpenedLemmas.{opened_bytes, unstarted, unopened_come, unopened_so, IsBehind, IsOver}
+use Rattle.disk_server.specs.Opened.{ComesBack, IsUnmounted, IsUnstarted, view_in}
 use Rattle.disk_server.proofs.opened.open_store.Goals as goal
 
 pub returns-in_err-driver-clause-fault : goal.returns-in_err-driver-clause-fault
-returns-in_err-driver-clause-fault g c = unbegun g.S.Store.held g.S.Store.honest g.S.Store.failed c.args.store c.args.capacity _ _ c.from_residual.ensures.1 c.in_err-driver.ensures.fault
+returns-in_err-driver-clause-fault g c = unstarted g.S.Store.held g.S.Store.honest g.S.Store.failed c.args.store c.args.capacity c.args.share _ _ c.from_residual.ensures.1 c.in_err-driver.ensures.fault
 
 pub returns-in_err-driver-clause-given : goal.returns-in_err-driver-clause-given
 returns-in_err-driver-clause-given g c = handed_on (λ e. ComesBack g.S.Store.held g.S.Store.honest c.args.store e.1 e.0) _ _ c.from_residual.ensures.1 c.in_err-driver.ensures.given
@@ -27,8 +27,8 @@ returns-in-Err-clause-given g c =
 pub returns-in-Err-clause-fault : goal.returns-in-Err-clause-fault
 returns-in-Err-clause-fault g c =
     let over : IsOver g.S.Store.held g.S.Store.honest c.args.store c.in_ok-driver.driver = record { as_honest = c.in_ok-driver.ensures.honest; geometry = c.in_ok-driver.ensures.geometry; pages = c.in_ok-driver.ensures.pages } in
-    subst (λ fault. IsUnopened g.S.Store.held g.S.Store.honest g.S.Store.failed c.args.store c.args.capacity c.unopened.result.0 fault) (sym c.unopened.ensures.why)
-    (unopened_so g.S.Store.held g.S.Store.honest g.S.Store.failed c.args.store c.in_ok-driver.driver c.args.capacity c.in-Err.fault c.unopened.result.0 over
+    subst (λ fault. IsUnstarted g.S.Store.held g.S.Store.honest g.S.Store.failed c.args.store c.args.capacity c.args.share c.unopened.result.0 fault) (sym c.unopened.ensures.why)
+    (unopened_so g.S.Store.held g.S.Store.honest g.S.Store.failed c.args.store c.in_ok-driver.driver c.args.capacity c.args.share c.in-Err.fault c.unopened.result.0 over
     (subst (λ x. IsUnmounted (view_in g.S.Store.held g.S.Store.honest g.S.Store.failed) c.in_ok-driver.driver x c.args.capacity c.in-Err.fault) c.geometry-geometry.ensures.geometry
     c.in-Err.ensures.unmounted))
 

@@ -11,11 +11,11 @@ returns-in-None-clause-fault g c = inl ((c.in-Err.back.0, c.in-Err.ensures.fault
 pub returns-in-Some-clause-entries : goal.returns-in-Some-clause-entries
 returns-in-Some-clause-entries g c =
     either g.S.Store.held g.S.Store.honest (λ d. d.engine.mapping.capacity) c.args.store c.in-Err.back.0 c.args.capacity c.in-Some.field-0 c.args.stale c.open_once.result
-    (was_stale g.S.Store.held g.S.Store.honest g.S.Store.failed c.args.store c.in-Err.back.0 c.args.capacity c.in-Some.field-0 c.in-Err.back.1 c.in-Some.ensures c.in-Err.ensures.fault c.in-Err.ensures.given)
+    (was_stale g.S.Store.held g.S.Store.honest g.S.Store.failed c.args.store c.in-Err.back.0 c.args.capacity c.args.share c.in-Some.field-0 c.in-Err.back.1 c.in-Some.ensures c.in-Err.ensures.fault c.in-Err.ensures.given)
     c.open_once.ensures.entries
 
 pub returns-in-Some-clause-fault : goal.returns-in-Some-clause-fault
 returns-in-Some-clause-fault g c =
-    neither g.S.Store.held g.S.Store.honest g.S.Store.failed c.args.store c.in-Err.back.0 c.args.capacity c.in-Some.field-0 c.args.stale c.open_once.result
-    (was_stale g.S.Store.held g.S.Store.honest g.S.Store.failed c.args.store c.in-Err.back.0 c.args.capacity c.in-Some.field-0 c.in-Err.back.1 c.in-Some.ensures c.in-Err.ensures.fault c.in-Err.ensures.given)
+    neither g.S.Store.held g.S.Store.honest g.S.Store.failed c.args.store c.in-Err.back.0 c.args.capacity c.in-Some.field-0 c.args.stale c.args.share c.open_once.result
+    (was_stale g.S.Store.held g.S.Store.honest g.S.Store.failed c.args.store c.in-Err.back.0 c.args.capacity c.args.share c.in-Some.field-0 c.in-Err.back.1 c.in-Some.ensures c.in-Err.ensures.fault c.in-Err.ensures.given)
     c.open_once.ensures.fault

@@ -16,27 +16,27 @@ returns-then-writes-clause-honest g c =
 
 pub returns-then-writes-clause-fault : goal.returns-then-writes-clause-fault
 returns-then-writes-clause-fault g c =
-    later g.S.Store.held g.S.Store.honest g.S.Store.failed c.args.store c.in-Err.back.0 c.args.capacity c.in-Some.stale c.open_stale.result
-    (was_stale g.S.Store.held g.S.Store.honest g.S.Store.failed c.args.store c.in-Err.back.0 c.args.capacity c.in-Some.stale c.in-Err.back.1 c.in-Some.ensures c.in-Err.ensures.fault c.in-Err.ensures.given)
+    later g.S.Store.held g.S.Store.honest g.S.Store.failed c.args.store c.in-Err.back.0 c.args.capacity c.in-Some.stale c.args.share c.open_stale.result
+    (was_stale g.S.Store.held g.S.Store.honest g.S.Store.failed c.args.store c.in-Err.back.0 c.args.capacity c.args.share c.in-Some.stale c.in-Err.back.1 c.in-Some.ensures c.in-Err.ensures.fault c.in-Err.ensures.given)
     c.open_stale.ensures.fault
 
 pub returns-then-writes-clause-entries : goal.returns-then-writes-clause-entries
 returns-then-writes-clause-entries g c =
-    opened_later g.S.Store.held g.S.Store.honest g.S.Store.failed (λ d. d.engine.mapping.capacity) c.args.writes c.args.store c.in-Err.back.0 c.args.capacity c.in-Some.stale c.open_stale.result
-    (was_stale g.S.Store.held g.S.Store.honest g.S.Store.failed c.args.store c.in-Err.back.0 c.args.capacity c.in-Some.stale c.in-Err.back.1 c.in-Some.ensures c.in-Err.ensures.fault c.in-Err.ensures.given)
-    (by_writes g.S.Store.held g.S.Store.honest g.S.Store.failed (λ d. d.engine.mapping.capacity) c.args.writes c.args.capacity c.in-Some.stale c.open_stale.result c.if-writes.true c.open_stale.ensures.entries)
+    opened_later g.S.Store.held g.S.Store.honest g.S.Store.failed (λ d. d.engine.mapping.capacity) c.args.writes c.args.store c.in-Err.back.0 c.args.capacity c.in-Some.stale c.args.share c.open_stale.result
+    (was_stale g.S.Store.held g.S.Store.honest g.S.Store.failed c.args.store c.in-Err.back.0 c.args.capacity c.args.share c.in-Some.stale c.in-Err.back.1 c.in-Some.ensures c.in-Err.ensures.fault c.in-Err.ensures.given)
+    (by_writes g.S.Store.held g.S.Store.honest g.S.Store.failed (λ d. d.engine.mapping.capacity) c.args.writes c.args.capacity c.in-Some.stale c.args.share c.open_stale.result c.if-writes.true c.open_stale.ensures.entries)
 
 pub returns-then-writes-clause-pages : goal.returns-then-writes-clause-pages
 returns-then-writes-clause-pages g c = unwritten _ _ c.args.writes c.open_stale.result c.if-writes.true
 
 pub returns-else-writes-clause-fault : goal.returns-else-writes-clause-fault
 returns-else-writes-clause-fault g c =
-    later g.S.Store.held g.S.Store.honest g.S.Store.failed c.args.store c.in-Err.back.0 c.args.capacity c.in-Some.stale c.open_once.result
-    (was_stale g.S.Store.held g.S.Store.honest g.S.Store.failed c.args.store c.in-Err.back.0 c.args.capacity c.in-Some.stale c.in-Err.back.1 c.in-Some.ensures c.in-Err.ensures.fault c.in-Err.ensures.given)
-    (last_fault g.S.Store.held g.S.Store.honest g.S.Store.failed c.in-Err.back.0 c.args.capacity c.in-Some.stale c.open_once.result c.open_once.ensures.fault)
+    later g.S.Store.held g.S.Store.honest g.S.Store.failed c.args.store c.in-Err.back.0 c.args.capacity c.in-Some.stale c.args.share c.open_once.result
+    (was_stale g.S.Store.held g.S.Store.honest g.S.Store.failed c.args.store c.in-Err.back.0 c.args.capacity c.args.share c.in-Some.stale c.in-Err.back.1 c.in-Some.ensures c.in-Err.ensures.fault c.in-Err.ensures.given)
+    (last_fault g.S.Store.held g.S.Store.honest g.S.Store.failed c.in-Err.back.0 c.args.capacity c.in-Some.stale c.args.share c.open_once.result c.open_once.ensures.fault)
 
 pub returns-else-writes-clause-entries : goal.returns-else-writes-clause-entries
 returns-else-writes-clause-entries g c =
-    opened_later g.S.Store.held g.S.Store.honest g.S.Store.failed (λ d. d.engine.mapping.capacity) c.args.writes c.args.store c.in-Err.back.0 c.args.capacity c.in-Some.stale c.open_once.result
-    (was_stale g.S.Store.held g.S.Store.honest g.S.Store.failed c.args.store c.in-Err.back.0 c.args.capacity c.in-Some.stale c.in-Err.back.1 c.in-Some.ensures c.in-Err.ensures.fault c.in-Err.ensures.given)
-    (by_reads g.S.Store.held g.S.Store.honest g.S.Store.failed (λ d. d.engine.mapping.capacity) c.args.writes c.args.capacity c.in-Some.stale c.open_once.result c.if-writes.false c.open_once.ensures.entries)
+    opened_later g.S.Store.held g.S.Store.honest g.S.Store.failed (λ d. d.engine.mapping.capacity) c.args.writes c.args.store c.in-Err.back.0 c.args.capacity c.in-Some.stale c.args.share c.open_once.result
+    (was_stale g.S.Store.held g.S.Store.honest g.S.Store.failed c.args.store c.in-Err.back.0 c.args.capacity c.args.share c.in-Some.stale c.in-Err.back.1 c.in-Some.ensures c.in-Err.ensures.fault c.in-Err.ensures.given)
+    (by_reads g.S.Store.held g.S.Store.honest g.S.Store.failed (λ d. d.engine.mapping.capacity) c.args.writes c.args.capacity c.in-Some.stale c.args.share c.open_once.result c.if-writes.false c.open_once.ensures.entries)

@@ -9,12 +9,12 @@ pub const DONE: &[Step] = &[
     Run(
         "nanddisk info d",
         0,
-        "size 2048\ngeometry 64,32,8,32,32\ncache 64\nfree 31 bad 0\nwear least 0 most 0 erases 0\nnext 3\nlost 0\n",
+        "size 2048\ngeometry 64,32,8,32,32\ncache 64\nshare 15\nfree 31 bad 0\nwear least 0 most 0 erases 0\nnext 3\nlost 0\n",
     ),
     Run(
         "nanddisk info --json d",
         0,
-        "{\"size\":2048,\"geometry\":\"64,32,8,32,32\",\"cache\":64,\"free\":31,\"bad\":0,\"wear\":{\"least\":0,\"most\":0,\"erases\":0},\"next\":3,\"lost\":[]}\n",
+        "{\"size\":2048,\"geometry\":\"64,32,8,32,32\",\"cache\":64,\"share\":15,\"free\":31,\"bad\":0,\"wear\":{\"least\":0,\"most\":0,\"erases\":0},\"next\":3,\"lost\":[]}\n",
     ),
     Run("nanddisk check d", 0, "lost 0\nbad 0\nunsound 0\n"),
     Run(
@@ -23,6 +23,17 @@ pub const DONE: &[Step] = &[
         "{\"lost\":[],\"bad\":[],\"unsound\":[]}\n",
     ),
     Run("nanddisk create --size 1 s", 0, ""),
+    // one in which no sector waits
+    Run(
+        "nanddisk create --geometry 64,32,8,32,32 --share 0 o",
+        0,
+        "",
+    ),
+    Run(
+        "nanddisk info o",
+        0,
+        "size 2048\ngeometry 64,32,8,32,32\ncache 64\nshare 0\nfree 31 bad 0\nwear least 0 most 0 erases 0\nnext 3\nlost 0\n",
+    ),
     // of 32 blocks three are bad from the start; what their factory marked is not told as damage
     Run(
         "nanddisk create --geometry 64,32,8,32,32 --bad 0,31,7 b",
@@ -32,7 +43,7 @@ pub const DONE: &[Step] = &[
     Run(
         "nanddisk info b",
         0,
-        "size 2048\ngeometry 64,32,8,32,32\ncache 64\nfree 28 bad 3\nwear least 0 most 0 erases 0\nnext 3\nlost 0\n",
+        "size 2048\ngeometry 64,32,8,32,32\ncache 64\nshare 15\nfree 28 bad 3\nwear least 0 most 0 erases 0\nnext 3\nlost 0\n",
     ),
     Run(
         "nanddisk check b",
@@ -74,9 +85,40 @@ pub const REFUSED: &[Step] = &[
         "usage: part of a byte 0.1K\n",
     ),
     Run(
-        "nanddisk create --size 2G d",
+        "nanddisk create --size 2G --share 0 d",
         1,
-        "refused size: a disk has at most 2037469184 bytes\n",
+        "refused size: no die has room for so many bytes with this share\n",
+    ),
+    Run(
+        "nanddisk create --size 3900M d",
+        1,
+        "refused size: no die has room for so many bytes with this share\n",
+    ),
+    // the word of the share before the size, and the share itself behind the cache
+    Run(
+        "nanddisk create --size 1X --share x d",
+        2,
+        "usage: bad number x\n",
+    ),
+    Run(
+        "nanddisk create --size 1 --share 4294967296 d",
+        2,
+        "usage: bad number 4294967296\n",
+    ),
+    Run(
+        "nanddisk create --size 1 --share 65472 --cache 0 d",
+        2,
+        "usage: bad number 0\n",
+    ),
+    Run(
+        "nanddisk create --size 1 --share 65472 d",
+        1,
+        "refused share 65472: no cache has room for all that may be stale\n",
+    ),
+    Run(
+        "nanddisk create --size 257M --cache 65000 d",
+        1,
+        "refused share 15: no cache has room for all that may be stale\n",
     ),
     Run(
         "nanddisk create --geometry 64,32,8 d",
@@ -86,7 +128,7 @@ pub const REFUSED: &[Step] = &[
     Run(
         "nanddisk create --geometry 64,32,8,32,3000 d",
         1,
-        "refused: d was not formatted: Format TooFewGood good 32 need 808\n",
+        "refused: d was not formatted: Format TooFewGood good 32 need 492\n",
     ),
     Run(
         "nanddisk create --geometry 64,32,8,32,32 --from none d",
@@ -131,7 +173,7 @@ pub const REFUSED: &[Step] = &[
     Run(
         "nanddisk create --geometry 64,32,8,16,32 --bad 3,5 d",
         1,
-        "refused: d was not formatted: Format TooFewGood good 14 need 16\n",
+        "refused: d was not formatted: Format TooFewGood good 14 need 19\n",
     ),
     Run("nanddisk create --geometry 64,32,8,32,32 d", 0, ""),
     Run(
@@ -203,7 +245,7 @@ pub const DAMAGED: &[Step] = &[
     Run(
         "nanddisk info d",
         0,
-        "size 2048\ngeometry 64,32,8,32,32\ncache 64\nfree 31 bad 0\nwear least 0 most 0 erases 0\nnext 3\nlost 2\nlost sector 4\nlost sector 31\n",
+        "size 2048\ngeometry 64,32,8,32,32\ncache 64\nshare 15\nfree 31 bad 0\nwear least 0 most 0 erases 0\nnext 3\nlost 2\nlost sector 4\nlost sector 31\n",
     ),
     Both(
         "nanddisk check d",

@@ -101,6 +101,9 @@ pub fn over<S: Sectors + Drop>(alloc: Global, sectors: S) -> Result<SectorDisk<S
     }
 }
 
+// How many moved sectors may wait for each translation page.
+const SHARE: u32 = 0;
+
 // The device on a die that is mounted and checked, with a cache of so many sectors.
 pub fn device_on<N: Nand + Drop>(
     alloc: Global,
@@ -111,7 +114,10 @@ pub fn device_on<N: Nand + Drop>(
     requires { (N.view.flash nand).geometry ≡ geometry.now }
 {
     let certificate = mounted(alloc, &mut nand, geometry, capacity)?;
-    match open_checked(alloc, nand, geometry, capacity, &certificate) {
+    if !geometry.is_share(SHARE) {
+        Err("no share")?;
+    }
+    match open_checked(alloc, nand, geometry, capacity, SHARE, &certificate) {
         Ok(device) => Ok(device),
         Err(_) => Err("not opened")?,
     }

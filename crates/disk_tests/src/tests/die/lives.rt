@@ -22,6 +22,9 @@ const SECTORS: usize = 32;
 
 const ENTRIES: u32 = 64;
 
+// How many moved sectors may wait for each translation page.
+const SHARE: u32 = 15;
+
 /// A life of a disk: the mark beside it, which bits were turned back and how many pages are lost to its code, how many blocks are bad and which sectors are lost as it is looked at; whether it is to be
 /// written, and whether the list of its lost sectors can be kept; and what it is asked.
 pub struct Life {
@@ -66,7 +69,7 @@ fn asked_plain<S: Store + Drop>(disk: StoreDisk<S>, steps: &[Step]) -> (S, bool)
 
 // A store of erased pages, formatted.
 fn formatted<S: Store + Drop>(alloc: Global, store: S) -> Result<S, Fail> {
-    match format_store(alloc, store) {
+    match format_store(alloc, store, SHARE) {
         Ok((store, _)) => Ok(store),
         Err((_store, _fault)) => Err("not formatted")?,
     }
@@ -74,7 +77,8 @@ fn formatted<S: Store + Drop>(alloc: Global, store: S) -> Result<S, Fail> {
 
 /// A new disk in a store of erased pages, once it was asked this.
 pub fn born<S: Store + Drop>(alloc: Global, store: S, steps: &[Step]) -> Result<Between<S>, Fail> {
-    let disk = match open_store(alloc, formatted(alloc, store)?, ENTRIES, SyncWhen::Erases) {
+    let store = formatted(alloc, store)?;
+    let disk = match open_store(alloc, store, ENTRIES, SHARE, SyncWhen::Erases) {
         Ok(disk) => disk,
         Err((_store, _fault)) => Err("not opened")?,
     };
@@ -136,6 +140,7 @@ fn opened<S: Store + Drop>(
         listed,
         certificate,
         ENTRIES,
+        SHARE,
         life.synced,
         SyncWhen::Erases,
     ) {
@@ -146,7 +151,7 @@ fn opened<S: Store + Drop>(
 
 // The disk of a store that is only read.
 fn reading<S: Store + Drop>(alloc: Global, store: S) -> Result<StoreDisk<S>, Fail> {
-    match open_stopped(alloc, store, ENTRIES, SyncWhen::Erases, false) {
+    match open_stopped(alloc, store, ENTRIES, SHARE, SyncWhen::Erases, false) {
         Ok(disk) => Ok(disk),
         Err(_fault) => Err("not opened")?,
     }

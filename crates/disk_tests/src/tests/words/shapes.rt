@@ -80,21 +80,39 @@ fn sizes_are_read(rt: HostRuntime) {
     }
 }
 
-// A size, and the pages of a block, blocks, sectors and cache of its shape.
-const SHAPES: &[(u64, u32, u32, u32, u32)] = &[
-    (1, 64, 13, 1, 64),
-    (4096, 64, 13, 1, 64),
-    (4097, 64, 13, 2, 64),
-    (64 << 20, 64, 370, 16_384, 16_384),
-    (255 << 20, 64, 2156, 65_280, 65_280),
-    (256 << 20, 64, 2165, 65_536, 65_280),
-    ((256 << 20) + 1, 64, 2165, 65_537, 57_344),
-    (509_349_888, 64, 4095, 124_353, 57_344),
-    (509_349_889, 128, 2053, 124_354, 57_344),
-    (1_018_724_352, 128, 4095, 248_712, 57_344),
-    (1_018_724_353, 256, 2053, 248_713, 57_344),
-    (1 << 30, 256, 2165, 262_144, 57_344),
-    (2_037_469_184, 256, 4095, 497_429, 57_344),
+// A share, a size, and the pages of a block, blocks, sectors and cache of its shape.
+const SHAPES: &[(u32, u64, u32, u32, u32, u32)] = &[
+    (0, 1, 64, 13, 1, 64),
+    (0, 4096, 64, 13, 1, 64),
+    (0, 4097, 64, 13, 2, 64),
+    (0, 64 << 20, 64, 370, 16_384, 16_384),
+    (0, 255 << 20, 64, 2156, 65_280, 65_280),
+    (0, 256 << 20, 64, 2165, 65_536, 65_280),
+    (0, (256 << 20) + 1, 64, 2165, 65_537, 57_344),
+    (0, 509_349_888, 64, 4095, 124_353, 57_344),
+    (0, 509_349_889, 128, 2053, 124_354, 57_344),
+    (0, 1_018_724_352, 128, 4095, 248_712, 57_344),
+    (0, 1_018_724_353, 256, 2053, 248_713, 57_344),
+    (0, 1 << 30, 256, 2165, 262_144, 57_344),
+    (0, 2_037_469_184, 256, 4095, 497_429, 57_344),
+    (1, 64 << 20, 64, 364, 16_384, 16_384),
+    (15, 1, 64, 15, 1, 64),
+    (15, 4097, 64, 15, 2, 64),
+    (15, 64 << 20, 64, 295, 16_384, 16_384),
+    (15, 256 << 20, 64, 1135, 65_536, 65_280),
+    (15, (256 << 20) + 1, 64, 1136, 65_537, 56_369),
+    (15, 977_149_952, 64, 4096, 238_562, 53_849),
+    (15, 977_149_953, 128, 2055, 238_563, 53_849),
+    (15, 1 << 30, 128, 2257, 262_144, 53_504),
+    (15, 1_954_320_384, 128, 4096, 477_129, 50_354),
+    (15, 1_954_320_385, 256, 2046, 477_130, 50_354),
+    (15, 2 << 30, 256, 2247, 524_288, 49_664),
+    (15, 3 << 30, 256, 3365, 786_432, 45_824),
+    (15, 3_924_946_944, 256, 4096, 958_239, 43_304),
+    // no block is over
+    (15, 3_924_946_945, 256, 4096, 958_240, 43_304),
+    (15, 4_023_562_240, 256, 4096, 982_315, 42_944),
+    (22, 3900 << 20, 256, 4096, 998_400, 35_894),
 ];
 
 fn is_shape(shape: &DiskShape, pages: u32, blocks: u32, sectors: u32, cache: u32) -> bool {
@@ -107,34 +125,42 @@ fn is_shape(shape: &DiskShape, pages: u32, blocks: u32, sectors: u32, cache: u32
         && shape.cache == cache
 }
 
-fn has_shape(bytes: u64, pages: u32, blocks: u32, sectors: u32, cache: u32) -> bool {
-    match shape_for(bytes) {
-        Ok(shape) => is_shape(&shape, pages, blocks, sectors, cache),
+fn has_shape(share: u32, bytes: u64, pages: u32, blocks: u32, sectors: u32, cache: u32) -> bool {
+    match shape_for(bytes, share) {
+        Ok(shape) => is_shape(&shape, pages, blocks, sectors, cache) && shape.share == share,
         Err(_) => false,
     }
 }
 
 #[test]
 fn shapes_follow_from_sizes(rt: HostRuntime) {
-    for (bytes, pages, blocks, sectors, cache) in SHAPES {
+    for (share, bytes, pages, blocks, sectors, cache) in SHAPES {
         assert!(rt;
-            has_shape(*bytes, *pages, *blocks, *sectors, *cache),
-            "{bytes}"
+            has_shape(*share, *bytes, *pages, *blocks, *sectors, *cache),
+            "{share}: {bytes}"
         );
     }
 }
 
 // Sizes that no shape is for.
-const REFUSED: &[(u64, SizeFault)] = &[
-    (0, SizeFault::Zero),
-    (2_037_469_185, SizeFault::TooLarge),
-    (1 << 31, SizeFault::TooLarge),
-    (u64::MAX, SizeFault::TooLarge),
+const REFUSED: &[(u32, u64, SizeFault)] = &[
+    (0, 0, SizeFault::Zero),
+    (0, 2_037_469_185, SizeFault::TooLarge),
+    (0, 1 << 31, SizeFault::TooLarge),
+    (0, u64::MAX, SizeFault::TooLarge),
+    (15, 0, SizeFault::Zero),
+    (15, 4_023_562_241, SizeFault::TooLarge),
+    (15, 3900 << 20, SizeFault::TooLarge),
+    (22, 4_090_343_425, SizeFault::TooLarge),
+    (u32::MAX, u64::MAX, SizeFault::TooLarge),
 ];
 
 #[test]
 fn sizes_without_a_shape(rt: HostRuntime) {
-    for (bytes, fault) in REFUSED {
-        assert!(rt; shape_for(*bytes) == Err(*fault), "{bytes}");
+    for (share, bytes, fault) in REFUSED {
+        assert!(rt;
+            shape_for(*bytes, *share) == Err(*fault),
+            "{share}: {bytes}"
+        );
     }
 }

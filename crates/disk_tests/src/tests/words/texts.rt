@@ -5,25 +5,38 @@ use std::alloc::Global;
 use std::process::Abort;
 use std::test::*;
 
-// A size, and the text of its shape.
-const TEXTS: &[(u64, &str)] = &[
+// A share, a size, and the text of its shape.
+const TEXTS: &[(u32, u64, &str)] = &[
     (
+        0,
         1,
         "{\"cache\":64,\"code\":\"none\",\"geometry\":\"4096,128,64,13,1\",\"lost\":false,\"share\":0,\"version\":2}\n",
     ),
     (
+        0,
         509_349_888,
         "{\"cache\":57344,\"code\":\"none\",\"geometry\":\"4096,128,64,4095,124353\",\"lost\":false,\"share\":0,\"version\":2}\n",
     ),
     (
+        0,
         2_037_469_184,
         "{\"cache\":57344,\"code\":\"none\",\"geometry\":\"4096,128,256,4095,497429\",\"lost\":false,\"share\":0,\"version\":2}\n",
+    ),
+    (
+        15,
+        1,
+        "{\"cache\":64,\"code\":\"none\",\"geometry\":\"4096,128,64,15,1\",\"lost\":false,\"share\":15,\"version\":2}\n",
+    ),
+    (
+        15,
+        4_023_562_240,
+        "{\"cache\":42944,\"code\":\"none\",\"geometry\":\"4096,128,256,4096,982315\",\"lost\":false,\"share\":15,\"version\":2}\n",
     ),
 ];
 
 // Whether the text of the shape for a size is this, and tells that shape.
-fn goes_round(alloc: Global, bytes: u64, wanted: &str) -> bool {
-    let Ok(shape) = shape_for(bytes) else {
+fn goes_round(alloc: Global, share: u32, bytes: u64, wanted: &str) -> bool {
+    let Ok(shape) = shape_for(bytes, share) else {
         return false;
     };
     let Ok(text) = write_shape(alloc, &shape) else {
@@ -39,8 +52,8 @@ fn goes_round(alloc: Global, bytes: u64, wanted: &str) -> bool {
 
 #[test]
 fn shapes_are_written_and_read(rt: HostRuntime) {
-    for (bytes, text) in TEXTS {
-        assert!(rt; goes_round(rt.alloc(), *bytes, text), "{text}");
+    for (share, bytes, text) in TEXTS {
+        assert!(rt; goes_round(rt.alloc(), *share, *bytes, text), "{text}");
     }
 }
 
@@ -69,7 +82,7 @@ const SAME: &[(bool, &str)] = &[
 ];
 
 fn is_small(alloc: Global, marked: bool, text: &str) -> bool {
-    match shape_for(1) {
+    match shape_for(1, 0) {
         Ok(shape) => read_shape(alloc, text.as_bytes())
             == Ok(DiskText {
                 shape,
@@ -155,9 +168,22 @@ const FAULTS: &[(&[u8], ShapeFault)] = &[
         b"{\"cache\":64,\"code\":\"none\",\"geometry\":\"4096,128,64,13,1\",\"lost\":false,\"version\":2}",
         ShapeFault::Missing(Member::Share),
     ),
+    // so many may not wait: with one translation page, and with more sectors than any cache has entries
     (
-        b"{\"cache\":64,\"code\":\"none\",\"geometry\":\"4096,128,64,13,1\",\"lost\":false,\"share\":15,\"version\":2}",
+        b"{\"cache\":64,\"code\":\"none\",\"geometry\":\"4096,128,64,13,1\",\"lost\":false,\"share\":65472,\"version\":2}",
+        ShapeFault::Share(65_472),
+    ),
+    (
+        b"{\"cache\":64,\"code\":\"none\",\"geometry\":\"4096,128,64,13,1\",\"lost\":false,\"share\":4294967296,\"version\":2}",
+        ShapeFault::Share(4_294_967_296),
+    ),
+    (
+        b"{\"cache\":64498,\"code\":\"none\",\"geometry\":\"4096,128,64,1136,65537\",\"lost\":false,\"share\":15,\"version\":2}",
         ShapeFault::Share(15),
+    ),
+    (
+        b"{\"cache\":64,\"code\":\"none\",\"geometry\":\"4096,128,64,13,1\",\"lost\":false,\"share\":\"0\",\"version\":2}",
+        ShapeFault::WrongType(Member::Share),
     ),
     (
         b"{\"cache\":64,\"code\":\"none\",\"geometry\":\"4096,128,64,13,1\",\"lost\":false,\"name\":1,\"share\":0,\"version\":2}",
@@ -169,6 +195,33 @@ const FAULTS: &[(&[u8], ShapeFault)] = &[
     ),
     (b"{\"\xff\":1}", ShapeFault::NotJson),
 ];
+
+// Shares that disks may have: as many as one translation page allows; with a cache that leaves just room for all that may be stale; and with share 0 beside any cache.
+const SHARED: &[(u32, &[u8])] = &[
+    (
+        65_471,
+        b"{\"cache\":64,\"code\":\"none\",\"geometry\":\"4096,128,64,13,1\",\"lost\":false,\"share\":65471,\"version\":2}",
+    ),
+    (
+        15,
+        b"{\"cache\":64497,\"code\":\"none\",\"geometry\":\"4096,128,64,1136,65537\",\"lost\":false,\"share\":15,\"version\":2}",
+    ),
+    (
+        0,
+        b"{\"cache\":65536,\"code\":\"none\",\"geometry\":\"4096,128,64,2165,65537\",\"lost\":false,\"share\":0,\"version\":2}",
+    ),
+];
+
+#[test]
+fn shares_are_read(rt: HostRuntime) {
+    for (share, text) in SHARED {
+        let read = match read_shape(rt.alloc(), text) {
+            Ok(told) => told.shape.share == *share,
+            Err(_) => false,
+        };
+        assert!(rt; read, "{share}");
+    }
+}
 
 #[test]
 fn each_fault_is_named(rt: HostRuntime) {

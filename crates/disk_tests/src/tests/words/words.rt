@@ -7,7 +7,7 @@ use std::process::Abort;
 use std::test::*;
 
 // Words, and what they ask for, word by word; of a text how it begins. The disk is `d`.
-static ROWS: [(&[&str], &[&str]); 41] = [
+static ROWS: [(&[&str], &[&str]); 43] = [
     (
         &["create", "--size", "64M", "d"],
         &["size", "64M", "-", "-"],
@@ -40,6 +40,14 @@ static ROWS: [(&[&str], &[&str]); 41] = [
             "d",
         ],
         &["geometry", "G", "F", "9"],
+    ),
+    (
+        &["create", "--size", "1", "--share", "0", "d"],
+        &["size", "1", "-", "-", "share 0"],
+    ),
+    (
+        &["create", "--share=0", "--share=1", "--size", "1", "d"],
+        &["nothing"],
     ),
     (
         &["create", "--size", "1", "--code", "hamming", "d"],
@@ -110,11 +118,13 @@ fn is_create(words: &CreateWords<'_>, told: &[&str]) -> bool {
     };
     let from = from.or(words.bad).unwrap_or("-");
     let cache = words.cache.unwrap_or("-");
-    let made = [kind, made, from, cache, "hamming"];
-    let kept = match words.code {
-        Code::Plain => 4,
-        Code::Hamming => 5,
+    let last = match (words.share, words.code) {
+        (Some("0"), Code::Plain) => Some("share 0"),
+        (None, Code::Hamming) => Some("hamming"),
+        _ => None,
     };
+    let made = [kind, made, from, cache, last.unwrap_or("-")];
+    let kept = if last.is_some() { 5 } else { 4 };
     words.disk == "d" && told == &made[..kept]
 }
 

@@ -26,7 +26,7 @@ returns-in_err-require_good-clause-writes g c = λ h start.
     let few = c.in_err-require_good.ensures.few in
     let p = err_from_is_err_and c.from_residual.result c.from_residual.ensures.1 in
     rw (p.1, p.2, few.1)
-    (too_few c.args.geometry.now _ _ (unworn c.loop-failures.classes) 0 c.loop-failures.sequence c.loop-failures._failures _ _ (i.trying h start 0) refl few.0 refl (omega (arith, c.loop-failures-test.true))
+    (too_few c.args.geometry.now c.args.need _ _ (unworn c.loop-failures.classes) 0 c.loop-failures.sequence c.loop-failures._failures _ _ (i.trying h start 0) refl few.0 refl (omega (arith, c.loop-failures-test.true))
     (λ none. (let zero : c.loop-failures._failures * table_pages c.args.geometry.now ≡ 0 * table_pages c.args.geometry.now = ap (λ f. f * table_pages c.args.geometry.now) none in omega (arith, i.sequences))) i.just)
 
 pub returns-in_err-write_in_block-clause-programs : goal.returns-in_err-write_in_block-clause-programs
@@ -38,7 +38,7 @@ returns-then-passed-clause-writes g c = λ h start.
     let i = c.loop-failures.invariant in
     let block = c.lowest_good-block.result in
     let tries = c.in_ok-write_in_block.ensures.tries (i.as_honest ∙ h) _ c.loop-failures._failures (i.trying h start block) in
-    writes_all c.args.geometry.now _ _ (unworn c.loop-failures.classes) block c.write_in_block.new.sequence c.loop-failures._failures c.count_good.result
+    writes_all c.args.geometry.now c.args.need _ _ (unworn c.loop-failures.classes) block c.write_in_block.new.sequence c.loop-failures._failures c.count_good.result
     (tries-passed c.args.geometry.now _ _ (unworn c.loop-failures.classes) block c.write_in_block.new.sequence c.loop-failures._failures c.in_ok-write_in_block.field-0 (sym c.if-passed.ensures) tries)
     c.lowest_good-block.ensures.within c.lowest_good-block.ensures.good c.lowest_good-block.ensures.lowest (omega (arith, c.loop-failures-test.true))
     (omega (arith, i.sequences, c.in_ok-write_in_block.ensures.sequences, programs_more c.loop-failures._failures (table_pages c.args.geometry.now) (omega (arith, c.loop-failures-test.true)))) c.count_good.ensures (rw c.count_good.ensures c.in_ok-require_good.ensures.ok)
@@ -79,7 +79,7 @@ loop-failures-preserved g c =
 pub returns-clause-writes : goal.returns-clause-writes
 returns-clause-writes g c = λ h start.
     let i = c.loop-failures.invariant in
-    gives_up c.args.geometry.now _ _ (unworn c.loop-failures.classes) 0 c.loop-failures.sequence c.loop-failures._failures (i.trying h start 0) (omega arith) (i.just (omega arith))
+    gives_up c.args.geometry.now c.args.need _ _ (unworn c.loop-failures.classes) 0 c.loop-failures.sequence c.loop-failures._failures (i.trying h start 0) (omega arith) (i.just (omega arith))
 
 pub returns-clause-answers : goal.returns-clause-answers
 returns-clause-answers g c = λ below. let three : c.loop-failures._failures ≡ 3 = omega arith in omega (arith, three, c.loop-failures.invariant.at_least)

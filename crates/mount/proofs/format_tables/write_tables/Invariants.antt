@@ -1,5 +1,5 @@
 use Rattle.std.proofs.Common.{◌≡◌, ◌<◌, ◌≤◌, ℕ, ◌+◌, ◌-◌, ◌*◌, ◌^◌, min, true, length}
-use Rattle.page_layout.specs.Geometry.{need, table_pages}
+use Rattle.page_layout.specs.Geometry.{table_pages}
 use Rattle.bad_blocks.specs.Table.{good_count, unworn}
 use Rattle.mount.specs.Attempt.{IsTrying}
 use Rattle.mount.proofs.format_tables.write_tables.Given as goal
@@ -11,7 +11,7 @@ invariant-loop-failures g l =
       trying : n.view.honest l.initial.nand ≡ true → IsTrying l.geometry (n.view.flash l.initial.nand) (n.view.flash l.initial.nand) (unworn l.initial.classes) 0 0 1 0 →
           (other : ℕ) → IsTrying l.geometry (n.view.flash l.initial.nand) (n.view.flash l.nand) (unworn l.classes) other 0 l.sequence l._failures;
       whole : length l.classes ≡ l.geometry.blocks;
-      just : 0 < l._failures → need l.geometry ≤ good_count (unworn l.classes) + 1;
+      just : 0 < l._failures → l.need ≤ good_count (unworn l.classes) + 1;
       untouched : l._failures ≡ 0 → n.view.programs l.nand ≡ n.view.programs l.initial.nand;
       sequences : l.sequence ≤ 1 + l._failures * table_pages l.geometry;
       same_geometry : (n.view.flash l.nand).geometry ≡ (n.view.flash l.initial.nand).geometry;

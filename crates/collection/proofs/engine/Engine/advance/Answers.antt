@@ -2,7 +2,7 @@ use Rattle.std.proofs.Common.{Ok, ap, ◌∙◌}
 use Rattle.std.proofs.lemmas.Result.{err_from_is_err_and}
 use Rattle.collection.specs.Safe.{ram}
 use Rattle.collection.proofs.Acts.{acts_ok, acts_err}
-use Rattle.collection.proofs.Turns.{ok_told, ok_erased, copied_told, told_erases, calm_on, stepped_on, steps_on}
+use Rattle.collection.proofs.Turns.{ok_told, ok_erased, copied_told, brought_told, told_erases, calm_on, stepped_on, steps_on}
 use Rattle.collection.proofs.Looks.{ok_not_bus}
 use Rattle.collection.proofs.Costs.{not_bus}
 use Rattle.collection.proofs.Steps.{err_same}
@@ -23,6 +23,7 @@ returns-in_err-progress-clause-advances g c =
       keys = e.keys;
       refreshes = e.refreshes;
       cost = e.cost;
+      brought = λ is. (let no : ⊥ = cc in absurd no);
       stays = (e.next, e.unmoved);
       half_done = tt;
       calm = λ off calm. tt;
@@ -49,6 +50,7 @@ returns-clause-advances g c =
       keys = e.keys;
       refreshes = e.refreshes;
       cost = stepped_on c.args.flushing c.args.pinned r b done e.cost e.next;
+      brought = λ is. brought_told _ done e.brought is;
       stays = tt;
       half_done = e.half_done;
       calm = λ off calm. calm_on r b c.args.pinned.block r.geometry.pages done e.goes.geometry (e.unmarked off calm.unmarked) e.next e.half_done (λ is. e.idle (ap (λ d. Ok d) is));

@@ -33,35 +33,35 @@ returns-in_default-clause-truth g c = λ honest w none.
     let still = ap (λ f. f.image) (c.in_ok-live.ensures.looks.same honest (ok_not_bus _)) in
     copied_none (ram c.args.self.now) (ram c.first_live.new.self) _ _ c.args.block c.args.first c.in_ok-live.live _ w c.first_live.ensures.looks.memory still none (c.in_ok-live.ensures.truth honest w) (none_from c.in_ok-live.live c.in_default.not-Some)
 
-pub copy_page-requires-clause-key : goal.copy_page-requires-clause-key
-copy_page-requires-clause-key g c = rw (ap (λ r. r.geometry) c.first_live.ensures.looks.memory) (c.in_ok-live.ensures.checked _ c.in-Some.is).of_key
+pub bring_out-requires-clause-key : goal.bring_out-requires-clause-key
+bring_out-requires-clause-key g c = rw (ap (λ r. r.geometry) c.first_live.ensures.looks.memory) (c.in_ok-live.ensures.checked _ c.in-Some.is).of_key
 
-pub returns-in_err-copy_page-clause-acts : goal.returns-in_err-copy_page-clause-acts
-returns-in_err-copy_page-clause-acts g c =
-    let p = err_from_is_err_and c.from_residual-in_err-copy_page.result c.from_residual-in_err-copy_page.ensures.1 in
-    rw (p.1, p.2) (acts_then _ _ _ _ _ (ap (λ r. r.geometry) c.first_live.ensures.looks.memory) (looked _ _ _ c.in_ok-live.ensures.looks) (acts_err _ _ _ c.in_err-copy_page.ensures.acts))
+pub returns-in_err-bring_out-clause-acts : goal.returns-in_err-bring_out-clause-acts
+returns-in_err-bring_out-clause-acts g c =
+    let p = err_from_is_err_and c.from_residual-in_err-bring_out.result c.from_residual-in_err-bring_out.ensures.1 in
+    rw (p.1, p.2) (acts_then _ _ _ _ _ (ap (λ r. r.geometry) c.first_live.ensures.looks.memory) (looked _ _ _ c.in_ok-live.ensures.looks) (acts_err _ _ _ c.in_err-bring_out.ensures.acts))
 
 pub returns-clause-copied_reads : goal.returns-clause-copied_reads
 returns-clause-copied_reads g c = λ page is.
     let same : c.in-Some.page ≡ page = cc in
     let found = c.in_ok-live.ensures.found_reads (c.in-Some.page, c.in-Some.found) c.in-Some.is in
-    omega (arith, same, found, c.copy_page.ensures.only_programs.reads_are)
+    omega (arith, same, found, c.bring_out.ensures.only_programs.reads_are)
 
 pub returns-clause-truth : goal.returns-clause-truth
 returns-clause-truth g c = λ honest w none.
     let still = ap (λ f. f.image) (c.in_ok-live.ensures.looks.same honest (ok_not_bus _)) in
-    copied_from (ram c.args.self.now) (ram c.first_live.new.self) (ram c.copy_page.new.self) _ _ _ c.args.block c.args.first c.in-Some.page
+    copied_from (ram c.args.self.now) (ram c.first_live.new.self) (ram c.bring_out.new.self) _ _ _ c.args.block c.args.first c.in-Some.page
     c.row-row.result c.in-Some.found _ c.in_ok-live.live w c.first_live.ensures.looks.memory still c.row-row.ensures.is
     (c.in_ok-live.ensures.within _ c.in-Some.is).1 c.requires.closed none (c.in_ok-live.ensures.truth honest w) c.in-Some.is
-    (c.in_ok-copy_page.ensures.truth (c.first_live.ensures.looks.only_reads.honest_is ∙ honest))
+    (c.in_ok-bring_out.ensures.truth (c.first_live.ensures.looks.only_reads.honest_is ∙ honest))
 
 pub returns-clause-touched : goal.returns-clause-touched
 returns-clause-touched g c = λ honest w.
     let still = ap (λ f. f.image) (c.in_ok-live.ensures.looks.same honest (ok_not_bus _)) in
-    touched_from c.args.flushing (ram c.args.self.now) (ram c.first_live.new.self) (ram c.copy_page.new.self) _ _ _ c.args.block c.args.first
+    touched_from c.args.flushing (ram c.args.self.now) (ram c.first_live.new.self) (ram c.bring_out.new.self) _ _ _ c.args.block c.args.first
     c.in-Some.page c.row-row.result c.in-Some.found _ c.in_ok-live.live w c.first_live.ensures.looks.memory still c.row-row.ensures.is
     (c.in_ok-live.ensures.within _ c.in-Some.is).1 (c.in_ok-live.ensures.truth honest w) c.in-Some.is c.requires.closed
-    (c.in_ok-copy_page.ensures.touched (c.first_live.ensures.looks.only_reads.honest_is ∙ honest))
+    (c.in_ok-bring_out.ensures.touched (c.first_live.ensures.looks.only_reads.honest_is ∙ honest))
 
 -- ---- what a stop leaves
 
@@ -76,16 +76,16 @@ returns-in_err-live-clause-stops g c =
 pub returns-in_default-clause-stops : goal.returns-in_default-clause-stops
 returns-in_default-clause-stops g c = λ honest w ne. leaves_still _ _ _ _ _ (c.in_ok-live.ensures.looks.same honest (ok_not_bus _)) (c.in_ok-live.ensures.looks.told honest (ok_not_bus _)) (same_left (ram c.args.self.now) _ _ c.requires.safe.memory w)
 
-pub returns-in_err-copy_page-clause-stops : goal.returns-in_err-copy_page-clause-stops
-returns-in_err-copy_page-clause-stops g c =
-    let p = err_from_is_err_and c.from_residual-in_err-copy_page.result c.from_residual-in_err-copy_page.ensures.1 in
+pub returns-in_err-bring_out-clause-stops : goal.returns-in_err-bring_out-clause-stops
+returns-in_err-bring_out-clause-stops g c =
+    let p = err_from_is_err_and c.from_residual-in_err-bring_out.result c.from_residual-in_err-bring_out.ensures.1 in
     rw (p.1, p.2) (λ honest w ne.
     let looks = c.in_ok-live.ensures.looks in
     let still = looks.same honest (ok_not_bus _) in
     let known = live_known (ram c.args.self.now) (ram c.first_live.new.self) _ _ c.args.block c.args.first c.in-Some.page c.row-row.result
     c.in-Some.found _ c.in_ok-live.live w looks.memory (ap (λ f. f.image) still) c.row-row.ensures.is (c.in_ok-live.ensures.truth honest w)
     c.in-Some.is in
-    stops_looked (ram c.args.self.now) (ram c.first_live.new.self) _ _ _ _ _ _ looks.memory still (looks.told honest (ok_not_bus _)) (c.in_err-copy_page.ensures.stops (looks.only_reads.honest_is ∙ honest) known.0 known.1 (not_bus _ ne)))
+    stops_looked (ram c.args.self.now) (ram c.first_live.new.self) _ _ _ _ _ _ looks.memory still (looks.told honest (ok_not_bus _)) (c.in_err-bring_out.ensures.stops (looks.only_reads.honest_is ∙ honest) known.0 known.1 (not_bus _ ne)))
 
 pub returns-clause-stops : goal.returns-clause-stops
 returns-clause-stops g c = λ honest w ne.
@@ -94,7 +94,7 @@ returns-clause-stops g c = λ honest w ne.
     let known = live_known (ram c.args.self.now) (ram c.first_live.new.self) _ _ c.args.block c.args.first c.in-Some.page c.row-row.result
     c.in-Some.found _ c.in_ok-live.live w looks.memory (ap (λ f. f.image) still) c.row-row.ensures.is (c.in_ok-live.ensures.truth honest w)
     c.in-Some.is in
-    stops_looked (ram c.args.self.now) (ram c.first_live.new.self) _ _ _ _ _ _ looks.memory still (looks.told honest (ok_not_bus _)) (c.in_ok-copy_page.ensures.stops (looks.only_reads.honest_is ∙ honest) known.0 known.1 (ok_not_bus _))
+    stops_looked (ram c.args.self.now) (ram c.first_live.new.self) _ _ _ _ _ _ looks.memory still (looks.told honest (ok_not_bus _)) (c.in_ok-bring_out.ensures.stops (looks.only_reads.honest_is ∙ honest) known.0 known.1 (ok_not_bus _))
 
 pub returns-then-live-eq0-clause-acts : goal.returns-then-live-eq0-clause-acts
 returns-then-live-eq0-clause-acts g c = acts_ok _ _ tt None (acts_same c.args.self.now c.requires.safe)
@@ -106,9 +106,9 @@ returns-in_err-live-clause-cut g c =
     let p = err_from_is_err_and c.from_residual.result c.from_residual.ensures.1 in
     rw (p.1, p.2) (λ honest w is. cut_read (ram c.args.self.now) _ _ _ c.requires.safe.memory w (c.in_err-live.ensures.looks.cut honest (err_same _ _ is)))
 
-pub returns-in_err-copy_page-clause-cut : goal.returns-in_err-copy_page-clause-cut
-returns-in_err-copy_page-clause-cut g c =
-    let p = err_from_is_err_and c.from_residual-in_err-copy_page.result c.from_residual-in_err-copy_page.ensures.1 in
+pub returns-in_err-bring_out-clause-cut : goal.returns-in_err-bring_out-clause-cut
+returns-in_err-bring_out-clause-cut g c =
+    let p = err_from_is_err_and c.from_residual-in_err-bring_out.result c.from_residual-in_err-bring_out.ensures.1 in
     rw (p.1, p.2) (λ honest w is.
     let a = ram c.args.self.now in
     let b = ram c.first_live.new.self in
@@ -116,12 +116,12 @@ returns-in_err-copy_page-clause-cut g c =
     let still = looks.same honest (ok_not_bus _) in
     let known = live_known a b _ _ c.args.block c.args.first c.in-Some.page c.row-row.result c.in-Some.found _ c.in_ok-live.live w looks.memory
     (ap (λ f. f.image) still) c.row-row.ensures.is (c.in_ok-live.ensures.truth honest w) c.in-Some.is in
-    cut_looking a b _ _ _ _ _ looks.memory still (looks.told honest (ok_not_bus _)) (c.in_err-copy_page.ensures.cut (looks.only_reads.honest_is ∙ honest) known.0 known.1 (err_same _ _ is)))
+    cut_looking a b _ _ _ _ _ looks.memory still (looks.told honest (ok_not_bus _)) (c.in_err-bring_out.ensures.cut (looks.only_reads.honest_is ∙ honest) known.0 known.1 (err_same _ _ is)))
 
 -- ---- copied
 
 pub returns-clause-acts : goal.returns-clause-acts
-returns-clause-acts g c = acts_then _ _ _ _ _ (ap (λ r. r.geometry) c.first_live.ensures.looks.memory) (looked _ _ _ c.in_ok-live.ensures.looks) (acts_ok _ _ _ _ c.in_ok-copy_page.ensures.acts)
+returns-clause-acts g c = acts_then _ _ _ _ _ (ap (λ r. r.geometry) c.first_live.ensures.looks.memory) (looked _ _ _ c.in_ok-live.ensures.looks) (acts_ok _ _ _ _ c.in_ok-bring_out.ensures.acts)
 
 pub returns-clause-within : goal.returns-clause-within
 returns-clause-within g c = λ page is.

@@ -2,7 +2,7 @@ use Rattle.std.proofs.Common.{◌≡◌, ◌∙◌, ap, sym}
 use Rattle.collection.specs.declared.engine.collect_steps.Progress.TheVariants as step
 use Rattle.collection.specs.Safe.{ram}
 use Rattle.collection.specs.Left.{pin_after}
-use Rattle.collection.proofs.Turns.{cost_pinned, touches_pinned, refreshes_pinned, half_on, half_pinned}
+use Rattle.collection.proofs.Turns.{cost_pinned, page_pinned, touches_pinned, refreshes_pinned, half_on, half_pinned}
 use Rattle.std.proofs.lemmas.Result.{err_from_is_err_and}
 use Rattle.collection.proofs.Looks.{ok_not_bus}
 use Rattle.collection.proofs.Costs.{not_bus}
@@ -22,6 +22,9 @@ returns-clause-half_done g c = λ q is.
 
 pub returns-clause-cost : goal.returns-clause-cost
 returns-clause-cost g c = cost_pinned c.args.flushing c.args.pinned.block c.args.pinned.first (ram c.args.self.now) (ram c.collect_step.new.self) c.next_pin-next.result c.in_ok-progress.progress c.in_ok-progress.ensures.cost
+
+pub returns-clause-brought : goal.returns-clause-brought
+returns-clause-brought g c = λ page is. page_pinned c.args.flushing c.args.pinned.block c.args.pinned.first (ram c.args.self.now) (ram c.collect_step.new.self) c.next_pin-next.result _ (c.in_ok-progress.ensures.brought page is)
 
 pub returns-clause-touched : goal.returns-clause-touched
 returns-clause-touched g c = λ honest w page is. touches_pinned c.args.flushing c.args.pinned.block c.args.pinned.first (ram c.args.self.now) (ram c.collect_step.new.self) c.next_pin-next.result _ _ (c.in_ok-progress.ensures.touched honest w page is)
