@@ -172,6 +172,41 @@ def hold_stops():
     print(f"{found[0]} programs and erases of the four hundred calls, {found[1]} of which change a sector")
 
 
+def waiting_calls(device):
+    """The calls of `waiting_call` in `courses.rt`. How many of them change a sector, and how many sectors wait at most."""
+    sectors, changing, most = [0] * 48, 0, 0
+    for i in range(256):
+        if i % 128 == 127:
+            device.flush()
+        elif i % 16 == 14:
+            device.turn()
+        else:
+            n, byte = i % 3, i % 251
+            if i % 4 == 1:
+                n, byte = (i * 5 % 48, 0) if i % 32 == 21 else (i // 4 * 11 % 48, byte)
+            assert (device.trim(n) if i % 32 == 21 else device.write(n, byte)) == "Done"
+            changing += sectors[n] != byte
+            sectors[n] = byte
+        most = max(most, len(device.moved))
+    assert [device.read(n) for n in range(48)] == sectors
+    return changing, most
+
+
+def hold_waiting():
+    """The same of dies on which sectors wait."""
+    text = (TESTS / "stops.rt").read_text()
+    its = re.search(r"static SHARED: .*?\n\];", text, re.S).group()
+    rows = [numbers(row) for row in re.findall(r"each: (\d+,\s*least: Tried \{\s*stops: \d+,\s*changing: \d+)", its)]
+    for share, (each, stops, least) in zip((1, 3, 15), rows, strict=True):
+        device, _ = formatted(Geometry(64, 32, 4, 34, 48), 4, share=share)
+        before = device.die.changes
+        changing, most = waiting_calls(device)
+        found = (device.die.changes - before) // each
+        assert found >= stops and (each > 1 or (found, changing) == (stops, least)), (share, found, changing)
+        assert most >= min(3 * share, 4)
+        print(f"share {share}: {found} programs and erases that are tried, {changing} calls that change a sector, {most} sectors that wait at most")
+
+
 def sixty(failing, left):
     """Sixty calls on the least geometry, all of them done."""
     device, _ = formatted(LEAST, 1, failing=failing, page_left=left)
@@ -213,3 +248,4 @@ if __name__ == "__main__":
     hold_pairs()
     hold_script()
     hold_stops()
+    hold_waiting()

@@ -5,7 +5,7 @@ Usage: disk_large.py NANDDISK [SEED]
 
 A client writes each of 70,000 sectors once, in an order of its own, with no flush, while `strace` notes each page that the server writes to the die's file and each sync.
 Then files are made that a host which lost power may have left: what was written up to a sync, and of the pages since, up to the next one, those of sectors and none of the
-translation pages. That leaves as many stale sectors as can be. Each has to be a disk to `nanddisk info`, and each sector of one of them what was written.
+translation pages, with no mark beside them. That leaves as many stale sectors as can be. Each has to be a disk to `nanddisk info`, and each sector of one of them what was written.
 
 As if no sync had been between, all translation pages are left out of the last file: it has to be refused, since more sectors are stale than any cache has entries.
 
@@ -26,8 +26,9 @@ DATA, SPARE, PAGES, BLOCKS, SECTORS = 512, 40, 64, 2400, 70_000
 PAGE = DATA + SPARE
 AT_ONCE = 32
 TRANSLATION = 3
-WRITE = re.compile(r"pwrite64\(\d+, .*, (\d+), (\d+)\)")
-SYNC = re.compile(r"f(data)?sync\(")
+# of the die's file alone: the mark beside it is written and synced too
+WRITE = re.compile(r"pwrite64\(\d+<[^>]*\.nand>, .*, (\d+), (\d+)\)")
+SYNC = re.compile(r"f(?:data)?sync\(\d+<[^>]*\.nand>\)")
 
 
 def served(command, work):
@@ -90,7 +91,7 @@ def main():
         path, log = os.path.join(folder, "d.nand"), os.path.join(folder, "log")
         subprocess.run([program, "create", "--geometry", f"{DATA},{SPARE},{PAGES},{BLOCKS},{SECTORS}", path], check=True)
         # the server is the process that was started, and strace one that goes as it does
-        command = ["strace", "-D", "-f", "-s", "0", "-e", "trace=pwrite64,fdatasync,fsync", "-o", log, program, "serve", path]
+        command = ["strace", "-D", "-f", "-y", "-s", "0", "-e", "trace=pwrite64,fdatasync,fsync", "-o", log, program, "serve", path]
         client, server, disk = served(command, lambda its: write_all(its, draw))
         # the last sync of the run is that of its end
         server.kill()
@@ -98,6 +99,8 @@ def main():
         parts = rows_by_sync(whole_log(log))
         with open(path, "rb") as file:
             last = file.read()
+        # it tells what was synced last, and the files are older
+        os.unlink(path + ".mark")
 
         def kind(row):
             return last[row * PAGE + DATA + 3]

@@ -1,12 +1,13 @@
 -- The shape that the words of `create` ask for.
 use Rattle.std.specs.Prelude.{◌≡◌, ◌⊎◌, ℕ, List, Option, Some, None}
 use Rattle.std.specs.Borrow.{Bor}
+use Rattle.std.specs.Int.{div_ceil}
 use Rattle.page_layout.specs.declared.geometry.Geometry.{Geometry}
 use Rattle.program_words.specs.Numbers.{number_of}
 use Rattle.disk_commands.specs.declared.shapes.Code.TheVariants.{Plain}
 use Rattle.disk_commands.specs.declared.shapes.DiskShape.{DiskShape}
 use Rattle.disk_commands.specs.declared.shape_words.GeometryWordFault.TheVariants as word
-use Rattle.disk_commands.specs.Shapes.{IsNoSize, IsShapeFor, IsShareFor, cache_of}
+use Rattle.disk_commands.specs.Shapes.{IsNewShare, IsNoSize, IsShapeFor, IsShareFor, cache_of}
 use Rattle.disk_commands.specs.Sizes.{SpellsPart, SpellsSize}
 use Rattle.disk_commands.specs.ShapeText.{IsWithin}
 use Rattle.disk_commands.specs.ShapeWords.{SaysGeometry, SaysNone}
@@ -18,10 +19,25 @@ use Rattle.disk_commands.specs.declared.text.DiskCommandFault.TheVariants as fau
 
 -- ---- what is asked for
 
--- the share that is named, or 15
-abbrev pub IsShareAsked : Option (Bor (List ℕ)) → (share : ℕ) → Type 0
-IsShareAsked None share = share ≡ 15
-IsShareAsked (Some word) share = number_of word.now ≡ Some share
+-- the share of a new disk of the size that a word says; 15 where it says none
+abbrev pub IsShareFrom : List ℕ → (share : ℕ) → Type 0
+IsShareFrom word share =
+    ((bytes : ℕ) × SpellsSize word bytes × IsNewShare (div_ceil bytes 4096) share)
+    ⊎ (((bytes : ℕ) → ¬ SpellsSize word bytes) × (share ≡ 15))
+
+-- where no share is named, the one for the size, or 15
+abbrev pub IsShareOf : MakeWords → (share : ℕ) → Type 0
+IsShareOf (make.Size word) share = IsShareFrom word.now share
+IsShareOf (make.Geometry word) share = share ≡ 15
+IsShareOf (make.Dump word from) share = share ≡ 15
+
+abbrev pub IsShareNamed : MakeWords → Option (Bor (List ℕ)) → (share : ℕ) → Type 0
+IsShareNamed make None share = IsShareOf make share
+IsShareNamed make (Some word) share = number_of word.now ≡ Some share
+
+-- the share that is named, or that one
+abbrev pub IsShareAsked : CreateWords → (share : ℕ) → Type 0
+IsShareAsked words share = IsShareNamed words.make words.share share
 
 -- the geometry of the shape for the size that a word says
 abbrev pub IsGeometryFor : List ℕ → (share : ℕ) → Geometry → Type 0
@@ -44,7 +60,7 @@ IsCacheAsked (Some word) g share cache = IsCacheAt word.now cache
 
 -- THE SHAPE, of which the share is one that such a disk may have
 pub record IsShapeAsked (words : CreateWords) (s : DiskShape) : Type 0 where
-  pub share : IsShareAsked words.share s.share
+  pub share : IsShareAsked words s.share
   pub geometry : IsGeometryAsked words.make s.share s.geometry
   pub cache : IsCacheAsked words.cache s.geometry s.share s.cache
   pub may_wait : IsShareFor s.geometry s.cache s.share
@@ -92,4 +108,4 @@ IsNoShapeAt words share told =
 abbrev pub IsNoShapeAsked : CreateWords → DiskCommandFault → Type 0
 IsNoShapeAsked words told =
     IsNoShareAsked words.share told
-    ⊎ ((share : ℕ) × IsShareAsked words.share share × IsNoShapeAt words share told)
+    ⊎ ((share : ℕ) × IsShareAsked words share × IsNoShapeAt words share told)

@@ -72,6 +72,23 @@ IsDieOfSectors share sectors g = IsSparedDie share sectors g ⊎ (HasNoSpared sh
 abbrev pub HasNoDie : (share sectors : ℕ) → Type 0
 HasNoDie share sectors = HasNoSpared share sectors × ((g : Geometry) → ¬ IsGreatestDie share sectors g)
 
+-- ---- the share of a new disk
+
+-- from share 15 on no die below this share has room for so many sectors
+abbrev pub HasNoDieBelow : (sectors end : ℕ) → Type 0
+HasNoDieBelow sectors end = (share : ℕ) → 15 ≤ share → share < end → HasNoDie share sectors
+
+-- THE LEAST FROM 15 TO 64 AT WHICH A DIE HAS ROOM
+pub record IsLeastShare (sectors share : ℕ) : Type 0 where
+  pub least : 15 ≤ share
+  pub most : share ≤ 64
+  pub room : (g : Geometry) × IsDieOfSectors share sectors g
+  pub lower : HasNoDieBelow sectors share
+
+-- or 15, where at none of them one has
+abbrev pub IsNewShare : (sectors share : ℕ) → Type 0
+IsNewShare sectors share = IsLeastShare sectors share ⊎ (HasNoDieBelow sectors 65 × (share ≡ 15))
+
 -- ---- the shape
 
 -- Whole sectors for the bytes, on the die of so many; its cache; and no code.

@@ -3,26 +3,45 @@ ghost use Rattle.std.specs.Prelude.{◌≡◌, IfOk, IfErr, Some};
 ghost use Rattle.disk_commands.specs.ShapeText.{IsWithin};
 ghost use Rattle.disk_commands.specs.ShapeWords.{SaysGeometry};
 ghost use Rattle.disk_commands.specs.Asked.{IsCacheAsked, IsCacheAt, IsGeometryAsked, IsGeometryFor, IsNoCacheAsked, IsNoGeometryAsked, IsNoGeometryAt, IsNoGeometryFor};
-ghost use Rattle.disk_commands.specs.Asked.{IsNoShapeAsked, IsNoShapeAt, IsNoShareAsked, IsShapeAsked, IsShareAsked};
+ghost use Rattle.disk_commands.specs.Asked.{IsNoShapeAsked, IsNoShapeAt, IsNoShareAsked, IsShapeAsked, IsShareAsked, IsShareFrom, IsShareOf};
 
 use crate::shape_words::{GeometryWordFault, geometry_from};
-use crate::shapes::{DiskShape, MOST_ENTRIES, cache_for, is_share_for, shape_for};
+use crate::shapes::{
+    DiskShape, MOST_ENTRIES, SHARE, cache_for, is_share_for, shape_for, share_for,
+};
 use crate::sizes::{SizeWordFault, size_from};
 use crate::text::DiskCommandFault;
 use crate::words::{CreateWords, MakeWords};
 use page_layout::geometry::Geometry;
 use program_words::number;
 
-// The share of a new disk, where none is named.
-const SHARE: u32 = 15;
+// The share of a disk of the size of a word.
+fn share_from(word: &str) -> u32
+    ensures { IsShareFrom word.now result }
+{
+    match size_from(word) {
+        Ok(bytes) => share_for(bytes),
+        Err(_) => SHARE,
+    }
+}
+
+// The share of a disk that is made so, where none is named.
+fn share_of(make: MakeWords<'_>) -> u32
+    ensures { IsShareOf make.entry result }
+{
+    match make {
+        MakeWords::Size(word) => share_from(word),
+        MakeWords::Geometry(_) | MakeWords::Dump { .. } => SHARE,
+    }
+}
 
 // The share that is asked for.
-fn share_asked<'a>(word: Option<&'a str>) -> Result<u32, DiskCommandFault<'a>>
-    ensures ok { IfOk result (IsShareAsked word.entry) }
-    ensures fault { IfErr result (IsNoShareAsked word.entry) }
+fn share_asked<'a>(words: CreateWords<'a>) -> Result<u32, DiskCommandFault<'a>>
+    ensures ok { IfOk result (IsShareAsked words.entry) }
+    ensures fault { IfErr result (IsNoShareAsked words.entry.share) }
 {
-    let Some(word) = word else {
-        return Ok(SHARE);
+    let Some(word) = words.share else {
+        return Ok(share_of(words.make));
     };
     match number(word) {
         Some(share) => Ok(share),
@@ -90,7 +109,7 @@ fn cache_asked<'a>(
 
 // The shape that the words ask for, of which the share was read.
 fn shape_at<'a>(words: CreateWords<'a>, share: u32) -> Result<DiskShape, DiskCommandFault<'a>>
-    requires { IsShareAsked words.share share }
+    requires { IsShareAsked words share }
     ensures ok { IfOk result (IsShapeAsked words.entry) }
     ensures within { IfOk result (λ shape. IsWithin shape.cache) }
     ensures fault { IfErr result (IsNoShapeAt words.entry share) }
@@ -108,7 +127,7 @@ fn shape_at<'a>(words: CreateWords<'a>, share: u32) -> Result<DiskShape, DiskCom
     })
 }
 
-/// The shape that the words of `create` ask for: the share that is named, or 15; the geometry that is named, or the one for the size at this share; the cache that is
+/// The shape that the words of `create` ask for: the share that is named, or for a size that of [`share_for`], or 15; the geometry that is named, or the one for the size at this share; the cache that is
 /// named, or the one for the geometry at this share; and the code.
 ///
 /// # Errors
@@ -121,6 +140,6 @@ pub fn shape_of<'a>(words: CreateWords<'a>) -> Result<DiskShape, DiskCommandFaul
     ensures within { IfOk result (λ shape. IsWithin shape.cache) }
     ensures fault { IfErr result (IsNoShapeAsked words.entry) }
 {
-    let share = share_asked(words.share)?;
+    let share = share_asked(words)?;
     shape_at(words, share)
 }

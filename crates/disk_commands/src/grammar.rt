@@ -44,7 +44,7 @@ const CACHE: WordRule<'static> = WordRule {
 const SHARE: WordRule<'static> = WordRule {
     id: "share",
     kind: WordKind::Valued("N"),
-    help: "How many moved sectors may wait for each translation page, in the mean; else 15",
+    help: "How many moved sectors may wait for each translation page, in the mean; else 15, or more where the size wants it",
 };
 
 const CODE: WordRule<'static> = WordRule {

@@ -46,7 +46,7 @@ pub use program::run;
 pub use program_words::GrammarFault;
 pub use shape_text::{DiskText, Member, ShapeFault, read_shape, write_listed_shape, write_shape};
 pub use shape_words::{GeometryWordFault, geometry_from};
-pub use shapes::{Code, DiskShape, SizeFault, cache_for, shape_for};
+pub use shapes::{Code, DiskShape, SizeFault, cache_for, shape_for, share_for};
 pub use sizes::{SizeWordFault, size_from, size_laws};
 pub use syncs::FileSyncs;
 pub use text::{DiskCommandFault, tell};

@@ -3,7 +3,7 @@ ghost use Rattle.std.specs.Prelude.{◌≡◌, ◌↔◌, ◌+◌, ◌*◌, ◌^
 ghost use Rattle.std.specs.Int.{div_ceil};
 ghost use Rattle.page_layout.specs.Geometry.{need_at, waiting_at};
 ghost use Rattle.disk_commands.specs.Shapes.{HasBlocksForFormat, HasNoDie, HasNoSpared, IsDie, IsDieForSectors, IsDieOfSectors, IsGreatestDie, IsLeast};
-ghost use Rattle.disk_commands.specs.Shapes.{IsNoSize, IsPages, IsShapeFor, IsShareFor, IsSparedDie, cache_of};
+ghost use Rattle.disk_commands.specs.Shapes.{IsNewShare, IsNoSize, IsPages, IsShapeFor, IsShareFor, IsSparedDie, cache_of};
 
 use page_layout::geometry::{Geometry, GeometryFault};
 use std::error::Error;
@@ -27,6 +27,12 @@ pub(crate) const MOST_ENTRIES: u32 = 65_536;
 const MOST_BLOCKS: u32 = 4096;
 
 const MOST_PAGES: u32 = 256;
+
+// The share of a new disk, where none is named, and the most that is taken for one that has room at no smaller one. At a greater share less is left of a cache for those
+// that are cached than the fewest entries of one.
+pub(crate) const SHARE: u32 = 15;
+
+const MOST_SHARE: u32 = 64;
 
 /// The code that the pages of a disk have in its file. (This project's.)
 #[derive(Clone, Copy, Debug, PartialEq, Eq)]
@@ -256,4 +262,19 @@ pub fn shape_for(bytes: u64, share: u32) -> Result<DiskShape, SizeFault>
         share,
         code: Code::Plain,
     })
+}
+
+/// The share of a new disk of so many bytes, where none is named: 15, or where no die has room for so many at 15, the least greater one at which one has, up to 64. Where at
+/// none of them one has it is 15 too.
+///
+/// (This project's rule.)
+pub fn share_for(bytes: u64) -> u32
+    ensures { IsNewShare (div_ceil bytes 4096) result }
+{
+    for share in SHARE..=MOST_SHARE {
+        if let Ok(_) = shape_for(bytes, share) {
+            return share;
+        }
+    }
+    SHARE
 }

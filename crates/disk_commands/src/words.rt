@@ -32,7 +32,7 @@ pub struct CreateWords<'a> {
     pub bad: Option<&'a str>,
     /// C, where the cache is not to be the one for the geometry.
     pub cache: Option<&'a str>,
-    /// N, where the share is not to be 15.
+    /// N, where the share is not to be the one of a new disk.
     pub share: Option<&'a str>,
     /// The code of the pages, which have none without `--code`.
     pub code: Code,

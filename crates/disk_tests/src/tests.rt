@@ -11,3 +11,20 @@ mod nbd;
 mod parts;
 mod steps;
 mod words;
+
+use std::process::Abort;
+
+// Holds what a row says. Each caller's proof is the cheaper for it, as for those below.
+fn hold_true(rt: &impl Abort, holds: bool, row: &str) {
+    assert!(rt; holds, "{row}");
+}
+
+// Holds what a row, or a step, of this number says.
+fn hold_at(rt: &impl Abort, holds: bool, number: usize) {
+    assert!(rt; holds, "row {number}");
+}
+
+// Holds what a step of a row says.
+fn hold_step(rt: &impl Abort, holds: bool, row: &str, step: usize) {
+    assert!(rt; holds, "{row}: {step}");
+}

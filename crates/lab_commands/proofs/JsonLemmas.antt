@@ -7,7 +7,6 @@ use Rattle.lab_dump.specs.declared.fit.Fit.{Fit}
 use Rattle.lab_correct.specs.declared.found.FoundFit.{FoundFit}
 use Rattle.lab_correct.specs.Coded.{found_as}
 use Rattle.lab_dump.specs.declared.doubts.Doubts.{Doubts}
-use Rattle.lab_dump.specs.declared.rows.Rows.{Rows}
 use Rattle.lab_dump.specs.declared.history.SectorPage.{SectorPage}
 use Rattle.lab_dump.specs.declared.history.Wrote.{Wrote}
 use Rattle.lab_dump.specs.declared.history.Wrote.TheVariants as wrote
@@ -18,26 +17,17 @@ use Rattle.lab_dump.specs.declared.said.SaidPage.{SaidPage}
 use Rattle.lab_dump.specs.Doubts.{most_older}
 use Rattle.lab_mend.specs.declared.merging.RowTally.{RowTally}
 use Rattle.lab_mend.specs.declared.pairs.BitPair.{BitPair}
-use Rattle.lab_commands.specs.Values.{age_data, age_until_data, arranged_data, block_data, corrected_data, counts_words, damaged_data, doubt_data, found_data, front_words, head_data, history_data, key_data, legible_data, lost_data, lost_row_data}
+use Rattle.lab_commands.specs.Values.{age_data, age_until_data, block_data, corrected_data, counts_words, found_data, front_words, head_data, history_data, key_data, legible_data}
 use
     Rattle.lab_commands.specs.Values.{
-      mended_count_data,
       mended_data,
       merged_data,
-      nothing_data,
       page_data,
       pages_data,
       pair_data,
-      plain_block_data,
-      reason_pages_data,
-      reason_table_data,
       repeated_data,
       rest_words,
-      row_data,
-      rows_age_data,
-      rows_data,
       said_data,
-      tries_data,
       truth_words,
       turned_data,
     }
@@ -140,25 +130,9 @@ pub pages_json : (sort : Sort) (pages : ℕ) (r1 : ℕ) (w : List ℕ) → r1 �
 unfolding escape_byte
 pages_json sort pages r1 w e1 ew = rw (e1, ew) (ap (λ t. codes "{\"count\":" ++ (decimal pages ++ (codes ",\"line\":\"pages\",\"sort\":" ++ t))) (sym (quoted_in (sort_words sort) (codes "}") (plain_sort sort))))
 
-pub number_range_json : (pages : ℕ) (r1 : ℕ) → r1 ≡ pages → codes "{\"line\":\"reason\",\"pages\":" ++ (decimal r1 ++ codes ",\"reason\":\"NumberRange\"}") ≡ compact_text (reason_pages_data (codes "NumberRange") pages)
+pub repeated_json : (first second : ℕ) → codes "{\"line\":\"reason\",\"reason\":\"SequenceRepeated\",\"rows\":[" ++ (decimal first ++ (codes "," ++ (decimal second ++ codes "]}"))) ≡ compact_text (repeated_data first second)
 unfolding escape_byte
-number_range_json pages r1 e1 = rw (e1) (refl)
-
-pub last_sequence_json : (pages : ℕ) (r1 : ℕ) → r1 ≡ pages → codes "{\"line\":\"reason\",\"pages\":" ++ (decimal r1 ++ codes ",\"reason\":\"NextSequence\"}") ≡ compact_text (reason_pages_data (codes "NextSequence") pages)
-unfolding escape_byte
-last_sequence_json pages r1 e1 = rw (e1) (refl)
-
-pub repeated_json : (first : ℕ) (second : ℕ) (r1 : ℕ) (r2 : ℕ) → r1 ≡ first → r2 ≡ second → codes "{\"line\":\"reason\",\"reason\":\"SequenceRepeated\",\"rows\":[" ++ (decimal r1 ++ (codes "," ++ (decimal r2 ++ codes "]}"))) ≡ compact_text (repeated_data first second)
-unfolding escape_byte
-repeated_json first second r1 r2 e1 e2 = rw (e1, e2) (ap (λ t. codes "{\"line\":\"reason\",\"reason\":\"SequenceRepeated\",\"rows\":[" ++ t) (sym (list_of_two (decimal first) (decimal second) (codes "}"))))
-
-pub not_formatted_json : (page : ℕ) (r1 : ℕ) → r1 ≡ page → codes "{\"line\":\"reason\",\"reason\":\"NotFormatted\",\"table\":" ++ (decimal r1 ++ codes "}") ≡ compact_text (reason_table_data (codes "NotFormatted") page)
-unfolding escape_byte
-not_formatted_json page r1 e1 = rw (e1) (refl)
-
-pub table_damaged_json : (page : ℕ) (r1 : ℕ) → r1 ≡ page → codes "{\"line\":\"reason\",\"reason\":\"TableDamaged\",\"table\":" ++ (decimal r1 ++ codes "}") ≡ compact_text (reason_table_data (codes "TableDamaged") page)
-unfolding escape_byte
-table_damaged_json page r1 e1 = rw (e1) (refl)
+repeated_json first second = ap (λ t. codes "{\"line\":\"reason\",\"reason\":\"SequenceRepeated\",\"rows\":[" ++ t) (sym (list_of_two (decimal first) (decimal second) (codes "}")))
 
 pub tied_json : (of : Label) (number : ℕ) (w : List ℕ) (r1 : ℕ) → w ≡ label_words of → r1 ≡ number → codes "{\"key\":\"" ++ (w ++ (codes "\",\"line\":\"tied\",\"number\":" ++ (decimal r1 ++ codes "}"))) ≡ compact_text (key_data (codes "tied") of number)
 unfolding escape_byte
@@ -190,14 +164,6 @@ block_json block state unsound r1 w r2 r3 r4 r5 e1 ew e2 e3 e4 e5 = rw (e1, ew, 
     ++ (decimal state.pointer
     ++ (codes ",\"unsound\":" ++ (decimal unsound ++ (codes ",\"wear\":" ++ (decimal state.wear ++ codes "}"))))))))
     (plain_class state.class))))
-
-pub plain_block_json : (block : ℕ) (unsound : ℕ) (r1 : ℕ) (r2 : ℕ) → r1 ≡ block → r2 ≡ unsound → codes "{\"block\":" ++ (decimal r1 ++ (codes ",\"line\":\"block\",\"unsound\":" ++ (decimal r2 ++ codes "}"))) ≡ compact_text (plain_block_data block unsound)
-unfolding escape_byte
-plain_block_json block unsound r1 r2 e1 e2 = rw (e1, e2) (refl)
-
-pub lost_json : (sector : ℕ) (r1 : ℕ) → r1 ≡ sector → codes "{\"line\":\"lost\",\"sector\":" ++ (decimal r1 ++ codes "}") ≡ compact_text (lost_data sector)
-unfolding escape_byte
-lost_json sector r1 e1 = rw (e1) (refl)
 
 -- the members of a geometry that fits, behind its first one and that of codes
 fit_rest : (f : Fit)
@@ -246,37 +212,9 @@ pub pair_json : (row : ℕ) (b : BitPair) (r1 r2 r3 : ℕ) → r1 ≡ b.low → 
 unfolding escape_byte
 pair_json row b r1 r2 r3 e1 e2 e3 = rw (e1, e2, e3) (ap (λ t. codes "{\"bits\":[" ++ t) (sym (list_of_two (decimal b.low) (decimal b.high) (codes ",\"line\":\"mended\",\"row\":" ++ (decimal row ++ codes "}")))))
 
-pub tied_pairs_json : (row r1 : ℕ) → r1 ≡ row → codes "{\"line\":\"tied_row\",\"row\":" ++ (decimal r1 ++ codes "}") ≡ compact_text (row_data (codes "tied_row") row)
-unfolding escape_byte
-tied_pairs_json row r1 e1 = rw (e1) (refl)
-
-pub untaken_json : (row r1 : ℕ) → r1 ≡ row → codes "{\"line\":\"tried\",\"row\":" ++ (decimal r1 ++ codes "}") ≡ compact_text (row_data (codes "tried") row)
-unfolding escape_byte
-untaken_json row r1 e1 = rw (e1) (refl)
-
-pub mended_count_json : (count : ℕ) → codes "{\"line\":\"repaired\",\"mended\":" ++ (decimal count ++ codes "}") ≡ compact_text (mended_count_data count)
-unfolding escape_byte
-mended_count_json count = refl
-
-pub lost_row_json : (row : ℕ) (chunks : ℕ) (r1 : ℕ) (r2 : ℕ) → r1 ≡ chunks → r2 ≡ row → codes "{\"chunks\":" ++ (decimal r1 ++ (codes ",\"line\":\"lost_row\",\"row\":" ++ (decimal r2 ++ codes "}"))) ≡ compact_text (lost_row_data row chunks)
-unfolding escape_byte
-lost_row_json row chunks r1 r2 e1 e2 = rw (e1, e2) (refl)
-
 pub corrected_json : (bits : ℕ) (rows : ℕ) (lost : ℕ) (r1 : ℕ) → r1 ≡ rows → codes "{\"line\":\"corrected\",\"lost\":" ++ (decimal lost ++ (codes ",\"rows\":" ++ (decimal r1 ++ (codes ",\"turned\":" ++ (decimal bits ++ codes "}"))))) ≡ compact_text (corrected_data bits rows lost)
 unfolding escape_byte
 corrected_json bits rows lost r1 e1 = rw (e1) (refl)
-
-pub arranged_json : (rows : ℕ) (r1 : ℕ) → r1 ≡ rows → codes "{\"line\":\"arranged\",\"rows\":" ++ (decimal r1 ++ codes "}") ≡ compact_text (arranged_data rows)
-unfolding escape_byte
-arranged_json rows r1 e1 = rw (e1) (refl)
-
-pub differ_json : (row : ℕ) (r1 : ℕ) → r1 ≡ row → codes "{\"line\":\"differ\",\"row\":" ++ (decimal r1 ++ codes "}") ≡ compact_text (row_data (codes "differ") row)
-unfolding escape_byte
-differ_json row r1 e1 = rw (e1) (refl)
-
-pub unsound_json : (row : ℕ) (r1 : ℕ) → r1 ≡ row → codes "{\"line\":\"unsound\",\"row\":" ++ (decimal r1 ++ codes "}") ≡ compact_text (row_data (codes "unsound") row)
-unfolding escape_byte
-unsound_json row r1 e1 = rw (e1) (refl)
 
 pub merged_json : (differ : ℕ) (tally : RowTally) (r1 : ℕ) (r2 : ℕ) (r3 : ℕ) (r4 : ℕ) (r5 : ℕ) → r1 ≡ tally.erased → r2 ≡ tally.majority → r3 ≡ tally.sound → r4 ≡ tally.turned → r5 ≡ tally.unsound
     → codes "{\"differ\":" ++
@@ -300,14 +238,6 @@ pub tied_row_json : (row turned differing r1 r2 r3 : ℕ) → r1 ≡ differing �
     → codes "{\"bits\":" ++ (decimal r1 ++ (codes ",\"line\":\"tied_row\",\"row\":" ++ (decimal r2 ++ (codes ",\"turned\":" ++ (decimal r3 ++ codes "}"))))) ≡ compact_text (turned_data (codes "tied_row") row turned differing)
 unfolding escape_byte
 tied_row_json row turned differing r1 r2 r3 e1 e2 e3 = rw (e1, e2, e3) (refl)
-
-pub nothing_json : (row differing r1 r2 : ℕ) → r1 ≡ differing → r2 ≡ row → codes "{\"bits\":" ++ (decimal r1 ++ (codes ",\"line\":\"tried\",\"row\":" ++ (decimal r2 ++ codes "}"))) ≡ compact_text (nothing_data row differing)
-unfolding escape_byte
-nothing_json row differing r1 r2 e1 e2 = rw (e1, e2) (refl)
-
-pub tries_json : (tries : ℕ) → codes "{\"line\":\"tries\",\"seal_bits\":" ++ (decimal 64 ++ (codes ",\"tries\":" ++ (decimal tries ++ codes "}"))) ≡ compact_text (tries_data tries)
-unfolding escape_byte
-tries_json tries = refl
 
 pub age_json : (doubts : Doubts) (m : ℕ) (r1 : ℕ) → m ≡ most_older doubts → r1 ≡ doubts.unsound → codes "{\"line\":\"age\",\"older\":" ++ (decimal m ++ (codes ",\"unsound\":" ++ (decimal r1 ++ codes "}"))) ≡ compact_text (age_data doubts)
 unfolding escape_byte
@@ -369,34 +299,6 @@ said_json page k t r1 r2 ek et e1 e2 = rw (ek, et, e1, e2, truth_is page.newer)
 pub legible_json : (legible others r1 : ℕ) → r1 ≡ legible → codes "{\"legible\":" ++ (decimal r1 ++ (codes ",\"line\":\"legible\",\"others\":" ++ (decimal others ++ codes "}"))) ≡ compact_text (legible_data legible others)
 unfolding escape_byte
 legible_json legible others r1 e1 = rw (e1) (refl)
-
-pub damaged_json : (sectors : ℕ) → codes "{\"damaged\":" ++ (decimal sectors ++ codes ",\"line\":\"damaged\"}") ≡ compact_text (damaged_data sectors)
-unfolding escape_byte
-damaged_json sectors = refl
-
-pub age_of_rows_json : (unsound : ℕ) (r1 : ℕ) → r1 ≡ unsound → codes "{\"line\":\"rows_age\",\"unsound\":" ++ (decimal r1 ++ codes "}") ≡ compact_text (rows_age_data unsound)
-unfolding escape_byte
-age_of_rows_json unsound r1 e1 = rw (e1) (refl)
-
-pub rows_json : (rows : Rows) (r1 : ℕ) (r2 : ℕ) → r1 ≡ rows.end → r2 ≡ rows.first → codes "{\"end\":" ++ (decimal r1 ++ (codes ",\"first\":" ++ (decimal r2 ++ codes ",\"line\":\"rows\"}"))) ≡ compact_text (rows_data rows)
-unfolding escape_byte
-rows_json rows r1 r2 e1 e2 = rw (e1, e2) (refl)
-
-pub factory_json : (pages : ℕ) (r1 : ℕ) → r1 ≡ pages → codes "{\"line\":\"factory\",\"pages\":" ++ (decimal r1 ++ codes "}") ≡ compact_text (doubt_data (codes "factory") pages)
-unfolding escape_byte
-factory_json pages r1 e1 = rw (e1) (refl)
-
-pub rewritten_json : (pages : ℕ) (r1 : ℕ) → r1 ≡ pages → codes "{\"line\":\"rewritten\",\"pages\":" ++ (decimal r1 ++ codes "}") ≡ compact_text (doubt_data (codes "rewritten") pages)
-unfolding escape_byte
-rewritten_json pages r1 e1 = rw (e1) (refl)
-
-pub holes_json : (pages : ℕ) (r1 : ℕ) → r1 ≡ pages → codes "{\"line\":\"holes\",\"pages\":" ++ (decimal r1 ++ codes "}") ≡ compact_text (doubt_data (codes "holes") pages)
-unfolding escape_byte
-holes_json pages r1 e1 = rw (e1) (refl)
-
-pub outside_json : (pages : ℕ) (r1 : ℕ) → r1 ≡ pages → codes "{\"line\":\"outside\",\"pages\":" ++ (decimal r1 ++ codes "}") ≡ compact_text (doubt_data (codes "outside") pages)
-unfolding escape_byte
-outside_json pages r1 e1 = rw (e1) (refl)
 
 pub head_json : (r : Report) (w : List ℕ) → w ≡ report_words r → codes "[{\"command\":\"" ++ (w ++ codes "\",\"line\":\"command\",\"program\":\"nandlab\"}") ≡ codes "[" ++ compact_text (head_data (report_words r))
 unfolding escape_byte

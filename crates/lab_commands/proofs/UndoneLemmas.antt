@@ -1,5 +1,5 @@
 -- Why a command ended before it was done.
-use Rattle.std.proofs.Common.{◌≡◌, ◌≢◌, inl, inr, ℕ, Bool, false, List, Option, Some, None, IfSome, refl, sym, ◌∙◌, subst}
+use Rattle.std.proofs.Common.{◌≡◌, ◌≢◌, inl, inr, ℕ, Bool, false, List, Option, Some, None, IfSome, refl, sym, ap, ◌∙◌, subst}
 use Rattle.std.specs.Prelude.{Result, Ok, Err, IfErr}
 use Rattle.std.specs.Result.{IsErrAnd}
 use Rattle.std.proofs.KnownBytes.{Keeps-refl}
@@ -23,6 +23,11 @@ left_all before after out same = record { kept = same; silent = Keeps-refl out }
 pub handed_on : {T : Type 0} (P : LabFault → Type 0) (r : Result T LabFault) (told : LabFault) → IsErrAnd r (λ e. e ≡ told) → P told → IfErr r P
 handed_on P (Ok done) told is h = tt
 handed_on P (Err e) told is h = subst P (sym is) h
+
+-- what is handed on so is that fault
+pub handed : {T : Type 0} (r : Result T LabFault) (told : LabFault) → IsErrAnd r (λ e. e ≡ told) → r ≡ Err told
+handed (Ok done) told is = absurd is
+handed (Err e) told is = ap Err is
 
 -- ---- the files between
 

@@ -12,7 +12,7 @@ use crate::arranged_lines::put_arranged_fit;
 use crate::origin_lines::put_origin;
 use crate::output::{Output, OutputFault};
 use crate::pieces::Piece::{Number, Words};
-use crate::pieces::put_pieces;
+use crate::pieces::{put_between, put_both_between, put_count_between, put_pieces};
 use crate::turn_lines::put_turn;
 use certificate::BlockState;
 use lab_correct::FoundFit;
@@ -444,15 +444,13 @@ fn put_tried<W: Output>(out: &mut W, row: u32, trial: Trial) -> Result<(), Outpu
 fn put_tries<W: Output>(out: &mut W, tries: u64) -> Result<(), OutputFault>
     ensures { Prints (W.failed out.new) (W.contents out.old) (W.contents out.new) (tries_words tries) result }
 {
-    put_pieces(
+    put_both_between(
         out,
-        &[
-            Words("tries "),
-            Number(tries),
-            Words(": by a seal of 8 bytes a wrong page is taken by chance in at most "),
-            Number(tries),
-            Words(" of 18446744073709551616 cases"),
-        ],
+        "tries ",
+        tries,
+        ": by a seal of 8 bytes a wrong page is taken by chance in at most ",
+        tries,
+        " of 18446744073709551616 cases",
     )
 }
 
@@ -517,15 +515,13 @@ fn put_age<W: Output>(out: &mut W, doubts: Doubts) -> Result<(), OutputFault>
 fn put_until<W: Output>(out: &mut W, last: u64, unsound: u32) -> Result<(), OutputFault>
     ensures { Prints (W.failed out.new) (W.contents out.old) (W.contents out.new) (until_words last unsound) result }
 {
-    put_pieces(
+    put_both_between(
         out,
-        &[
-            Words("unsound "),
-            Number(u64::from(unsound)),
-            Words(": as of sequence "),
-            Number(last),
-            Words(", the newest of what is still there"),
-        ],
+        "unsound ",
+        u64::from(unsound),
+        ": as of sequence ",
+        last,
+        ", the newest of what is still there",
     )
 }
 
@@ -554,15 +550,13 @@ fn put_page<W: Output>(out: &mut W, page: SectorPage, block: u32) -> Result<(), 
 fn put_history<W: Output>(out: &mut W, pages: u64, unsound: u32) -> Result<(), OutputFault>
     ensures { Prints (W.failed out.new) (W.contents out.old) (W.contents out.new) (history_words pages unsound) result }
 {
-    put_pieces(
+    put_both_between(
         out,
-        &[
-            Words("history "),
-            Number(pages),
-            Words(" unsound "),
-            Number(u64::from(unsound)),
-            Words(": of what is still there, newest first"),
-        ],
+        "history ",
+        pages,
+        " unsound ",
+        u64::from(unsound),
+        ": of what is still there, newest first",
     )
 }
 
@@ -590,15 +584,13 @@ fn put_says<W: Output>(out: &mut W, page: SaidPage) -> Result<(), OutputFault>
 fn put_legible<W: Output>(out: &mut W, legible: u32, others: u64) -> Result<(), OutputFault>
     ensures { Prints (W.failed out.new) (W.contents out.old) (W.contents out.new) (legible_words legible others) result }
 {
-    put_pieces(
+    put_both_between(
         out,
-        &[
-            Words("legible "),
-            Number(u64::from(legible)),
-            Words(": if what these pages say is so, at most "),
-            Number(others),
-            Words(" sectors may be older that are not said newer here"),
-        ],
+        "legible ",
+        u64::from(legible),
+        ": if what these pages say is so, at most ",
+        others,
+        " sectors may be older that are not said newer here",
     )
 }
 
@@ -606,15 +598,11 @@ fn put_legible<W: Output>(out: &mut W, legible: u32, others: u64) -> Result<(), 
 fn put_damaged<W: Output>(out: &mut W, sectors: u64) -> Result<(), OutputFault>
     ensures { Prints (W.failed out.new) (W.contents out.old) (W.contents out.new) (damaged_words sectors) result }
 {
-    put_pieces(
+    put_between(
         out,
-        &[
-            Words("damaged "),
-            Number(sectors),
-            Words(
-                ": so many sectors are shown as an unsound page reads, nothing sound being newer",
-            ),
-        ],
+        "damaged ",
+        sectors,
+        ": so many sectors are shown as an unsound page reads, nothing sound being newer",
     )
 }
 
@@ -622,13 +610,11 @@ fn put_damaged<W: Output>(out: &mut W, sectors: u64) -> Result<(), OutputFault>
 fn put_age_of_rows<W: Output>(out: &mut W, unsound: u32) -> Result<(), OutputFault>
     ensures { Prints (W.failed out.new) (W.contents out.old) (W.contents out.new) (codes "unsound " ++ (decimal unsound ++ codes ": of these rows alone, of others nothing is told")) result }
 {
-    put_pieces(
+    put_count_between(
         out,
-        &[
-            Words("unsound "),
-            Number(u64::from(unsound)),
-            Words(": of these rows alone, of others nothing is told"),
-        ],
+        "unsound ",
+        unsound,
+        ": of these rows alone, of others nothing is told",
     )
 }
 

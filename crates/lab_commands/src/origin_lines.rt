@@ -6,34 +6,23 @@ ghost use Rattle.lab_commands.specs.Lines.{origin_words};
 ghost use Rattle.lab_commands.specs.Values.{origin_data};
 
 use crate::output::{Output, OutputFault};
-use crate::pieces::Piece::{Number, Words};
-use crate::pieces::put_pieces;
+use crate::pieces::put_between;
 
 /// In words, without a line feed.
 pub(crate) fn put_origin<W: Output>(out: &mut W, sectors: u64) -> Result<(), OutputFault>
     ensures { Prints (W.failed out.new) (W.contents out.old) (W.contents out.new) (origin_words sectors) result }
 {
-    put_pieces(
+    put_between(
         out,
-        &[
-            Words("mended "),
-            Number(sectors),
-            Words(": so many sectors are shown of a page that none of the readings has"),
-        ],
+        "mended ",
+        sectors,
+        ": so many sectors are shown of a page that none of the readings has",
     )
 }
 
 /// As an object.
-#[tactic(auto, unfolding(json::specs::Print::escape_byte))]
 pub(crate) fn put_origin_data<W: Output>(out: &mut W, sectors: u64) -> Result<(), OutputFault>
     ensures { Prints (W.failed out.new) (W.contents out.old) (W.contents out.new) (compact_text (origin_data sectors)) result }
 {
-    put_pieces(
-        out,
-        &[
-            Words("{\"line\":\"origin\",\"mended\":"),
-            Number(sectors),
-            Words("}"),
-        ],
-    )
+    put_between(out, "{\"line\":\"origin\",\"mended\":", sectors, "}")
 }

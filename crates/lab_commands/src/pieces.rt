@@ -1,4 +1,5 @@
 //! Pieces of a text, printed one after another, without memory.
+ghost use Rattle.std.specs.Prelude.{◌++◌};
 ghost use Rattle.std.specs.Fmt.{decimal};
 ghost use Rattle.lab_commands.specs.Document.{Prints};
 ghost use Rattle.lab_commands.specs.Pieces.{piece_text, pieces_text};
@@ -48,4 +49,79 @@ pub fn put_pieces<W: Output>(out: &mut W, pieces: &[Piece<'_>]) -> Result<(), Ou
         put_piece(out, pieces[place])?;
     }
     Ok(())
+}
+
+/// Prints a number between words.
+pub(crate) fn put_between<'x, W: Output>(
+    out: &mut W,
+    before: &'x str,
+    number: u64,
+    behind: &'x str,
+) -> Result<(), OutputFault>
+    ensures { Prints (W.failed out.new) (W.contents out.old) (W.contents out.new) (before.now ++ (decimal number ++ behind.now)) result }
+{
+    put_pieces(
+        out,
+        &[
+            Piece::Words(before),
+            Piece::Number(number),
+            Piece::Words(behind),
+        ],
+    )
+}
+
+/// Prints a count between words.
+pub(crate) fn put_count_between<'x, W: Output>(
+    out: &mut W,
+    before: &'x str,
+    count: u32,
+    behind: &'x str,
+) -> Result<(), OutputFault>
+    ensures { Prints (W.failed out.new) (W.contents out.old) (W.contents out.new) (before.now ++ (decimal count ++ behind.now)) result }
+{
+    put_between(out, before, u64::from(count), behind)
+}
+
+/// Prints two numbers between words.
+pub(crate) fn put_both_between<'x, W: Output>(
+    out: &mut W,
+    before: &'x str,
+    first: u64,
+    between: &'x str,
+    second: u64,
+    behind: &'x str,
+) -> Result<(), OutputFault>
+    ensures { Prints (W.failed out.new) (W.contents out.old) (W.contents out.new) (before.now ++ (decimal first ++ (between.now ++ (decimal second ++ behind.now)))) result }
+{
+    put_pieces(
+        out,
+        &[
+            Piece::Words(before),
+            Piece::Number(first),
+            Piece::Words(between),
+            Piece::Number(second),
+            Piece::Words(behind),
+        ],
+    )
+}
+
+/// Prints two counts between words.
+pub(crate) fn put_counts_between<'x, W: Output>(
+    out: &mut W,
+    before: &'x str,
+    first: u32,
+    between: &'x str,
+    second: u32,
+    behind: &'x str,
+) -> Result<(), OutputFault>
+    ensures { Prints (W.failed out.new) (W.contents out.old) (W.contents out.new) (before.now ++ (decimal first ++ (between.now ++ (decimal second ++ behind.now)))) result }
+{
+    put_both_between(
+        out,
+        before,
+        u64::from(first),
+        between,
+        u64::from(second),
+        behind,
+    )
 }

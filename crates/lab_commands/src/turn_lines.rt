@@ -9,7 +9,7 @@ ghost use Rattle.lab_commands.specs.Values.{mended_data, pair_data, row_data, tu
 use crate::lines::made_text;
 use crate::output::{Output, OutputFault};
 use crate::pieces::Piece::{Number, Words};
-use crate::pieces::put_pieces;
+use crate::pieces::{put_count_between, put_pieces};
 use lab_mend::{BitPair, Made, Turn};
 
 // A page that was mended, what it is now, and the bit that was turned.
@@ -108,33 +108,17 @@ fn put_pair_data<W: Output>(out: &mut W, row: u32, pair: BitPair) -> Result<(), 
 }
 
 // A page of which several pairs of bits serve.
-#[tactic(auto, unfolding(json::specs::Print::escape_byte))]
 fn put_tied_data<W: Output>(out: &mut W, row: u32) -> Result<(), OutputFault>
     ensures { Prints (W.failed out.new) (W.contents out.old) (W.contents out.new) (compact_text (row_data (codes "tied_row") row)) result }
 {
-    put_pieces(
-        out,
-        &[
-            Words("{\"line\":\"tied_row\",\"row\":"),
-            Number(u64::from(row)),
-            Words("}"),
-        ],
-    )
+    put_count_between(out, "{\"line\":\"tied_row\",\"row\":", row, "}")
 }
 
 // A page of which none serves.
-#[tactic(auto, unfolding(json::specs::Print::escape_byte))]
 fn put_tried_data<W: Output>(out: &mut W, row: u32) -> Result<(), OutputFault>
     ensures { Prints (W.failed out.new) (W.contents out.old) (W.contents out.new) (compact_text (row_data (codes "tried") row)) result }
 {
-    put_pieces(
-        out,
-        &[
-            Words("{\"line\":\"tried\",\"row\":"),
-            Number(u64::from(row)),
-            Words("}"),
-        ],
-    )
+    put_count_between(out, "{\"line\":\"tried\",\"row\":", row, "}")
 }
 
 /// Prints what came of the page of a row as a JSON value.

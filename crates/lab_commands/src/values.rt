@@ -13,7 +13,9 @@ use crate::lines::{
 use crate::origin_lines::put_origin_data;
 use crate::output::{Output, OutputFault};
 use crate::pieces::Piece::{Number, Words};
-use crate::pieces::put_pieces;
+use crate::pieces::{
+    put_between, put_both_between, put_count_between, put_counts_between, put_pieces,
+};
 use crate::turn_lines::put_turn_data;
 use certificate::BlockState;
 use lab_correct::FoundFit;
@@ -38,79 +40,64 @@ fn put_pages<W: Output>(out: &mut W, sort: Sort, pages: u32) -> Result<(), Outpu
 }
 
 // So many pages have a number out of range.
-#[tactic(auto, unfolding(json::specs::Print::escape_byte))]
 fn put_number_range<W: Output>(out: &mut W, pages: u32) -> Result<(), OutputFault>
     ensures { Prints (W.failed out.new) (W.contents out.old) (W.contents out.new) (compact_text (reason_pages_data (codes "NumberRange") pages)) result }
 {
-    put_pieces(
+    put_count_between(
         out,
-        &[
-            Words("{\"line\":\"reason\",\"pages\":"),
-            Number(u64::from(pages)),
-            Words(",\"reason\":\"NumberRange\"}"),
-        ],
+        "{\"line\":\"reason\",\"pages\":",
+        pages,
+        ",\"reason\":\"NumberRange\"}",
     )
 }
 
 // So many pages have the last sequence.
-#[tactic(auto, unfolding(json::specs::Print::escape_byte))]
 fn put_last_sequence<W: Output>(out: &mut W, pages: u32) -> Result<(), OutputFault>
     ensures { Prints (W.failed out.new) (W.contents out.old) (W.contents out.new) (compact_text (reason_pages_data (codes "NextSequence") pages)) result }
 {
-    put_pieces(
+    put_count_between(
         out,
-        &[
-            Words("{\"line\":\"reason\",\"pages\":"),
-            Number(u64::from(pages)),
-            Words(",\"reason\":\"NextSequence\"}"),
-        ],
+        "{\"line\":\"reason\",\"pages\":",
+        pages,
+        ",\"reason\":\"NextSequence\"}",
     )
 }
 
 // Two pages share a sequence.
-#[tactic(auto, unfolding(json::specs::Print::escape_byte))]
 fn put_repeated<W: Output>(out: &mut W, first: u32, second: u32) -> Result<(), OutputFault>
     ensures { Prints (W.failed out.new) (W.contents out.old) (W.contents out.new) (compact_text (repeated_data first second)) result }
 {
-    put_pieces(
+    put_counts_between(
         out,
-        &[
-            Words("{\"line\":\"reason\",\"reason\":\"SequenceRepeated\",\"rows\":["),
-            Number(u64::from(first)),
-            Words(","),
-            Number(u64::from(second)),
-            Words("]}"),
-        ],
+        "{\"line\":\"reason\",\"reason\":\"SequenceRepeated\",\"rows\":[",
+        first,
+        ",",
+        second,
+        "]}",
     )
 }
 
 // A table page has no newest page.
-#[tactic(auto, unfolding(json::specs::Print::escape_byte))]
 fn put_not_formatted<W: Output>(out: &mut W, page: u32) -> Result<(), OutputFault>
     ensures { Prints (W.failed out.new) (W.contents out.old) (W.contents out.new) (compact_text (reason_table_data (codes "NotFormatted") page)) result }
 {
-    put_pieces(
+    put_count_between(
         out,
-        &[
-            Words("{\"line\":\"reason\",\"reason\":\"NotFormatted\",\"table\":"),
-            Number(u64::from(page)),
-            Words("}"),
-        ],
+        "{\"line\":\"reason\",\"reason\":\"NotFormatted\",\"table\":",
+        page,
+        "}",
     )
 }
 
 // A table page is not well formed.
-#[tactic(auto, unfolding(json::specs::Print::escape_byte))]
 fn put_table_damaged<W: Output>(out: &mut W, page: u32) -> Result<(), OutputFault>
     ensures { Prints (W.failed out.new) (W.contents out.old) (W.contents out.new) (compact_text (reason_table_data (codes "TableDamaged") page)) result }
 {
-    put_pieces(
+    put_count_between(
         out,
-        &[
-            Words("{\"line\":\"reason\",\"reason\":\"TableDamaged\",\"table\":"),
-            Number(u64::from(page)),
-            Words("}"),
-        ],
+        "{\"line\":\"reason\",\"reason\":\"TableDamaged\",\"table\":",
+        page,
+        "}",
     )
 }
 
@@ -179,35 +166,24 @@ fn put_block<W: Output>(
 }
 
 // A block whose state is not known.
-#[tactic(auto, unfolding(json::specs::Print::escape_byte))]
 fn put_plain_block<W: Output>(out: &mut W, block: u32, unsound: u32) -> Result<(), OutputFault>
     ensures { Prints (W.failed out.new) (W.contents out.old) (W.contents out.new) (compact_text (plain_block_data block unsound)) result }
 {
-    put_pieces(
+    put_counts_between(
         out,
-        &[
-            Words("{\"block\":"),
-            Number(u64::from(block)),
-            Words(",\"line\":\"block\",\"unsound\":"),
-            Number(u64::from(unsound)),
-            Words("}"),
-        ],
+        "{\"block\":",
+        block,
+        ",\"line\":\"block\",\"unsound\":",
+        unsound,
+        "}",
     )
 }
 
 // A sector that has lost a page.
-#[tactic(auto, unfolding(json::specs::Print::escape_byte))]
 fn put_lost<W: Output>(out: &mut W, sector: u32) -> Result<(), OutputFault>
     ensures { Prints (W.failed out.new) (W.contents out.old) (W.contents out.new) (compact_text (lost_data sector)) result }
 {
-    put_pieces(
-        out,
-        &[
-            Words("{\"line\":\"lost\",\"sector\":"),
-            Number(u64::from(sector)),
-            Words("}"),
-        ],
-    )
+    put_count_between(out, "{\"line\":\"lost\",\"sector\":", sector, "}")
 }
 
 // How the object of a geometry goes on behind its first member: where the pages stand with their codes by a member that says so.
@@ -267,34 +243,23 @@ fn put_fit<W: Output>(out: &mut W, found: FoundFit) -> Result<(), OutputFault>
 }
 
 // How many were.
-#[tactic(auto, unfolding(json::specs::Print::escape_byte))]
 fn put_mended_count<W: Output>(out: &mut W, count: u64) -> Result<(), OutputFault>
     ensures { Prints (W.failed out.new) (W.contents out.old) (W.contents out.new) (compact_text (mended_count_data count)) result }
 {
-    put_pieces(
-        out,
-        &[
-            Words("{\"line\":\"repaired\",\"mended\":"),
-            Number(count),
-            Words("}"),
-        ],
-    )
+    put_between(out, "{\"line\":\"repaired\",\"mended\":", count, "}")
 }
 
 // A row with lost chunks.
-#[tactic(auto, unfolding(json::specs::Print::escape_byte))]
 fn put_lost_row<W: Output>(out: &mut W, row: u32, chunks: u32) -> Result<(), OutputFault>
     ensures { Prints (W.failed out.new) (W.contents out.old) (W.contents out.new) (compact_text (lost_row_data row chunks)) result }
 {
-    put_pieces(
+    put_counts_between(
         out,
-        &[
-            Words("{\"chunks\":"),
-            Number(u64::from(chunks)),
-            Words(",\"line\":\"lost_row\",\"row\":"),
-            Number(u64::from(row)),
-            Words("}"),
-        ],
+        "{\"chunks\":",
+        chunks,
+        ",\"line\":\"lost_row\",\"row\":",
+        row,
+        "}",
     )
 }
 
@@ -318,48 +283,24 @@ fn put_corrected<W: Output>(out: &mut W, bits: u64, rows: u32, lost: u64) -> Res
 }
 
 // How many pages were put in order.
-#[tactic(auto, unfolding(json::specs::Print::escape_byte))]
 fn put_arranged<W: Output>(out: &mut W, rows: u32) -> Result<(), OutputFault>
     ensures { Prints (W.failed out.new) (W.contents out.old) (W.contents out.new) (compact_text (arranged_data rows)) result }
 {
-    put_pieces(
-        out,
-        &[
-            Words("{\"line\":\"arranged\",\"rows\":"),
-            Number(u64::from(rows)),
-            Words("}"),
-        ],
-    )
+    put_count_between(out, "{\"line\":\"arranged\",\"rows\":", rows, "}")
 }
 
 // A row of which two sound pages differ.
-#[tactic(auto, unfolding(json::specs::Print::escape_byte))]
 fn put_differ<W: Output>(out: &mut W, row: u32) -> Result<(), OutputFault>
     ensures { Prints (W.failed out.new) (W.contents out.old) (W.contents out.new) (compact_text (row_data (codes "differ") row)) result }
 {
-    put_pieces(
-        out,
-        &[
-            Words("{\"line\":\"differ\",\"row\":"),
-            Number(u64::from(row)),
-            Words("}"),
-        ],
-    )
+    put_count_between(out, "{\"line\":\"differ\",\"row\":", row, "}")
 }
 
 // A row of which no page is sound.
-#[tactic(auto, unfolding(json::specs::Print::escape_byte))]
 fn put_unsound<W: Output>(out: &mut W, row: u32) -> Result<(), OutputFault>
     ensures { Prints (W.failed out.new) (W.contents out.old) (W.contents out.new) (compact_text (row_data (codes "unsound") row)) result }
 {
-    put_pieces(
-        out,
-        &[
-            Words("{\"line\":\"unsound\",\"row\":"),
-            Number(u64::from(row)),
-            Words("}"),
-        ],
-    )
+    put_count_between(out, "{\"line\":\"unsound\",\"row\":", row, "}")
 }
 
 // How many rows of a merge are of each kind.
@@ -436,19 +377,16 @@ fn put_tied_row<W: Output>(
 }
 
 // One of which none is sound.
-#[tactic(auto, unfolding(json::specs::Print::escape_byte))]
 fn put_nothing<W: Output>(out: &mut W, row: u32, differing: u32) -> Result<(), OutputFault>
     ensures { Prints (W.failed out.new) (W.contents out.old) (W.contents out.new) (compact_text (nothing_data row differing)) result }
 {
-    put_pieces(
+    put_counts_between(
         out,
-        &[
-            Words("{\"bits\":"),
-            Number(u64::from(differing)),
-            Words(",\"line\":\"tried\",\"row\":"),
-            Number(u64::from(row)),
-            Words("}"),
-        ],
+        "{\"bits\":",
+        differing,
+        ",\"line\":\"tried\",\"row\":",
+        row,
+        "}",
     )
 }
 
@@ -464,53 +402,44 @@ fn put_tried<W: Output>(out: &mut W, row: u32, trial: Trial) -> Result<(), Outpu
 }
 
 // How many pages were tried at most.
-#[tactic(auto, unfolding(json::specs::Print::escape_byte))]
 fn put_tries<W: Output>(out: &mut W, tries: u64) -> Result<(), OutputFault>
     ensures { Prints (W.failed out.new) (W.contents out.old) (W.contents out.new) (compact_text (tries_data tries)) result }
 {
-    put_pieces(
+    put_both_between(
         out,
-        &[
-            Words("{\"line\":\"tries\",\"seal_bits\":"),
-            Number(64),
-            Words(",\"tries\":"),
-            Number(tries),
-            Words("}"),
-        ],
+        "{\"line\":\"tries\",\"seal_bits\":",
+        64,
+        ",\"tries\":",
+        tries,
+        "}",
     )
 }
 
 // How far an array may be from the last write.
-#[tactic(auto, unfolding(json::specs::Print::escape_byte))]
 fn put_age<W: Output>(out: &mut W, doubts: Doubts) -> Result<(), OutputFault>
     ensures { Prints (W.failed out.new) (W.contents out.old) (W.contents out.new) (compact_text (age_data doubts)) result }
 {
-    put_pieces(
+    put_both_between(
         out,
-        &[
-            Words("{\"line\":\"age\",\"older\":"),
-            Number(doubts.most_older()),
-            Words(",\"unsound\":"),
-            Number(u64::from(doubts.unsound)),
-            Words("}"),
-        ],
+        "{\"line\":\"age\",\"older\":",
+        doubts.most_older(),
+        ",\"unsound\":",
+        u64::from(doubts.unsound),
+        "}",
     )
 }
 
 // What an array as of a sequence is.
-#[tactic(auto, unfolding(json::specs::Print::escape_byte))]
 fn put_until<W: Output>(out: &mut W, last: u64, unsound: u32) -> Result<(), OutputFault>
     ensures { Prints (W.failed out.new) (W.contents out.old) (W.contents out.new) (compact_text (age_until_data last unsound)) result }
 {
-    put_pieces(
+    put_both_between(
         out,
-        &[
-            Words("{\"line\":\"until\",\"sequence\":"),
-            Number(last),
-            Words(",\"unsound\":"),
-            Number(u64::from(unsound)),
-            Words("}"),
-        ],
+        "{\"line\":\"until\",\"sequence\":",
+        last,
+        ",\"unsound\":",
+        u64::from(unsound),
+        "}",
     )
 }
 
@@ -538,19 +467,16 @@ fn put_page<W: Output>(out: &mut W, page: SectorPage, block: u32) -> Result<(), 
 }
 
 // How many pages of a sector are still there.
-#[tactic(auto, unfolding(json::specs::Print::escape_byte))]
 fn put_history<W: Output>(out: &mut W, pages: u64, unsound: u32) -> Result<(), OutputFault>
     ensures { Prints (W.failed out.new) (W.contents out.old) (W.contents out.new) (compact_text (history_data pages unsound)) result }
 {
-    put_pieces(
+    put_both_between(
         out,
-        &[
-            Words("{\"line\":\"history\",\"pages\":"),
-            Number(pages),
-            Words(",\"unsound\":"),
-            Number(u64::from(unsound)),
-            Words("}"),
-        ],
+        "{\"line\":\"history\",\"pages\":",
+        pages,
+        ",\"unsound\":",
+        u64::from(unsound),
+        "}",
     )
 }
 
@@ -585,127 +511,73 @@ fn put_says<W: Output>(out: &mut W, page: SaidPage) -> Result<(), OutputFault>
 }
 
 // How many pages say something, and at most how many others may be older if that is so.
-#[tactic(auto, unfolding(json::specs::Print::escape_byte))]
 fn put_legible<W: Output>(out: &mut W, legible: u32, others: u64) -> Result<(), OutputFault>
     ensures { Prints (W.failed out.new) (W.contents out.old) (W.contents out.new) (compact_text (legible_data legible others)) result }
 {
-    put_pieces(
+    put_both_between(
         out,
-        &[
-            Words("{\"legible\":"),
-            Number(u64::from(legible)),
-            Words(",\"line\":\"legible\",\"others\":"),
-            Number(others),
-            Words("}"),
-        ],
+        "{\"legible\":",
+        u64::from(legible),
+        ",\"line\":\"legible\",\"others\":",
+        others,
+        "}",
     )
 }
 
 // How many sectors are shown as pages have them that are not sound.
-#[tactic(auto, unfolding(json::specs::Print::escape_byte))]
 fn put_damaged<W: Output>(out: &mut W, sectors: u64) -> Result<(), OutputFault>
     ensures { Prints (W.failed out.new) (W.contents out.old) (W.contents out.new) (compact_text (damaged_data sectors)) result }
 {
-    put_pieces(
-        out,
-        &[
-            Words("{\"damaged\":"),
-            Number(sectors),
-            Words(",\"line\":\"damaged\"}"),
-        ],
-    )
+    put_between(out, "{\"damaged\":", sectors, ",\"line\":\"damaged\"}")
 }
 
 // How many pages of some rows alone are neither erased nor sound.
-#[tactic(auto, unfolding(json::specs::Print::escape_byte))]
 fn put_age_of_rows<W: Output>(out: &mut W, unsound: u32) -> Result<(), OutputFault>
     ensures { Prints (W.failed out.new) (W.contents out.old) (W.contents out.new) (compact_text (rows_age_data unsound)) result }
 {
-    put_pieces(
-        out,
-        &[
-            Words("{\"line\":\"rows_age\",\"unsound\":"),
-            Number(u64::from(unsound)),
-            Words("}"),
-        ],
-    )
+    put_count_between(out, "{\"line\":\"rows_age\",\"unsound\":", unsound, "}")
 }
 
 // The rows that were asked for.
-#[tactic(auto, unfolding(json::specs::Print::escape_byte))]
 fn put_rows<W: Output>(out: &mut W, rows: Rows) -> Result<(), OutputFault>
     ensures { Prints (W.failed out.new) (W.contents out.old) (W.contents out.new) (compact_text (rows_data rows)) result }
 {
-    put_pieces(
+    put_counts_between(
         out,
-        &[
-            Words("{\"end\":"),
-            Number(u64::from(rows.end)),
-            Words(",\"first\":"),
-            Number(u64::from(rows.first)),
-            Words(",\"line\":\"rows\"}"),
-        ],
+        "{\"end\":",
+        rows.end,
+        ",\"first\":",
+        rows.first,
+        ",\"line\":\"rows\"}",
     )
 }
 
 // Pages of blocks that the table names factory bad.
-#[tactic(auto, unfolding(json::specs::Print::escape_byte))]
 fn put_factory<W: Output>(out: &mut W, pages: u32) -> Result<(), OutputFault>
     ensures { Prints (W.failed out.new) (W.contents out.old) (W.contents out.new) (compact_text (doubt_data (codes "factory") pages)) result }
 {
-    put_pieces(
-        out,
-        &[
-            Words("{\"line\":\"factory\",\"pages\":"),
-            Number(u64::from(pages)),
-            Words("}"),
-        ],
-    )
+    put_count_between(out, "{\"line\":\"factory\",\"pages\":", pages, "}")
 }
 
 // Pages of blocks that were written again.
-#[tactic(auto, unfolding(json::specs::Print::escape_byte))]
 fn put_rewritten<W: Output>(out: &mut W, pages: u32) -> Result<(), OutputFault>
     ensures { Prints (W.failed out.new) (W.contents out.old) (W.contents out.new) (compact_text (doubt_data (codes "rewritten") pages)) result }
 {
-    put_pieces(
-        out,
-        &[
-            Words("{\"line\":\"rewritten\",\"pages\":"),
-            Number(u64::from(pages)),
-            Words("}"),
-        ],
-    )
+    put_count_between(out, "{\"line\":\"rewritten\",\"pages\":", pages, "}")
 }
 
 // Pages that were lost.
-#[tactic(auto, unfolding(json::specs::Print::escape_byte))]
 fn put_holes<W: Output>(out: &mut W, pages: u32) -> Result<(), OutputFault>
     ensures { Prints (W.failed out.new) (W.contents out.old) (W.contents out.new) (compact_text (doubt_data (codes "holes") pages)) result }
 {
-    put_pieces(
-        out,
-        &[
-            Words("{\"line\":\"holes\",\"pages\":"),
-            Number(u64::from(pages)),
-            Words("}"),
-        ],
-    )
+    put_count_between(out, "{\"line\":\"holes\",\"pages\":", pages, "}")
 }
 
 // Pages of a sector past the last one.
-#[tactic(auto, unfolding(json::specs::Print::escape_byte))]
 fn put_outside<W: Output>(out: &mut W, pages: u32) -> Result<(), OutputFault>
     ensures { Prints (W.failed out.new) (W.contents out.old) (W.contents out.new) (compact_text (doubt_data (codes "outside") pages)) result }
 {
-    put_pieces(
-        out,
-        &[
-            Words("{\"line\":\"outside\",\"pages\":"),
-            Number(u64::from(pages)),
-            Words("}"),
-        ],
-    )
+    put_count_between(out, "{\"line\":\"outside\",\"pages\":", pages, "}")
 }
 
 /// Prints a line as an object.

@@ -56,7 +56,7 @@ pub fn chip_of(alloc: Global, geometry: Geometry, failing: &[u64]) -> Result<Chi
     die.set_faults(faults)?;
     match Driver::new(die, geometry) {
         Ok(driver) => Ok(NoisyChip::new(driver, geometry)),
-        Err(_) => Err("no reset")?,
+        Err(_) => Err(Fail::new("no reset")),
     }
 }
 
@@ -216,7 +216,7 @@ struct Row {
     calls: &'static [(u8, &'static [Call])],
 }
 
-const ROWS: &[Row] = &[
+static ROWS: &[Row] = &[
     Row {
         name: "a page with a wrong bit in its data and one in its spare area",
         failing: &[],
@@ -402,7 +402,7 @@ fn first_wrong<B: Bus>(bus: &mut B, parts: &[(u8, &[Call])]) -> Option<usize> {
 // A bus of a new chip, of whose programs and erases these fail.
 fn bus_of(alloc: Global, geometry: Geometry, failing: &[u64]) -> Result<NoisyBus<Chip>, Fail> {
     if outer_bytes(&geometry) > 256 {
-        return Err("no room for codes")?;
+        return Err(Fail::new("no room for codes"));
     }
     let register = register_of(alloc, &geometry)?;
     let chip = chip_of(alloc, geometry, failing)?;

@@ -16,7 +16,7 @@ use std::process::Abort;
 use std::test::Fail;
 
 // The programs and erases that fail, and how many blocks are drawn.
-const FAILING: &[u64] = &[7, 61, 200, 333];
+static FAILING: &[u64] = &[7, 61, 200, 333];
 
 const CHANGES: u32 = 500;
 
@@ -258,17 +258,17 @@ fn die_of(alloc: Global, geometry: Geometry) -> Result<Corrected<ChipDriver<Nois
     ensures { IfOk result (λ die. die.nand.geometry ≡ geometry) }
 {
     let Some(pages) = ChipGeometry::of(&geometry) else {
-        return Err("no room for codes")?;
+        return Err(Fail::new("no room for codes"));
     };
     if outer_bytes(&geometry) > 256 {
-        return Err("no room for codes")?;
+        return Err(Fail::new("no room for codes"));
     }
     let chip = chip_of(alloc, geometry, FAILING)?;
     let register = register_of(alloc, &geometry)?;
     let errors = ReadErrors::new(alloc, geometry.blocks())?;
     match die_on_bus(chip, geometry, &pages, register, errors) {
         Ok(die) => Ok(die),
-        Err(_) => Err("no reset")?,
+        Err(_) => Err(Fail::new("no reset")),
     }
 }
 

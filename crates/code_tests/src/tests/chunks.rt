@@ -1,17 +1,28 @@
 //! Chunks with their codes: known codes, one wrong bit at each place, and two at many.
 use error_correction::{correct, encode};
 
+// Of a first bit, of a last one, of bytes FFh, and of 37 bytes 00h.
+static CODES: [[u8; 3]; 4] = [
+    [0xaa, 0xaa, 0xab],
+    [0x55, 0x55, 0x57],
+    [0xff, 0xff, 0xff],
+    [0xff, 0xff, 0xff],
+];
+
 // The codes are those of `bench/hamming.py`, which counts parities bit by bit, as Linux's text has them.
 #[test]
 fn codes(rt: HostRuntime) {
     let mut first = [0u8; 256];
     first[0] = 1;
-    assert_eq!(rt; encode(&first), [0xaa, 0xaa, 0xab]);
     let mut last = [0u8; 256];
     last[255] = 0x80;
-    assert_eq!(rt; encode(&last), [0x55, 0x55, 0x57]);
-    assert_eq!(rt; encode(&[0xffu8; 256]), [0xff, 0xff, 0xff]);
-    assert_eq!(rt; encode(&[0u8; 37]), [0xff, 0xff, 0xff]);
+    let found = [
+        encode(&first),
+        encode(&last),
+        encode(&[0xff; 256]),
+        encode(&[0; 37]),
+    ];
+    assert_eq!(rt; found, CODES);
 }
 
 /// The next number of a fixed pseudorandom row.
@@ -84,9 +95,12 @@ fn places_turned_back(size: usize) -> usize {
 
 #[test]
 fn one_wrong_bit_at_each_place(rt: HostRuntime) {
-    assert_eq!(rt; places_turned_back(256), 2072);
-    assert_eq!(rt; places_turned_back(64), 536);
-    assert_eq!(rt; places_turned_back(37), 320);
+    let found = [
+        places_turned_back(256),
+        places_turned_back(64),
+        places_turned_back(37),
+    ];
+    assert_eq!(rt; found, [2072, 536, 320]);
 }
 
 // How many pairs of places that begin with this one are found.

@@ -5,7 +5,6 @@ use coded_store::{CodedStore, Mended};
 use file_die::{MemoryBytes, Store};
 use page_layout::geometry::Geometry;
 use std::alloc::Global;
-use std::process::Abort;
 use std::test::Fail;
 
 // Bytes of a page, and with its codes: 64 and 32, the code of the 32, and that of the 64.
@@ -26,7 +25,7 @@ struct Row {
     mended: Mended,
 }
 
-const ROWS: &[Row] = &[
+static ROWS: &[Row] = &[
     Row {
         name: "nothing",
         turned: &[],
@@ -108,34 +107,41 @@ fn store_of(
 ) -> Result<CodedStore<MemoryBytes>, Fail> {
     match CodedStore::new(alloc, geometry, MemoryBytes::new(bytes)) {
         Ok(store) => Ok(store),
-        Err(_) => Err("no store")?,
+        Err(_) => Err(Fail::new("no store")),
     }
 }
 
-// Whether a row comes to what it says.
-fn holds_row(rt: &impl Abort, alloc: Global, row: &Row) -> Result<bool, Fail> {
-    let small = Geometry::new(64, 32, 8, 32, 32).expect(rt, "a geometry within the limits");
-    let mut store = store_of(alloc, small, vec![in alloc; 0xFF; FILE]?)?;
-    let put = gives(&mut store, &[0xFF; PAGE])
-        && takes(&mut store, &page())
-        && gives(&mut store, &page());
-    let mut bytes = store.into_file().into_bytes();
-    turn(&mut bytes, row.turned);
-    let mut store = store_of(alloc, small, bytes)?;
+// Whether a store takes the page where none was, and gives it.
+fn puts(store: &mut CodedStore<MemoryBytes>) -> bool {
+    gives(store, &[0xFF; PAGE]) && takes(store, &page()) && gives(store, &page())
+}
+
+// Whether a store gives what the row says, and tells it.
+fn mends(store: &mut CodedStore<MemoryBytes>, row: &Row) -> bool {
     let wanted = if row.mended.lost == 0 {
         page()
     } else {
         [0; PAGE]
     };
-    Ok(put && gives(&mut store, &wanted) && store.mended_so_far() == row.mended)
+    gives(store, &wanted) && store.mended_so_far() == row.mended
+}
+
+// Whether a row comes to what it says.
+fn holds_row(alloc: Global, row: &Row) -> Result<bool, Fail> {
+    let small = Geometry::new(64, 32, 8, 32, 32)?;
+    let mut store = store_of(alloc, small, vec![in alloc; 0xFF; FILE]?)?;
+    let is_put = puts(&mut store);
+    let mut bytes = store.into_file().into_bytes();
+    turn(&mut bytes, row.turned);
+    let mut store = store_of(alloc, small, bytes)?;
+    Ok(is_put && mends(&mut store, row))
 }
 
 #[test]
 fn stores_turn_bits_back(rt: HostRuntime) -> Result<(), Fail> {
     for row in ROWS {
-        let holds = holds_row(&rt, rt.alloc(), row)?;
-        let name = row.name;
-        assert!(rt; holds, "{name}");
+        let holds = holds_row(rt.alloc(), row)?;
+        assert!(rt; holds, "{}", row.name);
     }
     Ok(())
 }

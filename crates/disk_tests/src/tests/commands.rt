@@ -2,12 +2,12 @@
 pub mod files;
 mod rows;
 
+use crate::tests::hold_at;
 use crate::tests::nbd::pieces::Pieces;
 use disk_commands::run;
 use files::{MemoryFiles, Trouble};
 use std::alloc::{AllocError, Global};
 use std::process::Abort;
-use std::test::Fail;
 
 /// A step over some files.
 pub enum Step {
@@ -30,17 +30,28 @@ struct Ran {
     err: Vec<u8>,
 }
 
-fn run_line(files: &mut MemoryFiles, line: &str, sent: &[u8]) -> Result<Ran, AllocError> {
-    let alloc = files.alloc;
+// The words of a line, with one blank between them.
+fn words_of<'a>(alloc: Global, line: &'a str) -> Result<Vec<&'a str>, AllocError> {
     let mut words = Vec::new(alloc);
     for word in line.split(' ') {
         words.push(word)?;
     }
+    Ok(words)
+}
+
+// Runs words for a client that sends this.
+fn run_words(files: &mut MemoryFiles, words: &[&str], sent: &[u8]) -> Ran {
+    let alloc = files.alloc;
     let mut input = Pieces::new(sent, 4096, 0);
     let mut out: Vec<u8> = Vec::new(alloc);
     let mut err: Vec<u8> = Vec::new(alloc);
-    let status = run(alloc, &words, files, &mut input, &mut out, &mut err);
-    Ok(Ran { status, out, err })
+    let status = run(alloc, words, files, &mut input, &mut out, &mut err);
+    Ran { status, out, err }
+}
+
+fn run_line(rt: &impl Abort, files: &mut MemoryFiles, line: &str, sent: &[u8]) -> Ran {
+    let words = words_of(files.alloc, line).expect(rt, "the words");
+    run_words(files, &words, sent)
 }
 
 fn is_as_said(ran: &Ran, status: u8, said: &str) -> bool {
@@ -52,47 +63,46 @@ fn is_as_said(ran: &Ran, status: u8, said: &str) -> bool {
     ran.status == status && told.as_slice() == said.as_bytes() && silent.is_empty()
 }
 
+fn is_as_said_on_both(ran: &Ran, status: u8, out: &[u8], err: &str) -> bool {
+    ran.status == status && ran.out.as_slice() == out && ran.err.as_slice() == err.as_bytes()
+}
+
+fn is_served(ran: &Ran, status: u8, wanted: &[u8]) -> bool {
+    ran.status == status && ran.out.as_slice() == wanted
+}
+
 // Whether a step comes to what it has to.
-fn holds(files: &mut MemoryFiles, step: &Step) -> Result<bool, AllocError> {
+fn holds(rt: &impl Abort, files: &mut MemoryFiles, step: &Step) -> bool {
     match step {
         Step::Trouble(trouble) => {
             files.trouble = *trouble;
-            Ok(true)
+            true
         }
-        Step::Run(line, status, said) => Ok(is_as_said(
-            &run_line(files, line, &[])?,
-            *status,
-            said,
-        )),
+        Step::Run(line, status, said) => {
+            is_as_said(&run_line(rt, files, line, &[]), *status, said)
+        }
         Step::Both(line, sent, status, out, err) => {
-            let ran = run_line(files, line, sent)?;
-            Ok(
-                ran.status == *status
-                    && ran.out.as_slice() == *out
-                    && ran.err.as_slice() == err.as_bytes(),
-            )
+            is_as_said_on_both(&run_line(rt, files, line, sent), *status, out, err)
         }
         Step::Serve(line, sent, status, wanted) => {
-            let ran = run_line(files, line, sent)?;
-            Ok(ran.status == *status && ran.out.as_slice() == *wanted)
+            is_served(&run_line(rt, files, line, sent), *status, wanted)
         }
     }
 }
 
 // Holds steps over files of their own.
-fn hold_all(rt: &impl Abort, alloc: Global, steps: &[Step]) -> Result<(), Fail> {
+fn hold_all(rt: &impl Abort, alloc: Global, steps: &[Step]) {
     let mut files = MemoryFiles::new(alloc);
     for (at, step) in steps.iter().enumerate() {
-        let held = holds(&mut files, step)?;
-        assert!(rt; held, "step {at}");
+        let held = holds(rt, &mut files, step);
+        hold_at(rt, held, at);
     }
-    Ok(())
 }
 
 #[test]
-fn commands_are_done_over_files(rt: HostRuntime) -> Result<(), Fail> {
-    hold_all(&rt, rt.alloc(), rows::DONE)?;
-    hold_all(&rt, rt.alloc(), rows::REFUSED)?;
-    hold_all(&rt, rt.alloc(), rows::TROUBLED)?;
-    hold_all(&rt, rt.alloc(), rows::DAMAGED)
+fn commands_are_done_over_files(rt: HostRuntime) {
+    hold_all(&rt, rt.alloc(), rows::DONE);
+    hold_all(&rt, rt.alloc(), rows::REFUSED);
+    hold_all(&rt, rt.alloc(), rows::TROUBLED);
+    hold_all(&rt, rt.alloc(), rows::DAMAGED);
 }

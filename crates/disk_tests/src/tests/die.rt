@@ -9,6 +9,7 @@ mod noting;
 mod opened;
 mod torn;
 
+use crate::tests::hold_step;
 use file_die::MemoryStore;
 use onfi_cycles::{Bus, BusFault};
 use page_layout::geometry::Geometry;
@@ -105,6 +106,7 @@ pub fn answer_of<B: Bus>(bus: &mut B, call: Ask) -> Answer {
 /// Holds a bus to its answers, one after another.
 pub fn hold<B: Bus>(rt: &impl Abort, bus: &mut B, row: &str, asked: &[(Ask, Answer)]) {
     for (step, (call, want)) in asked.iter().enumerate() {
-        assert!(rt; answer_of(bus, *call) == *want, "{row}: step {step}");
+        let same = answer_of(bus, *call) == *want;
+        hold_step(rt, same, row, step);
     }
 }

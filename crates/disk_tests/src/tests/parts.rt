@@ -1,9 +1,9 @@
 //! Parts and names in a folder of four names, in memory.
+use crate::tests::hold_true;
 use part_files::{
     Names, Pair, PartFault, clear_begun, discard, is_begun, new_part, publish_new, publish_over,
     publish_pair,
 };
-use std::process::Abort;
 
 // The number of the file that each name has; 0 for none.
 #[derive(Clone, Copy, PartialEq, Eq)]
@@ -157,7 +157,7 @@ const QUIET: Row = Row {
     after: [0; 4],
 };
 
-const ROWS: &[Row] = &[
+static ROWS: &[Row] = &[
     Row {
         name: "a new part",
         after: [7, 0, 0, 0],
@@ -338,7 +338,6 @@ fn holds(row: &Row) -> bool {
 #[test]
 fn parts_and_their_names(rt: HostRuntime) {
     for row in ROWS {
-        let name = row.name;
-        assert!(rt; holds(row), "{name}");
+        hold_true(&rt, holds(row), row.name);
     }
 }

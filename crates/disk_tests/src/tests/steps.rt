@@ -1,6 +1,7 @@
 //! Steps of a disk.
 ghost use Rattle.std.specs.Prelude.{◌≡◌, length};
 
+use disk_server::{SectorDisk, Sectors};
 use nbd_stream::{Disk, DiskFault};
 
 pub type Answer = Result<(), DiskFault>;
@@ -74,4 +75,9 @@ pub fn does_all<D: Disk>(disk: &mut D, size: u64, steps: &[Step]) -> bool
         all = does(disk, size, steps[place]) && all;
     }
     all
+}
+
+/// Whether a disk over sectors has so many bytes and does all steps.
+pub fn does_each<S: Sectors>(disk: &mut SectorDisk<S>, size: u64, steps: &[Step]) -> bool {
+    disk.bytes() == size && does_all(disk, size, steps)
 }

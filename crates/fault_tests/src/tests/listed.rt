@@ -11,6 +11,9 @@ pub struct Newest {
     byte: u8,
 }
 
+// The most sectors of a die of these tests.
+const MOST: usize = 48;
+
 const NEVER: Newest = Newest {
     sequence: 0,
     byte: 0,
@@ -26,7 +29,7 @@ fn byte_of(kind: Kind, body: &[u8]) -> Result<u8, Fail> {
 }
 
 // Takes a page into account.
-fn see(newest: &mut [Newest; 32], record: Record, body: &[u8]) -> Result<(), Fail> {
+fn see(newest: &mut [Newest; MOST], record: Record, body: &[u8]) -> Result<(), Fail> {
     if record.kind != Kind::Sector && record.kind != Kind::Trim {
         return Ok(());
     }
@@ -45,7 +48,7 @@ fn see(newest: &mut [Newest; 32], record: Record, body: &[u8]) -> Result<(), Fai
 }
 
 // Takes the page of a row into account, if it is sound.
-fn see_row(newest: &mut [Newest; 32], image: &ImageSlice<'_>, row: u32) -> Result<(), Fail> {
+fn see_row(newest: &mut [Newest; MOST], image: &ImageSlice<'_>, row: u32) -> Result<(), Fail> {
     let geometry = image.geometry();
     if !geometry.has_row(row) {
         return Err(Fail::new("no such row"));
@@ -62,8 +65,8 @@ fn see_row(newest: &mut [Newest; 32], image: &ImageSlice<'_>, row: u32) -> Resul
 /// # Errors
 ///
 /// A page names a sector past the last, or has several bytes, or two pages of a sector have one sequence.
-pub fn scanned(image: &ImageSlice<'_>) -> Result<[Newest; 32], Fail> {
-    let mut newest = [NEVER; 32];
+pub fn scanned(image: &ImageSlice<'_>) -> Result<[Newest; MOST], Fail> {
+    let mut newest = [NEVER; MOST];
     for row in 0..image.geometry().rows() {
         see_row(&mut newest, image, row)?;
     }
@@ -71,8 +74,8 @@ pub fn scanned(image: &ImageSlice<'_>) -> Result<[Newest; 32], Fail> {
 }
 
 /// Each sector is as the list has it.
-pub fn is_listed(newest: &[Newest; 32], script: &Script) -> bool {
-    for sector in 0..32u32 {
+pub fn is_listed(newest: &[Newest; MOST], script: &Script) -> bool {
+    for sector in 0..MOST as u32 {
         if newest[sector as usize].byte != script.byte(sector) {
             return false;
         }

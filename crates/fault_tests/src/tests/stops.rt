@@ -368,6 +368,52 @@ static COLLECTION: Case = Case {
     least: COLLECTION_TRIED,
 };
 
+const WAITING: Course = Course {
+    name: "sectors that wait",
+    spare: 32,
+    calls: Calls::Waiting,
+    count: 256,
+    noise: false,
+    share: 1,
+};
+
+// As many programs and erases as `bench/device_model.py` counts, at each of these shares.
+static SHARED: [Case; 3] = [
+    Case {
+        course: WAITING,
+        each: 1,
+        least: Tried {
+            stops: 431,
+            changing: 233,
+            migrating: 0,
+        },
+    },
+    Case {
+        course: Course {
+            share: 3,
+            ..WAITING
+        },
+        each: 7,
+        least: Tried {
+            stops: 60,
+            changing: 20,
+            migrating: 0,
+        },
+    },
+    Case {
+        course: Course {
+            share: 15,
+            ..WAITING
+        },
+        each: 7,
+        least: Tried {
+            stops: 60,
+            changing: 20,
+            migrating: 0,
+        },
+    },
+];
+
 // The same over reads with wrong bits.
 static NOISY: Case = Case {
     course: Course {
@@ -432,4 +478,12 @@ fn stops_over_wrong_bits_keep_the_sectors(rt: HostRuntime) -> Result<(), Fail> {
     hold_case(rt.alloc(), &NOISY)?;
     hold_case(rt.alloc(), &NOISY_OLD)?;
     hold_case(rt.alloc(), &NOISY_COLLECTION)
+}
+
+#[test]
+fn stops_keep_the_sectors_that_wait(rt: HostRuntime) -> Result<(), Fail> {
+    for case in &SHARED {
+        hold_case(rt.alloc(), case)?;
+    }
+    Ok(())
 }

@@ -129,7 +129,7 @@ pub fn kept<N: Nand + Drop>(device: Result<Device<N>, PowerFault<N>>) -> Result<
 {
     match device {
         Ok(device) => Ok(device),
-        Err(_) => Err("no device")?,
+        Err(_) => Err(Fail::new("no device")),
     }
 }
 
@@ -146,6 +146,6 @@ pub fn given_up<N: Nand>(slot: DeviceSlot<N>) -> Result<(N, Geometry), Fail>
             let geometry = device.engine.geometry;
             Ok((stop(device), geometry))
         }
-        None => Err("no device")?,
+        None => Err(Fail::new("no device")),
     }
 }

@@ -37,7 +37,7 @@ struct Life {
 }
 
 // Calls with no device.
-const NONE: [(Call, Answer); 5] = [
+static NONE: [(Call, Answer); 5] = [
     (Write(5, 64, 0x11), OFF),
     (Read(5, 64, 0x11), OFF),
     (Trim(5), OFF),
@@ -55,7 +55,7 @@ const WELL: Report = Report {
 };
 
 // The table and the mapping are in block 0, and the sectors' pages in block 1.
-const FIRST: Life = Life {
+static FIRST: Life = Life {
     name: "a fresh die, mounted",
     power: Power::Mounted,
     cache: 4,
@@ -86,7 +86,7 @@ const FIRST: Life = Life {
 const FLUSHED: Report = Report { free: 29, ..WELL };
 
 // Three sectors are stale, so a cache of one wants a flush first.
-const SECOND: Life = Life {
+static SECOND: Life = Life {
     name: "a cache of one",
     power: Power::Settled,
     cache: 1,
@@ -100,7 +100,7 @@ const SECOND: Life = Life {
     shortage: None,
 };
 
-const THIRD: Life = Life {
+static THIRD: Life = Life {
     name: "by a certificate",
     power: Power::Checked,
     cache: 1,
@@ -120,7 +120,12 @@ const FEW: Answer = Err(CallFault::Device(DeviceFault::ReadOnly {
     failed: 0,
 }));
 
-const SHORT: Life = Life {
+static FIRST_27: [u16; 27] = [
+    1, 2, 3, 4, 5, 6, 7, 8, 9, 10, 11, 12, 13, 14, 15, 16, 17, 18, 19, 20, 21, 22, 23, 24, 25, 26,
+    27,
+];
+
+static SHORT: Life = Life {
     name: "too few blocks",
     power: Power::Settled,
     cache: 4,
@@ -158,7 +163,7 @@ fn brought<N: Nand + Drop>(
     ensures { IfOk result (IsDeviceKept N.view) }
 {
     if !geometry.is_capacity(life.cache) {
-        return Err("no capacity")?;
+        return Err(Fail::new("no capacity"));
     }
     match life.power {
         Power::Mounted => kept(start_mounted(alloc, nand, geometry, life.cache)),
@@ -168,6 +173,19 @@ fn brought<N: Nand + Drop>(
             kept(start_checked(alloc, nand, geometry, life.cache, &certificate))
         }
     }
+}
+
+// A slot without a device, which answers so.
+fn empty<N: Nand + Drop>(name: &str) -> Result<DeviceSlot<N>, Fail> {
+    let mut slot = DeviceSlot::new();
+    hold_calls(&mut slot, name, &NONE)?;
+    Ok(slot)
+}
+
+// The calls of a life, and how its device stands then.
+fn hold_life<N: Nand>(slot: &mut DeviceSlot<N>, life: &Life) -> Result<(), Fail> {
+    hold_calls(slot, life.name, life.calls)?;
+    hold_state(slot, life.name, Some(life.report), life.shortage)
 }
 
 // One life. The die and its geometry come back.
@@ -180,11 +198,9 @@ fn live<N: Nand + Drop>(
     requires { (N.view.flash nand).geometry ≡ geometry.now }
     ensures { IfOk result (λ pair. (N.view.flash pair.0).geometry ≡ pair.1) }
 {
-    let mut slot = DeviceSlot::new();
-    hold_calls(&mut slot, life.name, &NONE)?;
+    let mut slot = empty(life.name)?;
     slot.put(brought(alloc, nand, geometry, life)?);
-    hold_calls(&mut slot, life.name, life.calls)?;
-    hold_state(&slot, life.name, Some(life.report), life.shortage)?;
+    hold_life(&mut slot, life)?;
     given_up(slot)
 }
 
@@ -221,11 +237,7 @@ fn power_comes_and_goes_over_frames(rt: HostRuntime) -> Result<(), Fail> {
 #[test]
 fn a_shortage_is_noted(rt: HostRuntime) -> Result<(), Fail> {
     let geometry = small()?;
-    let failing: [u16; 27] = [
-        1, 2, 3, 4, 5, 6, 7, 8, 9, 10, 11, 12, 13, 14, 15, 16, 17, 18, 19, 20, 21, 22, 23, 24, 25,
-        26, 27,
-    ];
-    let die = formatted_die(rt.alloc(), geometry, &failing, 0)?;
+    let die = formatted_die(rt.alloc(), geometry, &FIRST_27, 0)?;
     live(rt.alloc(), die, &geometry, &SHORT)?;
     Ok(())
 }

@@ -37,21 +37,21 @@ struct Row {
 const DONE: Answer = Ok(());
 
 // Three sectors are written, and nothing is flushed.
-const WRITES: [(Call, Answer); 3] = [
+static WRITES: [(Call, Answer); 3] = [
     (Write(5, 64, 0x55), DONE),
     (Write(20, 64, 0x20), DONE),
     (Write(21, 64, 0x21), DONE),
 ];
 
 // What they read as ever after.
-const READS: [(Call, Answer); 3] = [
+static READS: [(Call, Answer); 3] = [
     (Read(5, 64, 0x55), Ok(())),
     (Read(20, 64, 0x20), Ok(())),
     (Read(21, 64, 0x21), Ok(())),
 ];
 
 // Of a die with these writes.
-const STALE: Row = Row {
+static STALE: Row = Row {
     name: "three are stale",
     cache: 2,
     certified: None,
@@ -61,7 +61,7 @@ const STALE: Row = Row {
     }),
 };
 
-const OTHER: Row = Row {
+static OTHER: Row = Row {
     name: "a certificate for another cache",
     cache: 4,
     certified: Some(5),
@@ -117,7 +117,7 @@ fn power<N: Nand + Drop>(
         None if geometry.is_capacity(row.cache) => {
             Ok(start_mounted(alloc, nand, geometry, row.cache))
         }
-        None => Err("no capacity")?,
+        None => Err(Fail::new("no capacity")),
         Some(entries) => {
             let certificate = mounted(alloc, &mut nand, geometry, entries)?;
             Ok(start_checked(alloc, nand, geometry, row.cache, &certificate))
@@ -170,7 +170,7 @@ fn pages_are_refused_for_what_is_so(rt: HostRuntime) -> Result<(), Fail> {
     hold_both(rt.alloc(), die, &geometry)
 }
 
-const NEW: Row = Row {
+static NEW: Row = Row {
     name: "a die that was never formatted",
     cache: 4,
     certified: None,
@@ -186,7 +186,7 @@ fn a_new_die_is_refused(rt: HostRuntime) -> Result<(), Fail> {
 }
 
 // The Reset and 39 cycles pass, and the next one fails.
-const FAILED: Row = Row {
+static FAILED: Row = Row {
     name: "a read that fails",
     cache: 4,
     certified: None,
@@ -211,7 +211,7 @@ fn hold_flush_fault<N: Nand + Drop>(
     requires { (N.view.flash nand).geometry ≡ geometry.now }
 {
     match start(alloc, nand, geometry, 2) {
-        Ok(_) => Err("a device")?,
+        Ok(_) => Err(Fail::new("a device")),
         Err(fault) => {
             let (why, _) = taken(fault);
             hold_same("a flush that fails", "why", &why, &wanted)

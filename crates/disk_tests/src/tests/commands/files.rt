@@ -139,7 +139,7 @@ impl KeepsLost for MemoryLists {
 }
 
 // What tells the shape of a disk beside which a list stands.
-const LISTED: &[u8] =
+static LISTED: &[u8] =
     b"{\"cache\":64,\"code\":\"none\",\"geometry\":\"64,32,8,32,32\",\"lost\":true,\"share\":15,\"version\":2}\n";
 
 // The bytes of 256 pages of 64 and 32 bytes.

@@ -3,7 +3,7 @@ use super::Step::{self, Both, Run, Serve, Trouble};
 use super::files::Trouble as trouble;
 
 /// A disk is made, told of and served.
-pub const DONE: &[Step] = &[
+pub static DONE: &[Step] = &[
     Run("nanddisk --version", 0, "nanddisk 0.1.0\n"),
     Run("nanddisk create --geometry 64,32,8,32,32 d", 0, ""),
     Run(
@@ -68,7 +68,7 @@ pub const DONE: &[Step] = &[
 ];
 
 /// What the words ask for cannot be done.
-pub const REFUSED: &[Step] = &[
+pub static REFUSED: &[Step] = &[
     Run(
         "nanddisk",
         2,
@@ -90,7 +90,12 @@ pub const REFUSED: &[Step] = &[
         "refused size: no die has room for so many bytes with this share\n",
     ),
     Run(
-        "nanddisk create --size 3900M d",
+        "nanddisk create --size 3900M --share 15 d",
+        1,
+        "refused size: no die has room for so many bytes with this share\n",
+    ),
+    Run(
+        "nanddisk create --size 4207210497 d",
         1,
         "refused size: no die has room for so many bytes with this share\n",
     ),
@@ -184,7 +189,7 @@ pub const REFUSED: &[Step] = &[
 ];
 
 /// Files fail.
-pub const TROUBLED: &[Step] = &[
+pub static TROUBLED: &[Step] = &[
     Trouble(trouble::Unasked),
     Run(
         "nanddisk create --geometry 64,32,8,32,32 d",
@@ -224,7 +229,7 @@ pub const TROUBLED: &[Step] = &[
 ];
 
 /// Sectors are lost, or their list is none. The list has 32 sectors, of which the fourth and the last are lost.
-pub const DAMAGED: &[Step] = &[
+pub static DAMAGED: &[Step] = &[
     Run("nanddisk create --geometry 64,32,8,32,32 d", 0, ""),
     Trouble(trouble::Unlisted),
     Run("nanddisk info d", 3, "fault read d.lost\n"),

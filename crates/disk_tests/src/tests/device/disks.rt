@@ -1,7 +1,8 @@
 //! Disks over devices on dies in memory.
 ghost use Rattle.std.specs.Prelude.{◌≡◌, IfOk};
 
-use crate::tests::steps::{Answer, Step, does_all};
+use crate::tests::hold_true;
+use crate::tests::steps::{Answer, Step, does_each};
 use device_fixtures::bench::{driver_on, formatted_die, mounted, small};
 use disk_server::{DeviceDisk, SectorDisk, Sectors, open_checked};
 use nand_die::{Die, Stop};
@@ -9,6 +10,7 @@ use nbd_stream::DiskFault;
 use onfi_cycles::{Driver, Nand};
 use page_layout::geometry::Geometry;
 use std::alloc::Global;
+use std::process::Abort;
 use std::test::Fail;
 
 // Bytes of a disk.
@@ -33,7 +35,7 @@ const CLOSED: Answer = Err(DiskFault::ReadOnly);
 
 const FAILED: Answer = Err(DiskFault::Failed);
 
-const ROWS: &[Row] = &[
+static ROWS: &[Row] = &[
     Row {
         name: "parts of sectors, and whole ones",
         steps: &[
@@ -94,10 +96,10 @@ const ROWS: &[Row] = &[
 ];
 
 // The disk of bytes over a device of sectors.
-pub fn over<S: Sectors + Drop>(alloc: Global, sectors: S) -> Result<SectorDisk<S>, Fail> {
+pub fn over<S: Sectors + Drop>(rt: &impl Abort, alloc: Global, sectors: S) -> SectorDisk<S> {
     match SectorDisk::new(alloc, sectors) {
-        Ok(disk) => Ok(disk),
-        Err(_) => Err("no memory")?,
+        Ok(disk) => disk,
+        Err(_) => panic!(rt; "no memory"),
     }
 }
 
@@ -137,31 +139,30 @@ pub fn die_of(
     driver_on(die, geometry)
 }
 
-// Whether a disk has 2,048 bytes and does all steps.
-pub fn does_each<S: Sectors>(disk: &mut SectorDisk<S>, steps: &[Step]) -> bool {
-    disk.bytes() == SIZE && does_all(disk, SIZE, steps)
-}
-
 // Whether a disk over sectors does all steps.
-fn does_steps<S: Sectors + Drop>(alloc: Global, sectors: S, steps: &[Step]) -> Result<bool, Fail> {
-    let mut disk = over(alloc, sectors)?;
-    Ok(does_each(&mut disk, steps))
+fn does_steps<S: Sectors + Drop>(
+    rt: &impl Abort,
+    alloc: Global,
+    sectors: S,
+    steps: &[Step],
+) -> bool {
+    let mut disk = over(rt, alloc, sectors);
+    does_each(&mut disk, SIZE, steps)
 }
 
 // Whether a disk over a new die does all of a row.
-fn holds_row(alloc: Global, row: &Row) -> Result<bool, Fail> {
+fn holds_row(rt: &impl Abort, alloc: Global, row: &Row) -> Result<bool, Fail> {
     let geometry = small()?;
     let die = die_of(alloc, geometry, row.failing, row.stop)?;
     let device = device_on(alloc, die, &geometry, 4)?;
-    does_steps(alloc, device, row.steps)
+    Ok(does_steps(rt, alloc, device, row.steps))
 }
 
 #[test]
 fn disks_of_devices(rt: HostRuntime) -> Result<(), Fail> {
     for row in ROWS {
-        let holds = holds_row(rt.alloc(), row)?;
-        let name = row.name;
-        assert!(rt; holds, "{name}");
+        let holds = holds_row(&rt, rt.alloc(), row)?;
+        hold_true(&rt, holds, row.name);
     }
     Ok(())
 }

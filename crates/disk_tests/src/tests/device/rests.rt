@@ -2,12 +2,14 @@
 ghost use Rattle.std.specs.Prelude.{◌≡◌, length};
 
 use super::disks::{device_on, die_of, over};
+use crate::tests::hold_true;
 use device_fixtures::bench::small;
 use device_fixtures::cases::erases_of;
-use disk_server::{DeviceDisk, Sectors};
+use disk_server::{DeviceDisk, SectorDisk, Sectors};
 use nbd_stream::{Disk, Export, StreamEnd, transmit};
 use onfi_cycles::Nand;
 use std::alloc::Global;
+use std::process::Abort;
 use std::test::Fail;
 
 // Bytes of a sector, and of the disk, and how many sectors it has.
@@ -35,7 +37,7 @@ struct Row {
 }
 
 // To fill the disk takes 153 programs. The first change then is the 154th, and the turn after it copies the live page.
-const ROWS: &[Row] = &[
+static ROWS: &[Row] = &[
     Row {
         name: "two changes, after which a block is collected",
         stop: 0,
@@ -115,29 +117,41 @@ fn is_left<N: Nand + Drop>(sectors: DeviceDisk<N>, left: Option<(u32, u32)>) -> 
     Ok(left.is_none() || left == Some(found))
 }
 
-// Whether a transmission of a disk over sectors is as its row says, and the sectors.
-fn transmits<S: Sectors + Drop>(alloc: Global, sectors: S, row: &Row) -> Result<(bool, S), Fail> {
-    let mut disk = over(alloc, sectors)?;
+// Whether a transmission of a disk is as its row says.
+fn transmits<S: Sectors>(alloc: Global, disk: &mut SectorDisk<S>, row: &Row) -> bool {
     let mut out = Vec::new(alloc);
-    let served = disk.bytes() == SIZE && fill(&mut disk) && serves(&mut disk, row.input, &mut out);
-    let same = out.as_slice() == row.output;
-    Ok((served && same, disk.into_sectors()))
+    disk.bytes() == SIZE
+        && fill(disk)
+        && serves(disk, row.input, &mut out)
+        && out.as_slice() == row.output
+}
+
+// The same of a disk over sectors, and the sectors.
+fn transmits_over<S: Sectors + Drop>(
+    rt: &impl Abort,
+    alloc: Global,
+    sectors: S,
+    row: &Row,
+) -> (bool, S) {
+    let mut disk = over(rt, alloc, sectors);
+    let holds = transmits(alloc, &mut disk, row);
+    (holds, disk.into_sectors())
 }
 
 // Whether one of a disk over a new die is, and its device has then what the row says.
-fn holds_row(alloc: Global, row: &Row) -> Result<bool, Fail> {
+fn holds_row(rt: &impl Abort, alloc: Global, row: &Row) -> Result<bool, Fail> {
     let geometry = small()?;
     let die = die_of(alloc, geometry, &[], row.stop)?;
-    let (served, device) = transmits(alloc, device_on(alloc, die, &geometry, 32)?, row)?;
+    let device = device_on(alloc, die, &geometry, 32)?;
+    let (served, device) = transmits_over(rt, alloc, device, row);
     Ok(is_left(device, row.left)? && served)
 }
 
 #[test]
 fn turns_after_changes(rt: HostRuntime) -> Result<(), Fail> {
     for row in ROWS {
-        let holds = holds_row(rt.alloc(), row)?;
-        let name = row.name;
-        assert!(rt; holds, "{name}");
+        let holds = holds_row(&rt, rt.alloc(), row)?;
+        hold_true(&rt, holds, row.name);
     }
     Ok(())
 }

@@ -1,5 +1,6 @@
 //! The die over a store in memory beside the die in memory: each cycle is answered alike, and puts out the same bytes.
 use super::{erased, open, small, store_of};
+use crate::tests::hold_at;
 use file_die::{FileDie, MemoryStore, SyncWhen};
 use nand_die::Die;
 use onfi_cycles::{Bus, BusFault};
@@ -16,7 +17,7 @@ const PUT_OUT: Open = (0x30, &[]);
 const PROGRAM: Open = (0x80, &[0; 5]);
 
 // How a die comes to each phase from its Reset on.
-const PHASES: &[&[Open]] = &[
+static PHASES: &[&[Open]] = &[
     &[],
     &[(0x00, &[])],
     &[(0x00, &[0; 2])],
@@ -50,7 +51,7 @@ enum Before {
     PastTheEnd,
 }
 
-const BEFORE: &[Before] = &[Before::Nothing, Before::In, Before::Out, Before::PastTheEnd];
+static BEFORE: &[Before] = &[Before::Nothing, Before::In, Before::Out, Before::PastTheEnd];
 
 // The answers of a bus after its Reset: to the phase's cycles, to what is sent before, and to the cycle; and what it put out.
 type Answers = (
@@ -122,7 +123,8 @@ fn page_of<B: Bus>(bus: &mut B, row: u8) -> Result<[u8; 96], BusFault> {
 
 fn hold_pages<A: Bus, B: Bus>(rt: &impl Abort, one: &mut A, other: &mut B) {
     for row in 0..=255 {
-        assert!(rt; page_of(one, row) == page_of(other, row), "row {row}");
+        let alike = page_of(one, row) == page_of(other, row);
+        hold_at(rt, alike, usize::from(row));
     }
 }
 
@@ -134,17 +136,30 @@ fn file_die(rt: &impl Abort, alloc: Global) -> FileDie<MemoryStore> {
     }
 }
 
+// Holds two buses to each other in a phase.
+fn hold_phase<A: Bus, B: Bus>(
+    rt: &impl Abort,
+    one: &mut A,
+    other: &mut B,
+    number: usize,
+    phase: &[Open],
+) {
+    for before in BEFORE {
+        let alike = are_alike(one, other, phase, *before);
+        hold_at(rt, alike, number);
+    }
+}
+
+fn hold_phases<A: Bus, B: Bus>(rt: &impl Abort, one: &mut A, other: &mut B) {
+    for (number, phase) in PHASES.iter().enumerate() {
+        hold_phase(rt, one, other, number, phase);
+    }
+}
+
 #[test]
 fn each_cycle_in_each_phase(rt: HostRuntime) {
     let mut die = Die::new(rt.alloc(), small(&rt), &[]).expect(&rt, "a die");
     let mut over = file_die(&rt, rt.alloc());
-    for (number, phase) in PHASES.iter().enumerate() {
-        for before in BEFORE {
-            assert!(rt;
-                are_alike(&mut die, &mut over, phase, *before),
-                "phase {number}"
-            );
-        }
-    }
+    hold_phases(&rt, &mut die, &mut over);
     hold_pages(&rt, &mut die, &mut over);
 }

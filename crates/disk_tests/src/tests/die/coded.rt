@@ -1,13 +1,15 @@
 //! Lives of disks in files of pages with their codes, in which bits turn between two lives.
 use super::lives::{Between, Life, QUIET, born, live};
 use super::small;
+use crate::tests::hold_step;
 use crate::tests::steps::Step;
 use coded_store::CodedStore;
 use file_die::MemoryBytes;
 use nbd_stream::DiskFault;
 use std::alloc::Global;
 use std::process::Abort;
-use std::test::Fail;
+
+type CodedDisk = Between<CodedStore<MemoryBytes>>;
 
 // Bytes of a data area; of a page with its codes, of which those of its two chunks stand behind the 32 spare bytes; and of all pages.
 const DATA: usize = 64;
@@ -17,9 +19,9 @@ const PAGE: usize = 102;
 const FILE: usize = 256 * PAGE;
 
 // Where the chunk of the data area and its code stand in a page, and where those of the spare area.
-const DATA_CHUNK: &[(usize, usize)] = &[(0, 64), (99, 102)];
+static DATA_CHUNK: &[(usize, usize)] = &[(0, 64), (99, 102)];
 
-const SPARE_CHUNK: &[(usize, usize)] = &[(64, 96), (96, 99)];
+static SPARE_CHUNK: &[(usize, usize)] = &[(64, 96), (96, 99)];
 
 // One bit of each chunk with its code turns in each page, in each its own; or two of the data chunk in the pages that are filled with this byte, and one in all others.
 #[derive(Clone, Copy)]
@@ -36,7 +38,7 @@ struct Row {
 }
 
 // Four sectors, one of which was written twice. The flush has the sequence 8.
-const BEFORE: &[Step] = &[
+static BEFORE: &[Step] = &[
     Step::Write(0, &[1; 64], false, Ok(())),
     Step::Write(64, &[9; 64], false, Ok(())),
     Step::Write(128, &[3; 64], false, Ok(())),
@@ -53,7 +55,7 @@ const ALL: &[Step] = &[
     Step::Read(256, &[0; 64], Ok(())),
 ];
 
-const ROWS: &[Row] = &[
+static ROWS: &[Row] = &[
     Row {
         name: "a bit of each chunk, twice",
         lives: &[
@@ -173,24 +175,15 @@ fn turn_file(bytes: &mut [u8], turn: Turn) {
 }
 
 // The store over a file.
-fn store_of(
-    rt: &impl Abort,
-    alloc: Global,
-    bytes: Vec<u8>,
-) -> Result<CodedStore<MemoryBytes>, Fail> {
+fn store_of(rt: &impl Abort, alloc: Global, bytes: Vec<u8>) -> CodedStore<MemoryBytes> {
     match CodedStore::new(alloc, small(rt), MemoryBytes::new(bytes)) {
-        Ok(store) => Ok(store),
-        Err(_) => Err("no store")?,
+        Ok(store) => store,
+        Err(_) => panic!(rt; "no store"),
     }
 }
 
 // A disk once bits have turned in its file.
-fn turned(
-    rt: &impl Abort,
-    alloc: Global,
-    disk: Between<CodedStore<MemoryBytes>>,
-    turn: Turn,
-) -> Result<Between<CodedStore<MemoryBytes>>, Fail> {
+fn turned(rt: &impl Abort, alloc: Global, disk: CodedDisk, turn: Turn) -> CodedDisk {
     let Between {
         store,
         keeper,
@@ -198,29 +191,31 @@ fn turned(
     } = disk;
     let mut bytes = store.into_file().into_bytes();
     turn_file(&mut bytes, turn);
-    Ok(Between {
-        store: store_of(rt, alloc, bytes)?,
+    Between {
+        store: store_of(rt, alloc, bytes),
         keeper,
         held,
-    })
+    }
+}
+
+// A new disk in a file.
+fn new_disk(rt: &impl Abort, alloc: Global) -> CodedDisk {
+    let bytes = vec![in alloc; 0xFF; FILE].expect(rt, "a file");
+    born(rt, alloc, store_of(rt, alloc, bytes), BEFORE)
 }
 
 // Holds a disk to a row.
-fn hold_row(rt: &impl Abort, alloc: Global, row: &Row) -> Result<(), Fail> {
-    let name = row.name;
-    let blank = store_of(rt, alloc, vec![in alloc; 0xFF; FILE]?)?;
-    let mut disk = born(alloc, blank, BEFORE)?;
+fn hold_row(rt: &impl Abort, alloc: Global, row: &Row) {
+    let mut disk = new_disk(rt, alloc);
     for (at, (turn, life)) in row.lives.iter().enumerate() {
-        disk = live(alloc, turned(rt, alloc, disk, *turn)?, life)?;
-        assert!(rt; disk.held, "{name}: life {at}");
+        disk = live(rt, alloc, turned(rt, alloc, disk, *turn), life);
+        hold_step(rt, disk.held, row.name, at);
     }
-    Ok(())
 }
 
 #[test]
-fn turned_bits_are_turned_back(rt: HostRuntime) -> Result<(), Fail> {
+fn turned_bits_are_turned_back(rt: HostRuntime) {
     for row in ROWS {
-        hold_row(&rt, rt.alloc(), row)?;
+        hold_row(&rt, rt.alloc(), row);
     }
-    Ok(())
 }

@@ -1,6 +1,7 @@
 //! A die over a store that fails each call in turn, and the calls that a die makes.
 use super::noting::{Call, Noting};
 use super::{Answer, Ask, answer_of, hold};
+use crate::tests::{hold_at, hold_true};
 use file_die::{FileDie, Store, SyncWhen};
 use onfi_cycles::Bus;
 use std::alloc::Global;
@@ -17,7 +18,7 @@ const THREES: Answer = Answer::Filled(0x33);
 const BLANK: Answer = Answer::Filled(0xFF);
 
 // What is asked of each die.
-const ASKED: &[Ask] = &[
+static ASKED: &[Ask] = &[
     Ask::Program(0, 0x11),
     Ask::Program(1, 0x22),
     Ask::Read(0),
@@ -32,7 +33,7 @@ const LOADS: usize = 256;
 
 // The answers of a die whose store fails at this call after it was opened, where each program is synced: a put or a sync of a program that
 // failed leaves the block's next page where it was, and so does an erase.
-const FAILS: &[(u8, &str, &[Answer])] = &[
+static FAILS: &[(u8, &str, &[Answer])] = &[
     (
         1,
         "the first put",
@@ -103,6 +104,12 @@ const FAILS: &[(u8, &str, &[Answer])] = &[
     ),
 ];
 
+// Resets a bus.
+fn reset<B: Bus>(rt: &impl Abort, bus: &mut B) {
+    let done = bus.command(0xFF) == Ok(());
+    hold_true(rt, done, "a Reset");
+}
+
 // A die over a store that is erased, after its Reset.
 fn die_over(
     rt: &impl Abort,
@@ -112,7 +119,7 @@ fn die_over(
 ) -> FileDie<Noting> {
     match FileDie::open(alloc, Noting::new(rt, alloc, fails_at), &[], sync_when) {
         Ok(mut die) => {
-            assert!(rt; die.command(0xFF) == Ok(()), "a Reset");
+            reset(rt, &mut die);
             die
         }
         Err(_) => panic!(rt; "no die"),
@@ -131,22 +138,21 @@ fn answers_so<B: Bus>(bus: &mut B, wants: &[Answer]) -> bool {
 // Whether a die whose store fails so answers the script so, and its store has counted so many faults.
 fn holds(rt: &impl Abort, alloc: Global, fails_at: u8, wants: &[Answer], failures: u64) -> bool {
     let mut die = die_over(rt, alloc, LOADS + fails_at as usize, SyncWhen::Always);
-    answers_so(&mut die, wants) && die.failures() == failures
+    let same = answers_so(&mut die, wants);
+    same && die.failures() == failures
 }
 
 #[test]
 fn each_call_fails(rt: HostRuntime) {
     for (fails_at, name, wants) in FAILS {
         let failures = if *fails_at < 12 { 1 } else { 0 };
-        assert!(rt;
-            holds(&rt, rt.alloc(), *fails_at, wants, failures),
-            "{name}"
-        );
+        let holds = holds(&rt, rt.alloc(), *fails_at, wants, failures);
+        hold_true(&rt, holds, name);
     }
 }
 
 // The calls of a die that does each thing once, by when it syncs.
-const CALLS: &[(SyncWhen, &[Call])] = &[
+static CALLS: &[(SyncWhen, &[Call])] = &[
     (
         SyncWhen::Erases,
         &[
@@ -178,40 +184,48 @@ const CALLS: &[(SyncWhen, &[Call])] = &[
     ),
 ];
 
+// Asks a bus the script.
+fn ask_all<B: Bus>(bus: &mut B) {
+    for call in ASKED {
+        answer_of(bus, *call);
+    }
+}
+
+// Whether a store was asked this since its die was opened.
+fn was_asked(store: &Noting, calls: &[Call]) -> bool {
+    store.calls().get(LOADS..) == Some(calls)
+}
+
 // Whether a die makes these calls after it was opened.
 fn makes_calls(rt: &impl Abort, alloc: Global, sync_when: SyncWhen, calls: &[Call]) -> bool {
     let mut die = die_over(rt, alloc, 0, sync_when);
-    for call in ASKED {
-        answer_of(&mut die, *call);
-    }
-    let store = die.into_store();
-    store.calls().get(LOADS..) == Some(calls)
+    ask_all(&mut die);
+    was_asked(&die.into_store(), calls)
 }
 
 #[test]
 fn calls_of_a_store(rt: HostRuntime) {
-    for (sync_when, calls) in CALLS {
-        assert!(rt;
-            makes_calls(&rt, rt.alloc(), *sync_when, calls),
-            "{sync_when:?}"
-        );
+    for (number, (sync_when, calls)) in CALLS.iter().enumerate() {
+        let makes = makes_calls(&rt, rt.alloc(), *sync_when, calls);
+        hold_at(&rt, makes, number);
     }
 }
 
 // What is asked of a die that changes nothing.
-const REFUSED: &[(Ask, Answer)] = &[
+static REFUSED: &[(Ask, Answer)] = &[
     (Ask::Program(1, 0x11), FAILED),
     (Ask::Program(8, 0x11), PASSED),
     (Ask::Program(8, 0x22), FAILED),
     (Ask::Read(8), ONES),
 ];
 
+static ONCE: &[Call] = &[Call::Put(8), Call::Load(8)];
+
 #[test]
 fn a_page_is_put_once(rt: HostRuntime) {
     let mut die = die_over(&rt, rt.alloc(), 0, SyncWhen::Erases);
     hold(&rt, &mut die, "a page is put once", REFUSED);
     let store = die.into_store();
-    let want: &[Call] = &[Call::Put(8), Call::Load(8)];
-    assert!(rt; store.calls().get(LOADS..) == Some(want), "the calls");
-    assert!(rt; store.failures() == 0, "no failures");
+    hold_true(&rt, was_asked(&store, ONCE), "the calls");
+    hold_true(&rt, store.failures() == 0, "no failures");
 }

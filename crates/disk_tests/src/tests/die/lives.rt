@@ -1,10 +1,10 @@
 //! Lives of disks: each is looked at, its list of lost sectors is kept, what was torn is taken away, it is asked something, and closed.
-ghost use Rattle.std.specs.Prelude.{◌≡◌, true, IfOk};
+ghost use Rattle.std.specs.Prelude.{◌≡◌, true};
 ghost use Rattle.image_check.specs.Agrees.{Agrees};
 
 use crate::tests::commands::files::{MemoryLists, pages_of};
-use crate::tests::device::disks::{does_each, over};
-use crate::tests::steps::Step;
+use crate::tests::device::disks::over;
+use crate::tests::steps::{Step, does_each};
 use certificate::Certificate;
 use coded_store::TellsMended;
 use disk_damage::{bad_blocks, mount_and_find};
@@ -15,9 +15,11 @@ use disk_server::{
 };
 use file_die::{Store, SyncWhen};
 use std::alloc::Global;
-use std::test::Fail;
+use std::process::Abort;
 
-// Sectors of a disk.
+// Bytes and sectors of a disk.
+const SIZE: u64 = 2048;
+
 const SECTORS: usize = 32;
 
 const ENTRIES: u32 = 64;
@@ -63,77 +65,94 @@ pub struct Between<S: Store + Drop> {
 // The store of a disk once it was asked this, and whether it answered so.
 fn asked_plain<S: Store + Drop>(disk: StoreDisk<S>, steps: &[Step]) -> (S, bool) {
     let mut disk = disk;
-    let held = does_each(&mut disk, steps);
+    let held = does_each(&mut disk, SIZE, steps);
     (close_store(disk), held)
 }
 
 // A store of erased pages, formatted.
-fn formatted<S: Store + Drop>(alloc: Global, store: S) -> Result<S, Fail> {
+fn formatted<S: Store + Drop>(rt: &impl Abort, alloc: Global, store: S) -> S {
     match format_store(alloc, store, SHARE) {
-        Ok((store, _)) => Ok(store),
-        Err((_store, _fault)) => Err("not formatted")?,
+        Ok((store, _)) => store,
+        Err(_) => panic!(rt; "not formatted"),
+    }
+}
+
+// The disk of a store that was formatted.
+fn opened_new<S: Store + Drop>(rt: &impl Abort, alloc: Global, store: S) -> StoreDisk<S> {
+    match open_store(alloc, store, ENTRIES, SHARE, SyncWhen::Erases) {
+        Ok(disk) => disk,
+        Err(_) => panic!(rt; "not opened"),
     }
 }
 
 /// A new disk in a store of erased pages, once it was asked this.
-pub fn born<S: Store + Drop>(alloc: Global, store: S, steps: &[Step]) -> Result<Between<S>, Fail> {
-    let store = formatted(alloc, store)?;
-    let disk = match open_store(alloc, store, ENTRIES, SHARE, SyncWhen::Erases) {
-        Ok(disk) => disk,
-        Err((_store, _fault)) => Err("not opened")?,
-    };
+pub fn born<S: Store + Drop>(
+    rt: &impl Abort,
+    alloc: Global,
+    store: S,
+    steps: &[Step],
+) -> Between<S> {
+    let disk = opened_new(rt, alloc, formatted(rt, alloc, store));
     let (store, held) = asked_plain(disk, steps);
-    Ok(Between {
+    Between {
         store,
         keeper: MemoryLists::new(alloc),
         held,
-    })
+    }
 }
 
 // A store that was mounted, with its certificate. Its lost sectors are added to a list.
 fn mounted<S: Store + Drop>(
+    rt: &impl Abort,
     alloc: Global,
     store: S,
     flushed: u64,
     lost: &mut [bool],
-) -> Result<(S, Certificate), Fail>
-    ensures { IfOk result (λ made. S.honest made.0 ≡ true → Agrees (S.held made.0).geometry 65536 (S.held made.0).pages made.1) }
+) -> (S, Certificate)
+    ensures { S.honest result.0 ≡ true → Agrees (S.held result.0).geometry 65536 (S.held result.0).pages result.1 }
 {
     match mount_and_find(alloc, store, flushed, lost) {
-        Ok(made) => Ok(made),
-        Err(_fault) => Err("not mounted")?,
+        Ok(made) => made,
+        Err(_) => panic!(rt; "not mounted"),
     }
 }
 
-// Whether what is told of a disk that was looked at is as its life says.
-fn is_told<S: TellsMended>(
-    alloc: Global,
-    store: &S,
-    certificate: &Certificate,
-    lost: &[bool],
-    life: &Life,
-) -> Result<bool, Fail> {
+// Whether these sectors are lost, and no other.
+fn are_lost(lost: &[bool], sectors: &[usize]) -> bool {
+    let mut same = true;
+    for sector in 0..lost.len() {
+        same = lost[sector] == sectors.contains(&sector) && same;
+    }
+    same
+}
+
+// Whether so many blocks are bad.
+fn has_bad(rt: &impl Abort, alloc: Global, certificate: &Certificate, count: usize) -> bool {
+    let blocks = bad_blocks(alloc, certificate).expect(rt, "the bad blocks");
+    blocks.len() == count
+}
+
+// Whether so many bits of a store were turned back, and so many pages are lost to its code.
+fn has_mended<S: TellsMended>(store: &S, life: &Life) -> bool {
     let mended = store.mended();
-    let bad = bad_blocks(alloc, certificate)?.len();
-    let same = lost.iter().enumerate().all(|(sector, is_lost)| *is_lost
-        == life.lost.contains(&sector));
-    Ok(same && bad == life.bad && mended.turned == life.turned && mended.lost == life.unread)
+    mended.turned == life.turned && mended.lost == life.unread
 }
 
 // The disk of a store that was looked at; the store, where the list of its lost sectors was not kept.
 fn opened<S: Store + Drop>(
+    rt: &impl Abort,
     alloc: Global,
     store: S,
     certificate: &Certificate,
     keeper: &mut MemoryLists,
     lost: &[bool],
-    life: &Life,
-) -> Result<Result<StoreDisk<S>, S>, Fail>
+    mark: u64,
+) -> Result<StoreDisk<S>, S>
     requires { S.honest store ≡ true → Agrees (S.held store).geometry 65536 (S.held store).pages certificate.now }
 {
     let listed = match list_first(store, keeper, lost) {
         Ok(listed) => listed,
-        Err(store) => return Ok(Err(store)),
+        Err(store) => return Err(store),
     };
     match recover_listed(
         alloc,
@@ -141,108 +160,150 @@ fn opened<S: Store + Drop>(
         certificate,
         ENTRIES,
         SHARE,
-        life.synced,
+        mark,
         SyncWhen::Erases,
     ) {
-        Ok(disk) => Ok(Ok(disk)),
-        Err(_fault) => Err("not recovered")?,
+        Ok(disk) => Ok(disk),
+        Err(_) => panic!(rt; "not recovered"),
     }
 }
 
 // The disk of a store that is only read.
-fn reading<S: Store + Drop>(alloc: Global, store: S) -> Result<StoreDisk<S>, Fail> {
+fn reading<S: Store + Drop>(rt: &impl Abort, alloc: Global, store: S) -> StoreDisk<S> {
     match open_stopped(alloc, store, ENTRIES, SHARE, SyncWhen::Erases, false) {
-        Ok(disk) => Ok(disk),
-        Err(_fault) => Err("not opened")?,
+        Ok(disk) => disk,
+        Err(_) => panic!(rt; "not opened"),
     }
 }
 
 // Asks a disk over sectors of which some are lost, and gives both parts back, with whether it answered so.
 fn asked_guarded<S: Lasting + Drop, K: KeepsLost + Drop>(
+    rt: &impl Abort,
     alloc: Global,
-    sectors: S,
-    keeper: K,
-    lost: Vec<bool>,
+    guarded: GuardedSectors<S, K>,
     steps: &[Step],
-) -> Result<(S, K, bool), Fail> {
-    let mut disk = over(alloc, GuardedSectors::new(sectors, keeper, lost))?;
-    let held = does_each(&mut disk, steps);
+) -> (S, K, bool) {
+    let mut disk = over(rt, alloc, guarded);
+    let held = does_each(&mut disk, SIZE, steps);
     let (sectors, keeper) = disk.into_sectors().into_parts();
-    Ok((sectors, keeper, held))
+    (sectors, keeper, held)
 }
 
 // Asks a disk of which sectors are lost.
 fn asked<S: Store + Drop>(
+    rt: &impl Abort,
     alloc: Global,
     disk: StoreDisk<S>,
     keeper: MemoryLists,
     lost: Vec<bool>,
     steps: &[Step],
-) -> Result<Between<S>, Fail> {
-    let (device, keeper, held) = asked_guarded(alloc, disk.into_sectors(), keeper, lost, steps)?;
-    Ok(Between {
-        store: close_store(over(alloc, device)?),
+) -> Between<S> {
+    let guarded = GuardedSectors::new(disk.into_sectors(), keeper, lost);
+    let (device, keeper, held) = asked_guarded(rt, alloc, guarded, steps);
+    Between {
+        store: close_store(over(rt, alloc, device)),
         keeper,
         held,
-    })
+    }
+}
+
+// Opens the disk of a store that was looked at, to be written, and asks it. The store comes back where the list of its lost sectors was not kept.
+fn written<S: Store + Drop>(
+    rt: &impl Abort,
+    alloc: Global,
+    store: S,
+    certificate: &Certificate,
+    keeper: MemoryLists,
+    lost: Vec<bool>,
+    life: &Life,
+) -> Between<S>
+    requires { S.honest store ≡ true → Agrees (S.held store).geometry 65536 (S.held store).pages certificate.now }
+{
+    let mut keeper = keeper;
+    let mark = life.synced;
+    let back = opened(rt, alloc, store, certificate, &mut keeper, &lost, mark);
+    match back {
+        Ok(disk) => asked(rt, alloc, disk, keeper, lost, life.steps),
+        Err(store) => Between {
+            store,
+            keeper,
+            held: !life.keeps,
+        },
+    }
 }
 
 // Opens the disk of a store that was looked at, to be read or written, and asks it.
 fn lived_on<S: Store + Drop>(
+    rt: &impl Abort,
     alloc: Global,
     store: S,
     certificate: &Certificate,
-    mut keeper: MemoryLists,
+    keeper: MemoryLists,
     lost: Vec<bool>,
     life: &Life,
-) -> Result<Between<S>, Fail>
+) -> Between<S>
     requires { S.honest store ≡ true → Agrees (S.held store).geometry 65536 (S.held store).pages certificate.now }
 {
-    keeper.fails = !life.keeps;
-    let disk = if life.writes {
-        opened(alloc, store, certificate, &mut keeper, &lost, life)?
+    if life.writes {
+        written(rt, alloc, store, certificate, keeper, lost, life)
     } else {
-        Ok(reading(alloc, store)?)
-    };
-    match disk {
-        Ok(disk) => asked(alloc, disk, keeper, lost, life.steps),
-        Err(store) => Ok(Between {
-            store,
-            keeper,
-            held: !life.keeps,
-        }),
+        let disk = reading(rt, alloc, store);
+        asked(rt, alloc, disk, keeper, lost, life.steps)
     }
 }
 
-// Lives a life.
+// The list beside a disk, which can be kept in this life where the life says so.
+fn keeper_in(keeper: MemoryLists, life: &Life) -> MemoryLists {
+    let mut keeper = keeper;
+    keeper.fails = !life.keeps;
+    keeper
+}
+
+// Lives a life, and tells whether what is told of the disk is as it says, and what it is asked is answered so.
 fn lived<S: Store + TellsMended + Drop>(
+    rt: &impl Abort,
     alloc: Global,
-    between: Between<S>,
+    store: S,
+    keeper: MemoryLists,
     life: &Life,
-) -> Result<Between<S>, Fail> {
-    let Between {
-        store,
-        keeper,
-        held,
-    } = between;
-    let mut lost = keeper.list(SECTORS)?;
-    let (store, certificate) = mounted(alloc, store, life.flushed, &mut lost)?;
-    let told = held && is_told(alloc, &store, &certificate, &lost, life)?;
-    let mut after = lived_on(alloc, store, &certificate, keeper, lost, life)?;
+) -> Between<S> {
+    let mut lost = keeper.list(SECTORS).expect(rt, "the list of lost sectors");
+    let (store, certificate) = mounted(rt, alloc, store, life.flushed, &mut lost);
+    let told = are_all([
+        are_lost(&lost, life.lost),
+        has_bad(rt, alloc, &certificate, life.bad),
+        has_mended(&store, life),
+    ]);
+    let mut after = lived_on(rt, alloc, store, &certificate, keeper, lost, life);
     after.held = after.held && told;
-    Ok(after)
+    after
+}
+
+// Whether the pages of a store are as they were, or may not be.
+fn stays(before: &[u8], after: &[u8], life: &Life) -> bool {
+    before == after || (life.writes && life.keeps)
+}
+
+// Whether all of this is so.
+fn are_all(these: [bool; 3]) -> bool {
+    these == [true; 3]
 }
 
 /// Lives a life. One in which the disk is only read, or its list is not kept, has to leave its pages as they were.
 pub fn live<S: Store + TellsMended + Drop>(
+    rt: &impl Abort,
     alloc: Global,
     between: Between<S>,
     life: &Life,
-) -> Result<Between<S>, Fail> {
-    let mut between = between;
-    let before = pages_of(alloc, &mut between.store)?;
-    let mut after = lived(alloc, between, life)?;
-    let same = pages_of(alloc, &mut after.store)? == before;
-    after.held = after.held && (same || (life.writes && life.keeps));
-    Ok(after)
+) -> Between<S> {
+    let Between {
+        mut store,
+        keeper,
+        held,
+    } = between;
+    let before = pages_of(alloc, &mut store).expect(rt, "the pages before");
+    let mut after = lived(rt, alloc, store, keeper_in(keeper, life), life);
+    let left = pages_of(alloc, &mut after.store).expect(rt, "the pages after");
+    after.held = are_all([held, after.held, stays(&before, &left, life)]);
+    after
 }

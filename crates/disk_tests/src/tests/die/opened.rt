@@ -1,6 +1,7 @@
 //! Dies over stores that hold pages, and stores over which none is opened.
 use super::noting::{Call, Noting};
 use super::{Answer, Ask, erased, hold};
+use crate::tests::{hold_at, hold_true};
 use file_die::{FileDie, OpenDieFault, Store, SyncWhen};
 use onfi_cycles::{Bus, BusFault};
 use std::alloc::Global;
@@ -11,7 +12,7 @@ const PASSED: Answer = Answer::Status(0xE0);
 const FAILED: Answer = Answer::Status(0xE1);
 
 // Rows 8 and 10, with row 9 erased between them, and one byte of row 16.
-const WRITTEN: &[(usize, u8)] = &[(8 * 96, 0x11), (10 * 96 + 95, 0x22), (16 * 96 + 64, 0x33)];
+static WRITTEN: &[(usize, u8)] = &[(8 * 96, 0x11), (10 * 96 + 95, 0x22), (16 * 96 + 64, 0x33)];
 
 fn written(rt: &impl Abort, alloc: Global) -> Vec<u8> {
     let mut image = erased(rt, alloc);
@@ -24,7 +25,7 @@ fn written(rt: &impl Abort, alloc: Global) -> Vec<u8> {
 }
 
 // The next pages are 0 of block 0, 3 of block 1 and 1 of block 2, which is bad, as block 31.
-const ASKED: &[(Ask, Answer)] = &[
+static ASKED: &[(Ask, Answer)] = &[
     (Ask::Program(9, 0x11), FAILED),
     (Ask::Program(11, 0x11), PASSED),
     (Ask::Read(11), Answer::Filled(0x11)),
@@ -34,21 +35,32 @@ const ASKED: &[(Ask, Answer)] = &[
     (Ask::Read(8), Answer::Other),
 ];
 
-#[test]
-fn a_die_goes_on_where_it_stopped(rt: HostRuntime) {
-    let store = Noting::of(&rt, rt.alloc(), written(&rt, rt.alloc()), 0);
-    match FileDie::open(rt.alloc(), store, &[2, 31], SyncWhen::Erases) {
-        Ok(mut die) => {
-            assert!(rt; die.command(0x00) == Err(BusFault::NoReset), "no Reset yet");
-            assert!(rt; die.command(0xFF) == Ok(()), "a Reset");
-            hold(&rt, &mut die, "a die that goes on", ASKED);
-        }
+// A die over a store of those bytes.
+fn die_over(rt: &impl Abort, alloc: Global, bad: &[u32]) -> FileDie<Noting> {
+    let store = Noting::of(rt, alloc, written(rt, alloc), 0);
+    match FileDie::open(alloc, store, bad, SyncWhen::Erases) {
+        Ok(die) => die,
         Err(_) => panic!(rt; "no die"),
     }
 }
 
+// Holds a bus to its first commands.
+fn hold_reset<B: Bus>(rt: &impl Abort, bus: &mut B) {
+    let early = bus.command(0x00) == Err(BusFault::NoReset);
+    hold_true(rt, early, "no Reset yet");
+    let reset = bus.command(0xFF) == Ok(());
+    hold_true(rt, reset, "a Reset");
+}
+
+#[test]
+fn a_die_goes_on_where_it_stopped(rt: HostRuntime) {
+    let mut die = die_over(&rt, rt.alloc(), &[2, 31]);
+    hold_reset(&rt, &mut die);
+    hold(&rt, &mut die, "a die that goes on", ASKED);
+}
+
 // Each block is read from its last page down to one that is not erased.
-const LOADED: &[Call] = &[
+static LOADED: &[Call] = &[
     Call::Load(15),
     Call::Load(14),
     Call::Load(13),
@@ -60,22 +72,14 @@ const LOADED: &[Call] = &[
 
 #[test]
 fn pages_that_are_looked_at(rt: HostRuntime) {
-    let store = Noting::of(&rt, rt.alloc(), written(&rt, rt.alloc()), 0);
-    match FileDie::open(rt.alloc(), store, &[], SyncWhen::Erases) {
-        Ok(die) => {
-            let store = die.into_store();
-            assert!(rt;
-                store.calls().get(8..15) == Some(LOADED),
-                "the blocks' ends"
-            );
-            assert!(rt; store.calls().len() == 254, "each page once");
-        }
-        Err(_) => panic!(rt; "no die"),
-    }
+    let store = die_over(&rt, rt.alloc(), &[]).into_store();
+    let ends = store.calls().get(8..15) == Some(LOADED);
+    hold_true(&rt, ends, "the blocks' ends");
+    hold_true(&rt, store.calls().len() == 254, "each page once");
 }
 
 // The call at which the store fails, the blocks named bad, the fault, the calls and the failures.
-const REFUSED: &[(usize, &[u32], OpenDieFault, usize, u64)] = &[
+static REFUSED: &[(usize, &[u32], OpenDieFault, usize, u64)] = &[
     (0, &[3, 3], OpenDieFault::BadBlock { block: 3 }, 0, 0),
     (0, &[31, 32, 31], OpenDieFault::BadBlock { block: 32 }, 0, 0),
     (1, &[], OpenDieFault::Store, 1, 1),
@@ -105,9 +109,7 @@ fn is_refused(
 #[test]
 fn stores_that_are_refused(rt: HostRuntime) {
     for (row, (fails_at, bad, fault, calls, failures)) in REFUSED.iter().enumerate() {
-        assert!(rt;
-            is_refused(&rt, rt.alloc(), *fails_at, bad, *fault, *calls, *failures),
-            "row {row}"
-        );
+        let refused = is_refused(&rt, rt.alloc(), *fails_at, bad, *fault, *calls, *failures);
+        hold_at(&rt, refused, row);
     }
 }

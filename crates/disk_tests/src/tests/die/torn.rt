@@ -2,14 +2,14 @@
 ghost use Rattle.std.specs.Prelude.{◌≡◌, ◌<◌};
 ghost use Rattle.page_layout.specs.Geometry.{row_count};
 
-use super::lives::{Life, QUIET, born, live};
+use super::lives::{Between, Life, QUIET, born, live};
 use super::{erased, small, store_of};
+use crate::tests::hold_step;
 use crate::tests::steps::Step;
 use file_die::{MemoryStore, Store};
 use nbd_stream::DiskFault;
 use std::alloc::Global;
 use std::process::Abort;
-use std::test::Fail;
 
 // Bytes of a page with its spare area.
 const PAGE: usize = 96;
@@ -97,7 +97,7 @@ const STILL_LOST: &[Step] = &[
     Step::Read(192, &[4; 64], Ok(())),
 ];
 
-const ROWS: &[Row] = &[
+static ROWS: &[Row] = &[
     Row {
         name: "the last page is torn",
         before: SIX,
@@ -373,32 +373,37 @@ fn is_hurt(store: &mut MemoryStore, filled: u8, hurt: Hurt) -> bool {
 
 // Hurts the pages of a row.
 fn hurt_all(rt: &impl Abort, store: &mut MemoryStore, row: &Row) {
-    let name = row.name;
     for (filled, hurt) in row.hurt {
-        assert!(rt;
-            is_hurt(store, *filled, *hurt),
-            "{name}: no page of {filled}"
-        );
+        let is_one = is_hurt(store, *filled, *hurt);
+        hold_page(rt, is_one, row.name, *filled);
+    }
+}
+
+// Holds that one page is filled with a byte.
+fn hold_page(rt: &impl Abort, is_one: bool, name: &str, filled: u8) {
+    assert!(rt; is_one, "{name}: no page of {filled}");
+}
+
+// Holds a disk to the lives of a row.
+fn hold_lives(rt: &impl Abort, alloc: Global, disk: Between<MemoryStore>, row: &Row) {
+    let mut disk = disk;
+    for (at, life) in row.lives.iter().enumerate() {
+        disk = live(rt, alloc, disk, life);
+        hold_step(rt, disk.held, row.name, at);
     }
 }
 
 // Holds a disk to a row.
-fn hold_row(rt: &impl Abort, alloc: Global, row: &Row) -> Result<(), Fail> {
-    let name = row.name;
+fn hold_row(rt: &impl Abort, alloc: Global, row: &Row) {
     let store = store_of(rt, small(rt), erased(rt, alloc));
-    let mut disk = born(alloc, store, row.before)?;
+    let mut disk = born(rt, alloc, store, row.before);
     hurt_all(rt, &mut disk.store, row);
-    for (at, life) in row.lives.iter().enumerate() {
-        disk = live(alloc, disk, life)?;
-        assert!(rt; disk.held, "{name}: life {at}");
-    }
-    Ok(())
+    hold_lives(rt, alloc, disk, row);
 }
 
 #[test]
-fn torn_disks_are_recovered(rt: HostRuntime) -> Result<(), Fail> {
+fn torn_disks_are_recovered(rt: HostRuntime) {
     for row in ROWS {
-        hold_row(&rt, rt.alloc(), row)?;
+        hold_row(&rt, rt.alloc(), row);
     }
-    Ok(())
 }

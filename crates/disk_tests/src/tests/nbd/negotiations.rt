@@ -1,8 +1,10 @@
 //! Negotiations, of a disk of 1000000000040h bytes, with room for sixteen bytes of body.
 use super::pieces::Pieces;
+use crate::tests::hold_true;
 use nbd_stream::{Export, Negotiated, StreamEnd, negotiate};
 use request_stream::ServeFault;
 use std::alloc::Global;
+use std::process::Abort;
 
 const DISK: Export = Export {
     size: 0x0001_0000_0000_0040,
@@ -21,7 +23,7 @@ struct Row {
     left: usize,
 }
 
-const ROWS: &[Row] = &[
+static ROWS: &[Row] = &[
     Row {
         name: "a client that goes at once",
         input: b"",
@@ -143,12 +145,16 @@ fn holds(alloc: Global, row: &Row, piece: usize) -> bool {
     answer == row.answer && out.as_slice() == row.output && reader.left.len() == row.left
 }
 
+fn hold_row(rt: &impl Abort, alloc: Global, row: &Row) {
+    for piece in [1, 7, 512] {
+        let holds = holds(alloc, row, piece);
+        hold_true(rt, holds, row.name);
+    }
+}
+
 #[test]
 fn negotiations_by_hand(rt: HostRuntime) {
     for row in ROWS {
-        let name = row.name;
-        for piece in [1, 7, 512] {
-            assert!(rt; holds(rt.alloc(), row, piece), "{name}");
-        }
+        hold_row(&rt, rt.alloc(), row);
     }
 }

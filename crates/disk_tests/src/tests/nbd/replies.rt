@@ -1,11 +1,12 @@
 //! Replies, and what a request asks.
+use crate::tests::hold_at;
 use nbd_stream::{Export, NbdHeader, RequestError, Task, admit, send_reply};
 use std::alloc::Global;
 
 const COOKIE: u64 = 0x0102_0304_0506_0708;
 
 // How a request went, and its reply, where two bytes were read.
-const REPLIES: &[(Result<(), RequestError>, &[u8])] = &[
+static REPLIES: &[(Result<(), RequestError>, &[u8])] = &[
     (
         Ok(()),
         b"\x67\x44\x66\x98\x00\x00\x00\x00\x01\x02\x03\x04\x05\x06\x07\x08ab",
@@ -36,7 +37,8 @@ fn is_reply(alloc: Global, done: Result<(), RequestError>, bytes: &[u8]) -> bool
 #[test]
 fn replies_by_hand(rt: HostRuntime) {
     for (number, (done, bytes)) in REPLIES.iter().enumerate() {
-        assert!(rt; is_reply(rt.alloc(), *done, bytes), "row {number}");
+        let same = is_reply(rt.alloc(), *done, bytes);
+        hold_at(&rt, same, number);
     }
 }
 
@@ -58,7 +60,7 @@ const INVALID: Result<Task, RequestError> = Err(RequestError::Invalid);
 
 const REFUSED: Result<Task, RequestError> = Err(RequestError::NotPermitted);
 
-const ROWS: &[Row] = &[
+static ROWS: &[Row] = &[
     Row {
         asked: (0, 0, 900, 100),
         answer: Ok(Task::Read {
@@ -179,6 +181,6 @@ fn holds(row: &Row) -> bool {
 #[test]
 fn requests_of_a_disk(rt: HostRuntime) {
     for (number, row) in ROWS.iter().enumerate() {
-        assert!(rt; holds(row), "row {number}");
+        hold_at(&rt, holds(row), number);
     }
 }

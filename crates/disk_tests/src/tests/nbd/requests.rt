@@ -1,7 +1,9 @@
 //! Streams of requests, with room for eight bytes of a write.
 use super::pieces::Pieces;
+use crate::tests::hold_true;
 use nbd_stream::{NbdHeader, NextRequest, StreamEnd, read_request};
 use request_stream::ServeFault;
+use std::process::Abort;
 
 // A stream, and what its next request is.
 struct Row {
@@ -41,7 +43,7 @@ const QUIET: Row = Row {
     left: 0,
 };
 
-const ROWS: &[Row] = &[
+static ROWS: &[Row] = &[
     Row {
         name: "nothing",
         ..QUIET
@@ -123,12 +125,16 @@ fn holds(row: &Row, piece: usize) -> bool {
     answer == row.answer && body.starts_with(row.body) && reader.left.len() == row.left
 }
 
+fn hold_row(rt: &impl Abort, row: &Row) {
+    for piece in [1, 5, 64] {
+        let holds = holds(row, piece);
+        hold_true(rt, holds, row.name);
+    }
+}
+
 #[test]
 fn requests_by_hand(rt: HostRuntime) {
     for row in ROWS {
-        let name = row.name;
-        for piece in [1, 5, 64] {
-            assert!(rt; holds(row, piece), "{name}");
-        }
+        hold_row(&rt, row);
     }
 }

@@ -1,10 +1,11 @@
 //! When a disk rests: what it is asked and what a writer is given, in their order.
+use crate::tests::hold_true;
 use nbd_stream::{Disk, DiskFault, Export, StreamEnd, transmit};
 use request_stream::ServeFault;
+use std::alloc::Global;
 use std::cell::Cell;
 use std::io::{self, ErrorKind, Write};
 use std::process::Abort;
-use std::test::Fail;
 
 const EXPORT: Export = Export {
     size: 16,
@@ -165,7 +166,7 @@ const QUIET: Row = Row {
     letters: b"",
 };
 
-const ROWS: &[Row] = &[
+static ROWS: &[Row] = &[
     Row {
         name: "a rest after each change, once its reply is handed on",
         requests: &[WRITE, TRIM, ZEROES],
@@ -217,12 +218,12 @@ const ROWS: &[Row] = &[
 ];
 
 // All that the client of a row sends.
-fn sent(rt: &impl AllocGlobal, row: &Row) -> Result<Vec<u8>, Fail> {
-    let mut input = Vec::new(rt.alloc());
+fn sent(rt: &impl Abort, alloc: Global, row: &Row) -> Vec<u8> {
+    let mut input = Vec::new(alloc);
     for request in row.requests {
-        input.extend_from_slice(request)?;
+        input.extend_from_slice(request).expect(rt, "the requests");
     }
-    Ok(input)
+    input
 }
 
 // Whether a transmission is as its row says.
@@ -248,12 +249,10 @@ fn holds(row: &Row, mut input: &[u8]) -> bool {
 }
 
 #[test]
-fn rests_after_changes(rt: HostRuntime) -> Result<(), Fail> {
+fn rests_after_changes(rt: HostRuntime) {
     for row in ROWS {
-        let name = row.name;
-        let input = sent(&rt, row)?;
+        let input = sent(&rt, rt.alloc(), row);
         let holds = holds(row, input.as_slice());
-        assert!(rt; holds, "{name}");
+        hold_true(&rt, holds, row.name);
     }
-    Ok(())
 }

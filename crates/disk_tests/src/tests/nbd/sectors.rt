@@ -1,10 +1,13 @@
 //! Disks over four sectors of four bytes, which are kept back until a flush.
 ghost use Rattle.std.specs.Prelude.{◌≡◌, length};
+ghost use Rattle.disk_server.specs.Reading.{AllLasts};
 
-use crate::tests::steps::{Step, does_all};
+use crate::tests::steps::{Step, does_all, does_each};
+use crate::tests::{hold_at, hold_true};
 use disk_server::{ReadOnlyDisk, SectorDisk, Sectors};
 use nbd_stream::{Disk, DiskFault};
 use std::alloc::Global;
+use std::process::Abort;
 
 const SIZE: usize = 16;
 
@@ -136,7 +139,7 @@ struct Row {
 
 const FIRST: &[u8; SIZE] = b"abcdefghijklmnop";
 
-const OTHERS: &[u8; SIZE] = b"ABCDEFGHIJKLMNOP";
+static OTHERS: &[u8; SIZE] = b"ABCDEFGHIJKLMNOP";
 
 const QUIET: Row = Row {
     name: "",
@@ -147,7 +150,7 @@ const QUIET: Row = Row {
     kept: FIRST,
 };
 
-const ROWS: &[Row] = &[
+static ROWS: &[Row] = &[
     Row {
         name: "a part of one sector",
         steps: &[
@@ -252,34 +255,49 @@ const ROWS: &[Row] = &[
     },
 ];
 
-// Whether a disk does all of a row, and has left its device so.
-fn holds(alloc: Global, row: &Row) -> bool {
+// A disk of the first bytes, which all last, over a device that fails so.
+fn disk_of(
+    rt: &impl Abort,
+    alloc: Global,
+    failing: usize,
+    fault: DiskFault,
+) -> SectorDisk<CachedSectors>
+    ensures { AllLasts (record { bytes = result.bytes; durable = result.kept }) }
+{
     let device = CachedSectors {
         bytes: *FIRST,
         kept: *FIRST,
-        failing: row.failing,
-        fault: row.fault,
+        failing,
+        fault,
         asked: 0,
     };
-    let Ok(mut disk) = SectorDisk::new(alloc, device) else {
-        return false;
-    };
-    let size = SIZE as u64;
-    let all = disk.bytes() == size && does_all(&mut disk, size, row.steps);
-    let left = disk.into_sectors();
-    all && left.bytes == *row.bytes && left.kept == *row.kept
+    match SectorDisk::new(alloc, device) {
+        Ok(disk) => disk,
+        Err(_) => panic!(rt; "no memory"),
+    }
+}
+
+fn is_left(device: &CachedSectors, row: &Row) -> bool {
+    device.bytes == *row.bytes && device.kept == *row.kept
+}
+
+// Whether a disk does all of a row, and has left its device so.
+fn holds(rt: &impl Abort, alloc: Global, row: &Row) -> bool {
+    let mut disk = disk_of(rt, alloc, row.failing, row.fault);
+    let all = does_each(&mut disk, SIZE as u64, row.steps);
+    is_left(&disk.into_sectors(), row) && all
 }
 
 #[test]
 fn sectors_by_hand(rt: HostRuntime) {
     for row in ROWS {
-        let name = row.name;
-        assert!(rt; holds(rt.alloc(), row), "{name}");
+        let holds = holds(&rt, rt.alloc(), row);
+        hold_true(&rt, holds, row.name);
     }
 }
 
 // What a disk that is only read is asked, over a device that fails its second call: the first one is a read, and a flush, a rest and a change are none.
-const READING: &[Step] = &[
+static READING: &[Step] = &[
     Step::Flush(Ok(())),
     Step::Read(4, b"efgh", Ok(())),
     Step::Write(0, b"Z", true, Err(DiskFault::ReadOnly)),
@@ -292,25 +310,15 @@ const READING: &[Step] = &[
 ];
 
 // Whether a disk that is only read does all of that.
-fn only_reads(alloc: Global) -> bool {
-    let device = CachedSectors {
-        bytes: *FIRST,
-        kept: *FIRST,
-        failing: 2,
-        fault: DiskFault::NoSpace,
-        asked: 0,
-    };
-    let Ok(disk) = SectorDisk::new(alloc, device) else {
-        return false;
-    };
-    let mut disk = ReadOnlyDisk::new(disk);
+fn only_reads<S: Sectors>(disk: &mut ReadOnlyDisk<S>) -> bool {
     let size = SIZE as u64;
-    disk.bytes() == size && does_all(&mut disk, size, READING)
+    disk.bytes() == size && does_all(disk, size, READING)
 }
 
 #[test]
 fn disks_that_are_only_read(rt: HostRuntime) {
-    assert!(rt; only_reads(rt.alloc()));
+    let mut disk = ReadOnlyDisk::new(disk_of(&rt, rt.alloc(), 2, DiskFault::NoSpace));
+    hold_true(&rt, only_reads(&mut disk), "only read");
 }
 
 // Sets a range of the disk and of a list of bytes, clears the first half of it in both, and tells whether they are the same then.
@@ -330,32 +338,26 @@ fn set_both<D: Disk>(disk: &mut D, plain: &mut [u8; SIZE], start: usize, bytes: 
     written && cleared && given && all == *plain
 }
 
-// Whether each range of a disk is set and cleared as in a list of bytes.
-fn ranges_hold(alloc: Global) -> bool {
-    let device = CachedSectors {
-        bytes: *FIRST,
-        kept: *FIRST,
-        failing: 0,
-        fault: DiskFault::Failed,
-        asked: 0,
-    };
-    let Ok(mut disk) = SectorDisk::new(alloc, device) else {
-        return false;
-    };
-    let mut plain = *FIRST;
+// Whether each range of a disk that starts so is set and cleared as in a list of bytes.
+fn ranges_hold<S: Sectors>(disk: &mut SectorDisk<S>, plain: &mut [u8; SIZE], start: usize) -> bool {
     let mut holds = true;
-    for start in 0..SIZE {
-        for count in 0..=SIZE - start {
-            let letters = if count % 2 == 0 { OTHERS } else { FIRST };
-            let bytes = &letters[start..start + count];
-            holds = disk.bytes() == 16 && set_both(&mut disk, &mut plain, start, bytes) && holds;
-        }
+    for end in start..=SIZE {
+        let letters = if (end - start) % 2 == 0 {
+            OTHERS
+        } else {
+            FIRST
+        };
+        holds = disk.bytes() == 16 && set_both(disk, plain, start, &letters[start..end]) && holds;
     }
     holds
 }
 
 #[test]
 fn every_range(rt: HostRuntime) {
-    let holds = ranges_hold(rt.alloc());
-    assert!(rt; holds);
+    let mut disk = disk_of(&rt, rt.alloc(), 0, DiskFault::Failed);
+    let mut plain = *FIRST;
+    for start in 0..SIZE {
+        let holds = ranges_hold(&mut disk, &mut plain, start);
+        hold_at(&rt, holds, start);
+    }
 }

@@ -1,10 +1,12 @@
 //! A whole session, of a mebibyte of zeros in memory: the default export is chosen, four bytes are written durably, read with a part around them, two
 //! of them are cleared, and they are read again; a read past the end is refused; then a flush, and the end.
-ghost use Rattle.std.specs.Prelude.{◌≡◌, vec_len, IfOk};
+ghost use Rattle.std.specs.Prelude.{◌≡◌, vec_len};
 
 use super::pieces::Pieces;
+use crate::tests::hold_at;
 use nbd_stream::{Export, MemoryDisk, StreamEnd, serve_memory};
-use std::alloc::{AllocError, Global};
+use std::alloc::Global;
+use std::process::Abort;
 
 const SIZE: usize = 1_048_576;
 
@@ -17,7 +19,7 @@ const EXPORT: Export = Export {
     maximum: MOST,
 };
 
-const INPUT: &[u8] = b"\
+static INPUT: &[u8] = b"\
         \x00\x00\x00\x03IHAVEOPT\x00\x00\x00\x07\x00\x00\x00\x06\x00\x00\x00\x00\x00\x00%`\x95\x13\x00\x01\x00\x01\
         \x00\x00\x00\x00\x00\x00\x00\x01\x00\x00\x00\x00\x00\x00\x00\x0a\x00\x00\x00\x04disk%`\x95\x13\x00\x00\x00\
         \x00\x00\x00\x00\x00\x00\x00\x00\x02\x00\x00\x00\x00\x00\x00\x00\x08\x00\x00\x00\x08%`\x95\x13\x00\x00\x00\
@@ -27,7 +29,7 @@ const INPUT: &[u8] = b"\
         \x03\x00\x00\x00\x00\x00\x00\x00\x06\x00\x00\x00\x00\x00\x00\x00\x00\x00\x00\x00\x00%`\x95\x13\x00\x00\x00\
         \x02\x00\x00\x00\x00\x00\x00\x00\x07\x00\x00\x00\x00\x00\x00\x00\x00\x00\x00\x00\x00";
 
-const OUTPUT: &[u8] = b"\
+static OUTPUT: &[u8] = b"\
         NBDMAGICIHAVEOPT\x00\x03\x00\x03\xe8\x89\x04Ue\xa9\x00\x00\x00\x07\x00\x00\x00\x03\x00\x00\x00\x0c\x00\x00\
         \x00\x00\x00\x00\x00\x10\x00\x00\x00m\x00\x03\xe8\x89\x04Ue\xa9\x00\x00\x00\x07\x00\x00\x00\x03\x00\x00\x00\
         \x0e\x00\x03\x00\x00\x00\x01\x00\x00\x10\x00\x00\x01\x00\x00\x00\x03\xe8\x89\x04Ue\xa9\x00\x00\x00\x07\x00\
@@ -43,21 +45,16 @@ fn is_left(bytes: &[u8]) -> bool {
         && bytes.iter().filter(|byte| **byte != 0).count() == 2
 }
 
-fn zeros(alloc: Global, size: usize) -> Result<Vec<u8>, AllocError>
-    ensures { IfOk result (λ bytes. vec_len bytes ≡ size) }
+fn zeros(rt: &impl Abort, alloc: Global, size: usize) -> Vec<u8>
+    ensures { vec_len result ≡ size }
 {
-    Ok(vec![in alloc; 0u8; size]?)
+    vec![in alloc; 0u8; size].expect(rt, "zeros")
 }
 
 // Whether the session is answered as it stands here, its input in pieces of this length.
-fn holds(alloc: Global, piece: usize) -> bool {
-    let Ok(bytes) = zeros(alloc, SIZE) else {
-        return false;
-    };
-    let Ok(mut buffer) = zeros(alloc, MOST as usize) else {
-        return false;
-    };
-    let mut disk = MemoryDisk::new(bytes);
+fn holds(rt: &impl Abort, alloc: Global, piece: usize) -> bool {
+    let mut disk = MemoryDisk::new(zeros(rt, alloc, SIZE));
+    let mut buffer = zeros(rt, alloc, MOST as usize);
     let mut reader = Pieces::new(INPUT, piece, 0);
     let mut out = Vec::new(alloc);
     let answer = serve_memory(&mut reader, &mut out, &mut disk, &EXPORT, &mut buffer);
@@ -67,6 +64,7 @@ fn holds(alloc: Global, piece: usize) -> bool {
 #[test]
 fn session_by_hand(rt: HostRuntime) {
     for piece in [1, 7, 512] {
-        assert!(rt; holds(rt.alloc(), piece), "pieces of {piece}");
+        let holds = holds(&rt, rt.alloc(), piece);
+        hold_at(&rt, holds, piece);
     }
 }

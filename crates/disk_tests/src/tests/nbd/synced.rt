@@ -1,12 +1,14 @@
 //! When a disk is synced: pieces of four bytes, of which two may be changed between two syncs. The calls of its device stand for sequences.
 ghost use Rattle.std.specs.Prelude.{◌≡◌, length};
 
+use crate::tests::device::disks::over;
 use crate::tests::steps::{Step, does_all};
+use crate::tests::{hold_at, hold_true};
 use disk_server::{Lasting, SectorDisk, Sectors, SyncMark, SyncPace, SyncedDisk, Syncs};
 use nbd_stream::DiskFault;
 use std::alloc::Global;
 use std::cell::Cell;
-use std::test::Fail;
+use std::process::Abort;
 
 const SIZE: u64 = 16;
 
@@ -162,7 +164,7 @@ struct Row {
     mark: (u64, u64),
 }
 
-const ROWS: &[Row] = &[
+static ROWS: &[Row] = &[
     Row {
         name: "no more than two pieces",
         failing: 0,
@@ -249,14 +251,12 @@ const UNSYNCED: SyncMark = SyncMark {
 
 // A disk of zeros of which a sync fails, the one of this number, from 1; 0 for none.
 fn counted_disk<'a>(
+    rt: &impl Abort,
     alloc: Global,
     asked: &'a Cell<u64>,
     told: &'a Cell<SyncMark>,
     failing: u64,
-) -> Result<CountedDisk<'a>, Fail> {
-    let Ok(disk) = SectorDisk::new(alloc, PlainSectors::zeros()) else {
-        return Err("no memory")?;
-    };
+) -> CountedDisk<'a> {
     let syncs = CountingSyncs {
         asked,
         told,
@@ -265,7 +265,7 @@ fn counted_disk<'a>(
         failed: 0,
         failing,
     };
-    Ok(SyncedDisk::new(disk, syncs, PACE))
+    SyncedDisk::new(over(rt, alloc, PlainSectors::zeros()), syncs, PACE)
 }
 
 // Whether a disk does all of these steps.
@@ -273,24 +273,27 @@ fn does_each(disk: &mut CountedDisk<'_>, steps: &[Step]) -> bool {
     disk.disk().bytes() == SIZE && does_all(disk, SIZE, steps)
 }
 
+// What was told of syncs: how many were asked for, and the two numbers of the last mark.
+fn told_of(asked: &Cell<u64>, told: &Cell<SyncMark>) -> (u64, u64, u64) {
+    let last = told.get();
+    (asked.get(), last.synced, last.flushed)
+}
+
 // Whether a disk of zeros does all of a row, and asks for so many syncs, the last one with this mark.
-fn holds(alloc: Global, row: &Row) -> Result<bool, Fail> {
+fn holds(rt: &impl Abort, alloc: Global, row: &Row) -> bool {
     let asked = Cell::new(0);
     let told = Cell::new(UNSYNCED);
-    let mut disk = counted_disk(alloc, &asked, &told, row.failing)?;
+    let mut disk = counted_disk(rt, alloc, &asked, &told, row.failing);
     let did = does_each(&mut disk, row.steps);
-    let last = told.get();
-    Ok(did && asked.get() == row.syncs && (last.synced, last.flushed) == row.mark)
+    did && told_of(&asked, &told) == (row.syncs, row.mark.0, row.mark.1)
 }
 
 #[test]
-fn syncs_between_flushes(rt: HostRuntime) -> Result<(), Fail> {
+fn syncs_between_flushes(rt: HostRuntime) {
     for row in ROWS {
-        let holds = holds(rt.alloc(), row)?;
-        let name = row.name;
-        assert!(rt; holds, "{name}");
+        let holds = holds(&rt, rt.alloc(), row);
+        hold_true(&rt, holds, row.name);
     }
-    Ok(())
 }
 
 static FOUR_BYTES: &[Step] = &[Step::Write(0, b"abcd", true, Ok(()))];
@@ -304,16 +307,19 @@ fn closes(disk: &mut CountedDisk<'_>, times: u64, counts: bool) -> bool {
     all
 }
 
-// What a disk that was written with four bytes is marked with once it is closed so often, by whether its mark counts.
-fn closed(alloc: Global, times: u64, counts: bool) -> Result<(u64, u64, u64), Fail> {
+// Whether a disk that was written with four bytes is marked so once it is closed so often, by whether its mark counts.
+fn closes_so(
+    rt: &impl Abort,
+    alloc: Global,
+    times: u64,
+    counts: bool,
+    marked: (u64, u64, u64),
+) -> bool {
     let asked = Cell::new(0);
     let told = Cell::new(UNSYNCED);
-    let mut disk = counted_disk(alloc, &asked, &told, 0)?;
-    if !does_each(&mut disk, FOUR_BYTES) || !closes(&mut disk, times, counts) {
-        return Err("not written or closed")?;
-    }
-    let last = told.get();
-    Ok((asked.get(), last.synced, last.flushed))
+    let mut disk = counted_disk(rt, alloc, &asked, &told, 0);
+    let closed = does_each(&mut disk, FOUR_BYTES) && closes(&mut disk, times, counts);
+    closed && told_of(&asked, &told) == marked
 }
 
 // How often a disk is closed, whether its mark counts, and what it is marked with: a write is marked as synced; a disk that is closed is flushed, and marked so, once where its mark counts, and else
@@ -326,9 +332,9 @@ static CLOSES: &[(u64, bool, (u64, u64, u64))] = &[
 ];
 
 #[test]
-fn closes_once(rt: HostRuntime) -> Result<(), Fail> {
-    for (times, counts, marked) in CLOSES {
-        assert!(rt; closed(rt.alloc(), *times, *counts)? == *marked);
+fn closes_once(rt: HostRuntime) {
+    for (row, (times, counts, marked)) in CLOSES.iter().enumerate() {
+        let holds = closes_so(&rt, rt.alloc(), *times, *counts, *marked);
+        hold_at(&rt, holds, row);
     }
-    Ok(())
 }

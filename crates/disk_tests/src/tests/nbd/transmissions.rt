@@ -1,8 +1,10 @@
 //! Transmissions of a disk of sixteen zeros, with room for eight bytes.
 use super::pieces::Pieces;
+use crate::tests::hold_true;
 use nbd_stream::{Disk, DiskFault, Export, StreamEnd, transmit};
 use request_stream::ServeFault;
 use std::alloc::Global;
+use std::process::Abort;
 
 const SIZE: usize = 16;
 
@@ -107,7 +109,7 @@ const QUIET: Row = Row {
     disk: [0; SIZE],
 };
 
-const ROWS: &[Row] = &[
+static ROWS: &[Row] = &[
     Row {
         name: "a write, and a read around it",
         input: b"%`\x95\x13\x00\x00\x00\x01\x00\x00\x00\x00\x00\x00\x00\x01\x00\x00\x00\x00\x00\x00\x00\x04\x00\x00\x00\x03abc%`\x95\x13\x00\x00\x00\x00\x00\x00\x00\x00\x00\x00\x00\x02\x00\x00\x00\x00\x00\x00\x00\x03\x00\x00\x00\x05",
@@ -271,12 +273,16 @@ fn holds(alloc: Global, row: &Row, piece: usize) -> bool {
     answer == row.answer && out.as_slice() == row.output && disk.bytes == row.disk
 }
 
+fn hold_row(rt: &impl Abort, alloc: Global, row: &Row) {
+    for piece in [1, 9, 512] {
+        let holds = holds(alloc, row, piece);
+        hold_true(rt, holds, row.name);
+    }
+}
+
 #[test]
 fn transmissions_by_hand(rt: HostRuntime) {
     for row in ROWS {
-        let name = row.name;
-        for piece in [1, 9, 512] {
-            assert!(rt; holds(rt.alloc(), row, piece), "{name}");
-        }
+        hold_row(&rt, rt.alloc(), row);
     }
 }

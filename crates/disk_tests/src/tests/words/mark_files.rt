@@ -1,11 +1,11 @@
 //! The file of a mark, as a disk's files are synced.
 
+use crate::tests::hold_true;
 use disk_commands::{FileSyncs, FoundMark, MARK_BYTES, MarkFile, mark_of, none_found, put_blank};
 use disk_server::{SyncMark, Syncs};
 use file_die::{ByteFault, ByteFile, MemoryBytes};
 use std::alloc::Global;
 use std::process::Abort;
-use std::test::*;
 
 // A file in memory, of which a call fails: the write or the sync of this number, from 1 on; none where that is 0.
 #[derive(Drop)]
@@ -66,12 +66,13 @@ impl ByteFile for FailingBytes {
 }
 
 // A file of zeros of which these calls fail; 0 for none.
-fn file_of(alloc: Global, size: usize, write: u32, sync: u32) -> Result<FailingBytes, Fail> {
-    Ok(FailingBytes {
-        bytes: MemoryBytes::new(vec![in alloc; 0u8; size]?),
+fn file_of(rt: &impl Abort, alloc: Global, size: usize, write: u32, sync: u32) -> FailingBytes {
+    let bytes = vec![in alloc; 0u8; size].expect(rt, "a file");
+    FailingBytes {
+        bytes: MemoryBytes::new(bytes),
         write,
         sync,
-    })
+    }
 }
 
 // Which call fails, of the die's file and of the mark's; by the answers to two syncs whether each was done; whether the mark's file is kept still, and the mark that is found in it then.
@@ -85,7 +86,7 @@ struct Row {
 }
 
 // The first sync is of all before sequence 5, and the second, of a flushed disk, of all before 9. The mark was found in the second slot.
-const ROWS: &[Row] = &[
+static ROWS: &[Row] = &[
     Row {
         name: "the first mark stands in both slots, and later ones in the second",
         die_sync: 0,
@@ -143,16 +144,15 @@ fn bytes_in(file: FailingBytes) -> Vec<u8> {
 }
 
 // The bytes of a file that holds no mark.
-fn blank_bytes(alloc: Global) -> Result<Vec<u8>, Fail> {
-    let mut file = file_of(alloc, MARK_BYTES, 0, 0)?;
-    match put_blank(alloc, &mut file) {
-        Ok(()) => Ok(bytes_in(file)),
-        Err(_) => Err("no blank file")?,
-    }
+fn blank_bytes(rt: &impl Abort, alloc: Global) -> Vec<u8> {
+    let mut file = file_of(rt, alloc, MARK_BYTES, 0, 0);
+    let put = put_blank(alloc, &mut file).is_ok();
+    hold_true(rt, put, "a blank file");
+    bytes_in(file)
 }
 
 // The files of a disk whose mark was found in the second slot of a file of these bytes.
-fn syncs_of(alloc: Global, row: &Row, bytes: Vec<u8>) -> Result<FileSyncs<FailingBytes>, Fail> {
+fn syncs_of(rt: &impl Abort, alloc: Global, row: &Row, bytes: Vec<u8>) -> FileSyncs<FailingBytes> {
     let file = FailingBytes {
         bytes: MemoryBytes::new(bytes),
         write: row.write,
@@ -162,8 +162,8 @@ fn syncs_of(alloc: Global, row: &Row, bytes: Vec<u8>) -> Result<FileSyncs<Failin
         synced: 3,
         flushed: 0,
     };
-    let die = file_of(alloc, 0, 0, row.die_sync)?;
-    Ok(FileSyncs::new(die).with_mark(Some(MarkFile::new(file, true)), first))
+    let die = file_of(rt, alloc, 0, 0, row.die_sync);
+    FileSyncs::new(die).with_mark(Some(MarkFile::new(file, true)), first)
 }
 
 // The mark that is found in a file that is kept still.
@@ -192,18 +192,19 @@ fn syncs_so(mut syncs: FileSyncs<FailingBytes>, row: &Row) -> bool {
 }
 
 // Whether a row is as it says.
-fn holds(alloc: Global, row: &Row) -> Result<bool, Fail> {
-    let blank = blank_bytes(alloc)?;
-    let blank_holds_none = mark_of(Some(&blank)) == none_found();
-    Ok(syncs_so(syncs_of(alloc, row, blank)?, row) && blank_holds_none)
+fn holds(rt: &impl Abort, alloc: Global, row: &Row) -> bool {
+    let blank = blank_bytes(rt, alloc);
+    let holds_none = mark_of(Some(&blank)) == none_found();
+    hold_true(rt, holds_none, "a blank file");
+    syncs_so(syncs_of(rt, alloc, row, blank), row)
 }
 
 #[test]
-fn marks_follow_their_syncs(rt: HostRuntime) -> Result<(), Fail> {
+fn marks_follow_their_syncs(rt: HostRuntime) {
     for row in ROWS {
-        assert!(rt; holds(rt.alloc(), row)?, "{}", row.name);
+        let holds = holds(&rt, rt.alloc(), row);
+        hold_true(&rt, holds, row.name);
     }
-    Ok(())
 }
 
 // A file of so many bytes, of which these calls fail, and why it is not taken.
@@ -214,10 +215,10 @@ static REFUSED: &[(usize, u32, u32, &str)] = &[
 ];
 
 #[test]
-fn blank_file_wants_room_and_a_sync(rt: HostRuntime) -> Result<(), Fail> {
+fn blank_file_wants_room_and_a_sync(rt: HostRuntime) {
     for (size, write, sync, why) in REFUSED {
-        let mut file = file_of(rt.alloc(), *size, *write, *sync)?;
-        assert!(rt; put_blank(rt.alloc(), &mut file).is_err(), "{why}");
+        let mut file = file_of(&rt, rt.alloc(), *size, *write, *sync);
+        let refused = put_blank(rt.alloc(), &mut file).is_err();
+        hold_true(&rt, refused, why);
     }
-    Ok(())
 }

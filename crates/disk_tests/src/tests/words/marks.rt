@@ -1,10 +1,10 @@
 //! The file of a mark, by what its two slots hold.
 
+use crate::tests::{hold_at, hold_true};
 use disk_commands::{FoundMark, MARK_BYTES, mark_of, none_found, slot_bytes};
 use disk_server::SyncMark;
 use std::alloc::Global;
 use std::process::Abort;
-use std::test::*;
 
 const SLOT: usize = 32;
 
@@ -19,7 +19,7 @@ enum Slot {
 }
 
 // Two slots, and the mark that is found, with its slot; none where both hold none.
-const ROWS: &[(Slot, Slot, Option<(u64, u64, bool)>)] = &[
+static ROWS: &[(Slot, Slot, Option<(u64, u64, bool)>)] = &[
     (Slot::Blank, Slot::Blank, None),
     (Slot::Whole(7, 5), Slot::Blank, Some((7, 5, false))),
     (Slot::Blank, Slot::Whole(7, 5), Some((7, 5, true))),
@@ -55,6 +55,11 @@ const ROWS: &[(Slot, Slot, Option<(u64, u64, bool)>)] = &[
     (Slot::Torn(255, 256, 1), Slot::Torn(255, 256, 1), None),
 ];
 
+// The slot of a mark.
+fn slot_of(synced: u64, flushed: u64) -> [u8; SLOT] {
+    slot_bytes(SyncMark { synced, flushed })
+}
+
 // The bytes of a slot.
 fn bytes_of(slot: Slot) -> [u8; SLOT] {
     match slot {
@@ -63,20 +68,8 @@ fn bytes_of(slot: Slot) -> [u8; SLOT] {
             blank[0] = 1;
             blank
         }
-        Slot::Whole(synced, flushed) => slot_bytes(SyncMark { synced, flushed }),
-        Slot::Torn(old, new, count) => {
-            let (old, new) = (
-                SyncMark {
-                    synced: old,
-                    flushed: 0,
-                },
-                SyncMark {
-                    synced: new,
-                    flushed: 0,
-                },
-            );
-            torn(&slot_bytes(old), &slot_bytes(new), count)
-        }
+        Slot::Whole(synced, flushed) => slot_of(synced, flushed),
+        Slot::Torn(old, new, count) => torn(&slot_of(old, 0), &slot_of(new, 0), count),
     }
 }
 
@@ -92,11 +85,11 @@ fn torn(old: &[u8; SLOT], new: &[u8; SLOT], count: usize) -> [u8; SLOT] {
 }
 
 // The file of two slots.
-fn file_of(alloc: Global, first: Slot, second: Slot) -> Result<Vec<u8>, Fail> {
-    let mut bytes = vec![in alloc; 0u8; MARK_BYTES]?;
+fn file_of(rt: &impl Abort, alloc: Global, first: Slot, second: Slot) -> Vec<u8> {
+    let mut bytes = vec![in alloc; 0u8; MARK_BYTES].expect(rt, "a file");
     bytes[..SLOT].copy_from_slice(&bytes_of(first));
     bytes[SECOND..].copy_from_slice(&bytes_of(second));
-    Ok(bytes)
+    bytes
 }
 
 // What is found.
@@ -111,35 +104,27 @@ fn found_of(wanted: Option<(u64, u64, bool)>) -> FoundMark {
 }
 
 #[test]
-fn marks_are_found(rt: HostRuntime) -> Result<(), Fail> {
-    for (at, row) in ROWS.iter().enumerate() {
-        let bytes = file_of(rt.alloc(), row.0, row.1)?;
-        assert!(rt; mark_of(Some(&bytes)) == found_of(row.2), "row {at}");
+fn marks_are_found(rt: HostRuntime) {
+    for (at, (first, second, wanted)) in ROWS.iter().enumerate() {
+        let bytes = file_of(&rt, rt.alloc(), *first, *second);
+        hold_at(&rt, mark_of(Some(&bytes)) == found_of(*wanted), at);
     }
-    Ok(())
 }
 
+// The slot of the mark 258, 3.
+static SPELLED: &[u8; SLOT] =
+    b"\x02\x01\0\0\0\0\0\0\x02\x01\0\0\0\0\0\0\x03\0\0\0\0\0\0\0\x03\0\0\0\0\0\0\0";
+
 #[test]
-fn other_files_are_no_marks(rt: HostRuntime) -> Result<(), Fail> {
-    assert!(rt;
-        none_found().mark.synced == 18_446_744_073_709_551_615,
-        "all counts as synced"
+fn other_files_are_no_marks(rt: HostRuntime) {
+    let none = none_found();
+    hold_true(
+        &rt,
+        none.mark.synced == 18_446_744_073_709_551_615,
+        "all counts as synced",
     );
-    assert!(rt; none_found().mark.flushed == 0, "nothing counts as flushed");
-    assert!(rt; mark_of(None) == none_found(), "no file");
-    assert!(rt;
-        mark_of(Some(&slot_bytes(SyncMark {
-            synced: 7,
-            flushed: 5
-        }))) == none_found(),
-        "a slot alone"
-    );
-    assert!(rt;
-        slot_bytes(SyncMark {
-            synced: 258,
-            flushed: 3
-        }) == *b"\x02\x01\0\0\0\0\0\0\x02\x01\0\0\0\0\0\0\x03\0\0\0\0\0\0\0\x03\0\0\0\0\0\0\0",
-        "the bytes of a slot"
-    );
-    Ok(())
+    hold_true(&rt, none.mark.flushed == 0, "nothing counts as flushed");
+    hold_true(&rt, mark_of(None) == none, "no file");
+    hold_true(&rt, mark_of(Some(&slot_of(7, 5))) == none, "a slot alone");
+    hold_true(&rt, slot_of(258, 3) == *SPELLED, "the bytes of a slot");
 }

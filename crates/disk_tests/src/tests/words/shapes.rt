@@ -1,7 +1,6 @@
 //! Sizes as words write them, and the shapes for them.
-use disk_commands::{DiskShape, SizeFault, SizeWordFault, shape_for, size_from};
-use std::process::Abort;
-use std::test::*;
+use crate::tests::{hold_at, hold_true};
+use disk_commands::{DiskShape, SizeFault, SizeWordFault, shape_for, share_for, size_from};
 
 type Said = Result<u64, SizeWordFault>;
 
@@ -76,74 +75,69 @@ static SIZES: &[(&str, Said)] = &[
 #[test]
 fn sizes_are_read(rt: HostRuntime) {
     for (word, said) in SIZES {
-        assert!(rt; size_from(word) == *said, "{word}");
+        hold_true(&rt, size_from(word) == *said, word);
     }
 }
 
 // A share, a size, and the pages of a block, blocks, sectors and cache of its shape.
-const SHAPES: &[(u32, u64, u32, u32, u32, u32)] = &[
-    (0, 1, 64, 13, 1, 64),
-    (0, 4096, 64, 13, 1, 64),
-    (0, 4097, 64, 13, 2, 64),
-    (0, 64 << 20, 64, 370, 16_384, 16_384),
-    (0, 255 << 20, 64, 2156, 65_280, 65_280),
-    (0, 256 << 20, 64, 2165, 65_536, 65_280),
-    (0, (256 << 20) + 1, 64, 2165, 65_537, 57_344),
-    (0, 509_349_888, 64, 4095, 124_353, 57_344),
-    (0, 509_349_889, 128, 2053, 124_354, 57_344),
-    (0, 1_018_724_352, 128, 4095, 248_712, 57_344),
-    (0, 1_018_724_353, 256, 2053, 248_713, 57_344),
-    (0, 1 << 30, 256, 2165, 262_144, 57_344),
-    (0, 2_037_469_184, 256, 4095, 497_429, 57_344),
-    (1, 64 << 20, 64, 364, 16_384, 16_384),
-    (15, 1, 64, 15, 1, 64),
-    (15, 4097, 64, 15, 2, 64),
-    (15, 64 << 20, 64, 295, 16_384, 16_384),
-    (15, 256 << 20, 64, 1135, 65_536, 65_280),
-    (15, (256 << 20) + 1, 64, 1136, 65_537, 56_369),
-    (15, 977_149_952, 64, 4096, 238_562, 53_849),
-    (15, 977_149_953, 128, 2055, 238_563, 53_849),
-    (15, 1 << 30, 128, 2257, 262_144, 53_504),
-    (15, 1_954_320_384, 128, 4096, 477_129, 50_354),
-    (15, 1_954_320_385, 256, 2046, 477_130, 50_354),
-    (15, 2 << 30, 256, 2247, 524_288, 49_664),
-    (15, 3 << 30, 256, 3365, 786_432, 45_824),
-    (15, 3_924_946_944, 256, 4096, 958_239, 43_304),
+static SHAPES: &[(u32, u64, [u32; 4])] = &[
+    (0, 1, [64, 13, 1, 64]),
+    (0, 4096, [64, 13, 1, 64]),
+    (0, 4097, [64, 13, 2, 64]),
+    (0, 64 << 20, [64, 370, 16_384, 16_384]),
+    (0, 255 << 20, [64, 2156, 65_280, 65_280]),
+    (0, 256 << 20, [64, 2165, 65_536, 65_280]),
+    (0, (256 << 20) + 1, [64, 2165, 65_537, 57_344]),
+    (0, 509_349_888, [64, 4095, 124_353, 57_344]),
+    (0, 509_349_889, [128, 2053, 124_354, 57_344]),
+    (0, 1_018_724_352, [128, 4095, 248_712, 57_344]),
+    (0, 1_018_724_353, [256, 2053, 248_713, 57_344]),
+    (0, 1 << 30, [256, 2165, 262_144, 57_344]),
+    (0, 2_037_469_184, [256, 4095, 497_429, 57_344]),
+    (1, 64 << 20, [64, 364, 16_384, 16_384]),
+    (15, 1, [64, 15, 1, 64]),
+    (15, 4097, [64, 15, 2, 64]),
+    (15, 64 << 20, [64, 295, 16_384, 16_384]),
+    (15, 256 << 20, [64, 1135, 65_536, 65_280]),
+    (15, (256 << 20) + 1, [64, 1136, 65_537, 56_369]),
+    (15, 977_149_952, [64, 4096, 238_562, 53_849]),
+    (15, 977_149_953, [128, 2055, 238_563, 53_849]),
+    (15, 1 << 30, [128, 2257, 262_144, 53_504]),
+    (15, 1_954_320_384, [128, 4096, 477_129, 50_354]),
+    (15, 1_954_320_385, [256, 2046, 477_130, 50_354]),
+    (15, 2 << 30, [256, 2247, 524_288, 49_664]),
+    (15, 3 << 30, [256, 3365, 786_432, 45_824]),
+    (15, 3_924_946_944, [256, 4096, 958_239, 43_304]),
     // no block is over
-    (15, 3_924_946_945, 256, 4096, 958_240, 43_304),
-    (15, 4_023_562_240, 256, 4096, 982_315, 42_944),
-    (22, 3900 << 20, 256, 4096, 998_400, 35_894),
+    (15, 3_924_946_945, [256, 4096, 958_240, 43_304]),
+    (15, 4_023_562_240, [256, 4096, 982_315, 42_944]),
+    (22, 3900 << 20, [256, 4096, 998_400, 35_894]),
 ];
 
-fn is_shape(shape: &DiskShape, pages: u32, blocks: u32, sectors: u32, cache: u32) -> bool {
+// Whether a shape has pages of 4,096 and 128 bytes, this share, and these numbers.
+fn is_shape(shape: &DiskShape, share: u32, numbers: [u32; 4]) -> bool {
     let die = shape.geometry;
-    die.data_bytes() == 4096
-        && die.spare_bytes() == 128
-        && die.pages() == pages
-        && die.blocks() == blocks
-        && die.sectors() == sectors
-        && shape.cache == cache
+    let sizes = [die.data_bytes(), die.spare_bytes()];
+    let its = [die.pages(), die.blocks(), die.sectors(), shape.cache];
+    sizes == [4096, 128] && its == numbers && shape.share == share
 }
 
-fn has_shape(share: u32, bytes: u64, pages: u32, blocks: u32, sectors: u32, cache: u32) -> bool {
+fn has_shape(share: u32, bytes: u64, numbers: [u32; 4]) -> bool {
     match shape_for(bytes, share) {
-        Ok(shape) => is_shape(&shape, pages, blocks, sectors, cache) && shape.share == share,
+        Ok(shape) => is_shape(&shape, share, numbers),
         Err(_) => false,
     }
 }
 
 #[test]
 fn shapes_follow_from_sizes(rt: HostRuntime) {
-    for (share, bytes, pages, blocks, sectors, cache) in SHAPES {
-        assert!(rt;
-            has_shape(*share, *bytes, *pages, *blocks, *sectors, *cache),
-            "{share}: {bytes}"
-        );
+    for (row, (share, bytes, numbers)) in SHAPES.iter().enumerate() {
+        hold_at(&rt, has_shape(*share, *bytes, *numbers), row);
     }
 }
 
 // Sizes that no shape is for.
-const REFUSED: &[(u32, u64, SizeFault)] = &[
+static REFUSED: &[(u32, u64, SizeFault)] = &[
     (0, 0, SizeFault::Zero),
     (0, 2_037_469_185, SizeFault::TooLarge),
     (0, 1 << 31, SizeFault::TooLarge),
@@ -157,10 +151,31 @@ const REFUSED: &[(u32, u64, SizeFault)] = &[
 
 #[test]
 fn sizes_without_a_shape(rt: HostRuntime) {
-    for (share, bytes, fault) in REFUSED {
-        assert!(rt;
-            shape_for(*bytes, *share) == Err(*fault),
-            "{share}: {bytes}"
-        );
+    for (row, (share, bytes, fault)) in REFUSED.iter().enumerate() {
+        hold_at(&rt, shape_for(*bytes, *share) == Err(*fault), row);
+    }
+}
+
+// A size, and the share of a new disk of it.
+static NEW_SHARES: &[(u64, u32)] = &[
+    (0, 15),
+    (1, 15),
+    (256 << 20, 15),
+    (4_023_562_240, 15),
+    (4_023_562_241, 17),
+    (4_040_257_537, 18),
+    (3900 << 20, 22),
+    (4_190_515_200, 49),
+    (4_190_515_201, 62),
+    (4_207_210_496, 62),
+    // no die has room
+    (4_207_210_497, 15),
+    (u64::MAX, 15),
+];
+
+#[test]
+fn new_disks_have_the_least_share_that_serves(rt: HostRuntime) {
+    for (row, (bytes, share)) in NEW_SHARES.iter().enumerate() {
+        hold_at(&rt, share_for(*bytes) == *share, row);
     }
 }

@@ -1,12 +1,11 @@
 //! The file beside a disk, written and read.
+use crate::tests::{hold_at, hold_true};
 use disk_commands::{DiskText, Member, ShapeFault, read_shape, shape_for, write_shape};
 use page_layout::geometry::GeometryFault;
 use std::alloc::Global;
-use std::process::Abort;
-use std::test::*;
 
 // A share, a size, and the text of its shape.
-const TEXTS: &[(u32, u64, &str)] = &[
+static TEXTS: &[(u32, u64, &str)] = &[
     (
         0,
         1,
@@ -53,12 +52,12 @@ fn goes_round(alloc: Global, share: u32, bytes: u64, wanted: &str) -> bool {
 #[test]
 fn shapes_are_written_and_read(rt: HostRuntime) {
     for (share, bytes, text) in TEXTS {
-        assert!(rt; goes_round(rt.alloc(), *share, *bytes, text), "{text}");
+        hold_true(&rt, goes_round(rt.alloc(), *share, *bytes, text), text);
     }
 }
 
 // Other texts of the small shape, and whether each is of version 2.
-const SAME: &[(bool, &str)] = &[
+static SAME: &[(bool, &str)] = &[
     (
         false,
         "{\"cache\":64,\"geometry\":\"4096,128,64,13,1\",\"version\":1}\n",
@@ -96,11 +95,11 @@ fn is_small(alloc: Global, marked: bool, text: &str) -> bool {
 #[test]
 fn other_texts_of_a_shape(rt: HostRuntime) {
     for (marked, text) in SAME {
-        assert!(rt; is_small(rt.alloc(), *marked, text), "{text}");
+        hold_true(&rt, is_small(rt.alloc(), *marked, text), text);
     }
 }
 
-const FAULTS: &[(&[u8], ShapeFault)] = &[
+static FAULTS: &[(&[u8], ShapeFault)] = &[
     (b"", ShapeFault::NotJson),
     (b"{", ShapeFault::NotJson),
     (b"{} {}", ShapeFault::NotJson),
@@ -197,7 +196,7 @@ const FAULTS: &[(&[u8], ShapeFault)] = &[
 ];
 
 // Shares that disks may have: as many as one translation page allows; with a cache that leaves just room for all that may be stale; and with share 0 beside any cache.
-const SHARED: &[(u32, &[u8])] = &[
+static SHARED: &[(u32, &[u8])] = &[
     (
         65_471,
         b"{\"cache\":64,\"code\":\"none\",\"geometry\":\"4096,128,64,13,1\",\"lost\":false,\"share\":65471,\"version\":2}",
@@ -212,20 +211,27 @@ const SHARED: &[(u32, &[u8])] = &[
     ),
 ];
 
+fn has_share(alloc: Global, text: &[u8], share: u32) -> bool {
+    match read_shape(alloc, text) {
+        Ok(told) => told.shape.share == share,
+        Err(_) => false,
+    }
+}
+
 #[test]
 fn shares_are_read(rt: HostRuntime) {
-    for (share, text) in SHARED {
-        let read = match read_shape(rt.alloc(), text) {
-            Ok(told) => told.shape.share == *share,
-            Err(_) => false,
-        };
-        assert!(rt; read, "{share}");
+    for (row, (share, text)) in SHARED.iter().enumerate() {
+        hold_at(&rt, has_share(rt.alloc(), text, *share), row);
     }
+}
+
+fn is_refused(alloc: Global, text: &[u8], fault: ShapeFault) -> bool {
+    read_shape(alloc, text) == Err(fault)
 }
 
 #[test]
 fn each_fault_is_named(rt: HostRuntime) {
     for (number, (text, fault)) in FAULTS.iter().enumerate() {
-        assert!(rt; read_shape(rt.alloc(), text) == Err(*fault), "row {number}");
+        hold_at(&rt, is_refused(rt.alloc(), text, *fault), number);
     }
 }

@@ -1,10 +1,9 @@
 //! The words of `nanddisk`.
+use crate::tests::hold_at;
 use disk_commands::{
     Code, CreateWords, DiskServeWords, DiskWords, GrammarFault, InfoWords, MakeWords, parse,
 };
 use std::alloc::Global;
-use std::process::Abort;
-use std::test::*;
 
 // Words, and what they ask for, word by word; of a text how it begins. The disk is `d`.
 static ROWS: [(&[&str], &[&str]); 43] = [
@@ -179,6 +178,6 @@ fn holds(alloc: Global, words: &[&str], told: &[&str]) -> bool {
 #[test]
 fn words_ask_for_commands(rt: HostRuntime) {
     for (number, (words, told)) in ROWS.iter().enumerate() {
-        assert!(rt; holds(rt.alloc(), words, told), "row {number}");
+        hold_at(&rt, holds(rt.alloc(), words, told), number);
     }
 }

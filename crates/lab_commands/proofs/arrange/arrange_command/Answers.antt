@@ -5,15 +5,17 @@ use Rattle.lab_commands.proofs.PrintLemmas.{done_by, undone_by}
 use Rattle.lab_commands.specs.Reports.{arrange_text}
 use Rattle.lab_commands.specs.Arrange.{IsArrangeFault, WroteArranged}
 use Rattle.lab_commands.specs.Undone.{form_of}
-use Rattle.lab_commands.proofs.UndoneLemmas.{handed_on, left_all}
+use Rattle.lab_commands.proofs.UndoneLemmas.{left_all, handed}
 use Rattle.lab_commands.proofs.arrange.arrange_command.Goals as goal
 
-pub returns-in_err-geometry-clause-fault : goal.returns-in_err-geometry-clause-fault
-returns-in_err-geometry-clause-fault g c =
+pub returns-in_err-geometry : goal.returns-in_err-geometry
+returns-in_err-geometry g c =
     let o = g.W.Output.contents c.args.out.now in
     let a = g.F.LabFiles.answers c.args.files.now in
-    handed_on (IsArrangeFault a c.args.words (g.F.LabFiles.kept c.args.files.now) (g.F.LabFiles.kept c.place.new.files) (g.F.LabFiles.opened c.args.files.now) (g.F.LabFiles.opened c.place.new.files) (g.W.Output.failed c.args.out.now) o o) _ _ c.from_residual.ensures.1
-    (inl (left_all _ _ o c.in_err-geometry.ensures.kept, c.in_err-geometry.ensures.fault))
+    rw (handed c.from_residual.result _ c.from_residual.ensures.1) (record {
+      ok = tt;
+      fault = (inl (left_all _ _ o c.in_err-geometry.ensures.kept, c.in_err-geometry.ensures.fault));
+    })
 
 pub returns : goal.returns
 returns g c =

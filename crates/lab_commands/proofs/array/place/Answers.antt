@@ -1,45 +1,75 @@
 use Rattle.std.proofs.Common.{refl, inl, inr, ap, subst, ◌∙◌}
 use Rattle.lab_commands.specs.Files.{AnswersNoMore, with_kept}
 use Rattle.lab_commands.specs.Undone.{IsFileUnmade}
-use Rattle.lab_commands.specs.Array.{IsArrayMade, IsUndone}
+use Rattle.lab_commands.specs.Array.{IsArrayMade}
 use Rattle.lab_commands.specs.declared.text.LabFault.TheVariants as fault
-use Rattle.lab_commands.proofs.UndoneLemmas.{handed_on, no_more_then, unplaced_before}
+use Rattle.lab_commands.proofs.UndoneLemmas.{no_more_then, unplaced_before, handed}
 use Rattle.lab_commands.proofs.array.place.Goals as goal
 
-pub returns-in_err-geometry-clause-fault : goal.returns-in_err-geometry-clause-fault
-returns-in_err-geometry-clause-fault g c =
-    handed_on (IsUndone (g.F.LabFiles.answers c.args.files.now) c.args.words (g.F.LabFiles.opened c.args.files.now) (g.F.LabFiles.opened c.args.files.now)) _ _ c.from_residual.ensures.1
-    (inl c.in_err-geometry.ensures.fault)
+pub returns-in_err-geometry : goal.returns-in_err-geometry
+returns-in_err-geometry g c =
+    rw (handed c.from_residual.result _ c.from_residual.ensures.1) (record {
+      placed = tt;
+      sized = tt;
+      fault = (inl c.in_err-geometry.ensures.fault);
+      no_more = tt;
+      kept = refl;
+    })
 
-pub returns-in_err-last-clause-fault : goal.returns-in_err-last-clause-fault
-returns-in_err-last-clause-fault g c =
-    handed_on (IsUndone (g.F.LabFiles.answers c.args.files.now) c.args.words (g.F.LabFiles.opened c.args.files.now) (g.F.LabFiles.opened c.args.files.now)) _ _ c.from_residual-in_err-last.ensures.1
-    (inr (c.in_ok-geometry.geometry, c.in_ok-geometry.ensures.ok, inl c.in_err-last.ensures.fault))
+pub returns-in_err-last : goal.returns-in_err-last
+returns-in_err-last g c =
+    rw (handed c.from_residual-in_err-last.result _ c.from_residual-in_err-last.ensures.1) (record {
+      placed = tt;
+      sized = tt;
+      fault = (inr (c.in_ok-geometry.geometry, c.in_ok-geometry.ensures.ok, inl c.in_err-last.ensures.fault));
+      no_more = tt;
+      kept = refl;
+    })
 
-pub returns-in_err-allow_both-clause-fault : goal.returns-in_err-allow_both-clause-fault
-returns-in_err-allow_both-clause-fault g c =
-    handed_on (IsUndone (g.F.LabFiles.answers c.args.files.now) c.args.words (g.F.LabFiles.opened c.args.files.now) (g.F.LabFiles.opened c.allow_both.new.files)) _ _ c.from_residual-in_err-allow_both.ensures.1
-    (inr (c.in_ok-geometry.geometry, c.in_ok-geometry.ensures.ok, inr (c.in_ok-last.last, c.in_ok-last.ensures.ok, inl c.in_err-allow_both.ensures.fault)))
+pub returns-in_err-allow_both : goal.returns-in_err-allow_both
+returns-in_err-allow_both g c =
+    rw (handed c.from_residual-in_err-allow_both.result _ c.from_residual-in_err-allow_both.ensures.1) (record {
+      placed = tt;
+      sized = tt;
+      fault = (inr (c.in_ok-geometry.geometry, c.in_ok-geometry.ensures.ok, inr (c.in_ok-last.last, c.in_ok-last.ensures.ok, inl c.in_err-allow_both.ensures.fault)));
+      no_more = tt;
+      kept = ap g.F.LabFiles.kept c.allow_both.ensures.same;
+    })
 
-pub returns-in_err-room-clause-fault : goal.returns-in_err-room-clause-fault
-returns-in_err-room-clause-fault g c =
-    handed_on (IsUndone (g.F.LabFiles.answers c.args.files.now) c.args.words (g.F.LabFiles.opened c.args.files.now) (g.F.LabFiles.opened c.allow_both.new.files)) _ fault.OutOfMemory c.from_residual-in_err-room.ensures.1
-    (inr (c.in_ok-geometry.geometry, c.in_ok-geometry.ensures.ok, inr (c.in_ok-last.last, c.in_ok-last.ensures.ok, inr (c.in_ok-allow_both.ensures.ok, inl (refl, ap g.F.LabFiles.opened c.in_ok-allow_both.ensures.same)))))
+pub returns-in_err-room : goal.returns-in_err-room
+returns-in_err-room g c =
+    rw (handed c.from_residual-in_err-room.result fault.OutOfMemory c.from_residual-in_err-room.ensures.1) (record {
+      placed = tt;
+      sized = tt;
+      fault = (inr (c.in_ok-geometry.geometry, c.in_ok-geometry.ensures.ok, inr (c.in_ok-last.last, c.in_ok-last.ensures.ok, inr (c.in_ok-allow_both.ensures.ok, inl (refl, ap g.F.LabFiles.opened c.in_ok-allow_both.ensures.same)))));
+      no_more = tt;
+      kept = ap g.F.LabFiles.kept c.allow_both.ensures.same;
+    })
 
-pub returns-in_err-written-clause-fault : goal.returns-in_err-written-clause-fault
-returns-in_err-written-clause-fault g c =
+pub returns-in_err-written : goal.returns-in_err-written
+returns-in_err-written g c =
     let words = c.args.words.array in
     let why = subst (λ f. IsFileUnmade (g.F.LabFiles.answers f) c.in_ok-geometry.geometry words.dump.now words.out.now c.in_err-written.field-0.0) c.in_ok-allow_both.ensures.same c.in_err-written.ensures.fault in
-    handed_on (IsUndone (g.F.LabFiles.answers c.args.files.now) c.args.words (g.F.LabFiles.opened c.args.files.now) (g.F.LabFiles.opened c.make.new.files)) _ _ c.from_residual-in_err-written.ensures.1
-    (inr (c.in_ok-geometry.geometry, c.in_ok-geometry.ensures.ok, inr (c.in_ok-last.last, c.in_ok-last.ensures.ok, inr (c.in_ok-allow_both.ensures.ok, inr (inl why)))))
+    rw (handed c.from_residual-in_err-written.result _ c.from_residual-in_err-written.ensures.1) (record {
+      placed = tt;
+      sized = tt;
+      fault = (inr (c.in_ok-geometry.geometry, c.in_ok-geometry.ensures.ok, inr (c.in_ok-last.last, c.in_ok-last.ensures.ok, inr (c.in_ok-allow_both.ensures.ok, inr (inl why)))));
+      no_more = tt;
+      kept = c.in_err-written.ensures.kept ∙ ap g.F.LabFiles.kept c.allow_both.ensures.same;
+    })
 
-pub returns-in_err-keep-clause-fault : goal.returns-in_err-keep-clause-fault
-returns-in_err-keep-clause-fault g c =
+pub returns-in_err-keep : goal.returns-in_err-keep
+returns-in_err-keep g c =
     let words = c.args.words.array in
     let b = g.F.LabFiles.answers c.make.new.files in
     let why = unplaced_before (g.F.LabFiles.answers c.args.files.now) b words.out.now words.force c.in_err-keep.field-0.0 (subst (λ f. AnswersNoMore (g.F.LabFiles.answers f) b) c.in_ok-allow_both.ensures.same c.in_ok-written.ensures.no_more) c.in_err-keep.ensures.fault in
-    handed_on (IsUndone (g.F.LabFiles.answers c.args.files.now) c.args.words (g.F.LabFiles.opened c.args.files.now) (g.F.LabFiles.opened c.keep.new.files)) _ _ c.from_residual-in_err-keep.ensures.1
-    (inr (c.in_ok-geometry.geometry, c.in_ok-geometry.ensures.ok, inr (c.in_ok-last.last, c.in_ok-last.ensures.ok, inr (c.in_ok-allow_both.ensures.ok, inr (inr why)))))
+    rw (handed c.from_residual-in_err-keep.result _ c.from_residual-in_err-keep.ensures.1) (record {
+      placed = tt;
+      sized = tt;
+      fault = (inr (c.in_ok-geometry.geometry, c.in_ok-geometry.ensures.ok, inr (c.in_ok-last.last, c.in_ok-last.ensures.ok, inr (c.in_ok-allow_both.ensures.ok, inr (inr why)))));
+      no_more = tt;
+      kept = c.in_err-keep.ensures.kept ∙ (c.in_ok-written.ensures.beside ∙ ap g.F.LabFiles.kept c.allow_both.ensures.same);
+    })
 
 pub returns-clause-placed : goal.returns-clause-placed
 returns-clause-placed g c =

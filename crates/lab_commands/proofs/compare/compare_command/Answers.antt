@@ -4,15 +4,18 @@ use Rattle.lab_commands.proofs.PrintLemmas.{done_by, undone_by}
 use Rattle.lab_commands.specs.Reports.{compare_text}
 use Rattle.lab_commands.specs.Compare.{IsCompareFault, ToldCompared}
 use Rattle.lab_commands.specs.Undone.{form_of}
-use Rattle.lab_commands.proofs.UndoneLemmas.{handed_on, left_all}
+use Rattle.lab_commands.proofs.UndoneLemmas.{left_all, handed}
 use Rattle.lab_commands.proofs.compare.compare_command.Goals as goal
 
-pub returns-in_err-held-clause-fault : goal.returns-in_err-held-clause-fault
-returns-in_err-held-clause-fault g c =
+pub returns-in_err-held : goal.returns-in_err-held
+returns-in_err-held g c =
     let o = g.W.Output.contents c.args.out.now in
     let a = g.F.LabFiles.answers c.args.files.now in
-    handed_on (IsCompareFault a c.args.words (g.F.LabFiles.kept c.args.files.now) (g.F.LabFiles.kept c.hold.new.files) (g.F.LabFiles.opened c.args.files.now) (g.F.LabFiles.opened c.hold.new.files) (g.W.Output.failed c.args.out.now) o o) _ _ c.from_residual.ensures.1
-    (inl (left_all _ _ o c.in_err-held.ensures.kept, c.in_err-held.ensures.fault))
+    rw (handed c.from_residual.result _ c.from_residual.ensures.1) (record {
+      ok = tt;
+      kept = c.hold.ensures.kept;
+      fault = (inl (left_all _ _ o c.in_err-held.ensures.kept, c.in_err-held.ensures.fault));
+    })
 
 pub returns : goal.returns
 returns g c =

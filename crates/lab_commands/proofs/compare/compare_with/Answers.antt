@@ -1,13 +1,17 @@
 use Rattle.std.proofs.Common.{inl, inr, refl, rules}
 use Rattle.certificate.specs.Claim.{sizes_of}
-use Rattle.lab_commands.specs.Compare.{IsDumpUnheld}
 use Rattle.lab_commands.proofs.CompareLemmas.{same_sizes}
-use Rattle.lab_commands.proofs.UndoneLemmas.{handed_on}
+use Rattle.lab_commands.proofs.UndoneLemmas.{handed}
 use Rattle.lab_commands.proofs.compare.compare_with.Goals as goal
 
-pub returns-in_err-reader-clause-fault : goal.returns-in_err-reader-clause-fault
-returns-in_err-reader-clause-fault g c =
-    handed_on (IsDumpUnheld (g.F.LabFiles.answers c.args.files.now) c.args.geometry.now c.args.certificate.now c.args.dump.now) _ _ c.from_residual.ensures.1 (inl c.in_err-reader.ensures.fault)
+pub returns-in_err-reader : goal.returns-in_err-reader
+returns-in_err-reader g c =
+    rw (handed c.from_residual.result _ c.from_residual.ensures.1) (record {
+      ok = tt;
+      sizes = tt;
+      fault = (inl c.in_err-reader.ensures.fault);
+      kept = c.open_file.ensures.kept;
+    })
 
 pub returns-in-Ok-clause-sizes : goal.returns-in-Ok-clause-sizes
 returns-in-Ok-clause-sizes g c = same_sizes c.args.certificate.now.sizes (sizes_of c.args.geometry.now) (λ ne. absurd (let clash = c.in-Ok.ensures.differs.1 ne in cc))

@@ -9,31 +9,27 @@ use Rattle.lab_commands.specs.Array.{with_map}
 use Rattle.lab_commands.specs.Correct.{Counts, IsCorrectFault, PutCorrected, WroteCorrected}
 use Rattle.lab_commands.specs.Undone.{form_of}
 use Rattle.lab_commands.proofs.ArrayLemmas.{unmapped_before}
-use Rattle.lab_commands.proofs.UndoneLemmas.{handed_on, left_all}
+use Rattle.lab_commands.proofs.UndoneLemmas.{left_all, handed}
 use Rattle.lab_commands.proofs.correct.correct_command.Goals as goal
 
-pub returns-in_err-told-clause-fault : goal.returns-in_err-told-clause-fault
-returns-in_err-told-clause-fault g c =
+pub returns-in_err-told : goal.returns-in_err-told
+returns-in_err-told g c =
     let o = g.W.Output.contents c.args.out.now in
     let a = g.F.LabFiles.answers c.args.files.now in
-    handed_on (IsCorrectFault a c.args.words (g.F.LabFiles.kept c.args.files.now) (g.F.LabFiles.kept c.place.new.files) (g.F.LabFiles.opened c.args.files.now) (g.F.LabFiles.opened c.place.new.files) (g.W.Output.failed c.args.out.now) o o) _ _ c.from_residual.ensures.1
-    (inl (left_all _ _ o c.in_err-told.ensures.kept, c.in_err-told.ensures.fault))
+    rw (handed c.from_residual.result _ c.from_residual.ensures.1) (record {
+      ok = tt;
+      fault = (inl (left_all _ _ o c.in_err-told.ensures.kept, c.in_err-told.ensures.fault));
+    })
 
-pub returns-in_err-put_map-clause-fault : goal.returns-in_err-put_map-clause-fault
-returns-in_err-put_map-clause-fault g c =
+pub returns-in_err-put_map : goal.returns-in_err-put_map
+returns-in_err-put_map g c =
     let o = g.W.Output.contents c.args.out.now in
     let a = g.F.LabFiles.answers c.args.files.now in
     let placed = c.in_ok-told.ensures.placed in
-    handed_on (IsCorrectFault a c.args.words (g.F.LabFiles.kept c.args.files.now) (g.F.LabFiles.kept c.put_map.new.files) (g.F.LabFiles.opened c.args.files.now) (g.F.LabFiles.opened c.put_map.new.files) (g.W.Output.failed c.args.out.now) o o) _ _ c.from_residual-in_err-put_map.ensures.1
-    (inr (inl (record {
-      g = c.in_ok-told.told.geometry;
-      pieces = placed.pieces;
-      counts = record { turned = c.in_ok-told.told.turned; touched = c.in_ok-told.told.touched; losses = c.in_ok-told.told.losses.items };
-      made = placed.made;
-      put = c.in_err-put_map.ensures.kept ∙ placed.put;
-      silent = Keeps-refl o;
-      unmapped = unmapped_before a (g.F.LabFiles.answers c.place.new.files) c.args.words _ c.in_ok-told.ensures.no_more c.in_err-put_map.ensures.fault;
-    })))
+    rw (handed c.from_residual-in_err-put_map.result _ c.from_residual-in_err-put_map.ensures.1) (record {
+      ok = tt;
+      fault = (inr (inl (record { g = c.in_ok-told.told.geometry; pieces = placed.pieces; counts = record { turned = c.in_ok-told.told.turned; touched = c.in_ok-told.told.touched; losses = c.in_ok-told.told.losses.items }; made = placed.made; put = c.in_err-put_map.ensures.kept ∙ placed.put; silent = Keeps-refl o; unmapped = unmapped_before a (g.F.LabFiles.answers c.place.new.files) c.args.words _ c.in_ok-told.ensures.no_more c.in_err-put_map.ensures.fault })));
+    })
 
 pub returns : goal.returns
 returns g c =

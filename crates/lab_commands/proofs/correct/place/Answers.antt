@@ -1,45 +1,69 @@
 use Rattle.std.proofs.Common.{refl, inl, inr, ap, subst, ◌∙◌}
 use Rattle.lab_commands.specs.Files.{AnswersNoMore, with_kept}
 use Rattle.lab_commands.specs.Undone.{IsFileUnmade}
-use Rattle.lab_commands.specs.Correct.{Counts, IsPutRight, IsUncorrectedBy}
+use Rattle.lab_commands.specs.Correct.{Counts, IsPutRight}
 use Rattle.lab_commands.specs.declared.text.LabFault.TheVariants as fault
-use Rattle.lab_commands.proofs.UndoneLemmas.{handed_on, no_more_then, unplaced_before}
+use Rattle.lab_commands.proofs.UndoneLemmas.{no_more_then, unplaced_before, handed}
 use Rattle.lab_commands.proofs.correct.place.Goals as goal
 
-pub returns-in_err-geometry-clause-fault : goal.returns-in_err-geometry-clause-fault
-returns-in_err-geometry-clause-fault g c =
-    handed_on (IsUncorrectedBy (g.F.LabFiles.answers c.args.files.now) c.args.words.now (g.F.LabFiles.opened c.args.files.now) (g.F.LabFiles.opened c.args.files.now)) _ _ c.from_residual.ensures.1
-    (inl c.in_err-geometry.ensures.fault)
+pub returns-in_err-geometry : goal.returns-in_err-geometry
+returns-in_err-geometry g c =
+    rw (handed c.from_residual.result _ c.from_residual.ensures.1) (record {
+      placed = tt;
+      fault = (inl c.in_err-geometry.ensures.fault);
+      no_more = tt;
+      kept = refl;
+    })
 
-pub returns-in_err-chip-clause-fault : goal.returns-in_err-chip-clause-fault
-returns-in_err-chip-clause-fault g c =
-    handed_on (IsUncorrectedBy (g.F.LabFiles.answers c.args.files.now) c.args.words.now (g.F.LabFiles.opened c.args.files.now) (g.F.LabFiles.opened c.args.files.now)) _ _ c.from_residual-in_err-chip.ensures.1
-    (inr (c.in_ok-geometry.geometry, c.in_ok-geometry.ensures.ok, inl c.in_err-chip.ensures.fault))
+pub returns-in_err-chip : goal.returns-in_err-chip
+returns-in_err-chip g c =
+    rw (handed c.from_residual-in_err-chip.result _ c.from_residual-in_err-chip.ensures.1) (record {
+      placed = tt;
+      fault = (inr (c.in_ok-geometry.geometry, c.in_ok-geometry.ensures.ok, inl c.in_err-chip.ensures.fault));
+      no_more = tt;
+      kept = refl;
+    })
 
-pub returns-in_err-allow_both-clause-fault : goal.returns-in_err-allow_both-clause-fault
-returns-in_err-allow_both-clause-fault g c =
-    handed_on (IsUncorrectedBy (g.F.LabFiles.answers c.args.files.now) c.args.words.now (g.F.LabFiles.opened c.args.files.now) (g.F.LabFiles.opened c.allow_both.new.files)) _ _ c.from_residual-in_err-allow_both.ensures.1
-    (inr (c.in_ok-geometry.geometry, c.in_ok-geometry.ensures.ok, inr (c.in_ok-chip.chip.raw, c.in_ok-chip.ensures.ok, inl c.in_err-allow_both.ensures.fault)))
+pub returns-in_err-allow_both : goal.returns-in_err-allow_both
+returns-in_err-allow_both g c =
+    rw (handed c.from_residual-in_err-allow_both.result _ c.from_residual-in_err-allow_both.ensures.1) (record {
+      placed = tt;
+      fault = (inr (c.in_ok-geometry.geometry, c.in_ok-geometry.ensures.ok, inr (c.in_ok-chip.chip.raw, c.in_ok-chip.ensures.ok, inl c.in_err-allow_both.ensures.fault)));
+      no_more = tt;
+      kept = ap g.F.LabFiles.kept c.allow_both.ensures.same;
+    })
 
-pub returns-in_err-room-clause-fault : goal.returns-in_err-room-clause-fault
-returns-in_err-room-clause-fault g c =
-    handed_on (IsUncorrectedBy (g.F.LabFiles.answers c.args.files.now) c.args.words.now (g.F.LabFiles.opened c.args.files.now) (g.F.LabFiles.opened c.allow_both.new.files)) _ fault.OutOfMemory c.from_residual-in_err-room.ensures.1
-    (inr (c.in_ok-geometry.geometry, c.in_ok-geometry.ensures.ok, inr (c.in_ok-chip.chip.raw, c.in_ok-chip.ensures.ok, inr (c.in_ok-allow_both.ensures.ok, inl (refl, ap g.F.LabFiles.opened c.in_ok-allow_both.ensures.same)))))
+pub returns-in_err-room : goal.returns-in_err-room
+returns-in_err-room g c =
+    rw (handed c.from_residual-in_err-room.result fault.OutOfMemory c.from_residual-in_err-room.ensures.1) (record {
+      placed = tt;
+      fault = (inr (c.in_ok-geometry.geometry, c.in_ok-geometry.ensures.ok, inr (c.in_ok-chip.chip.raw, c.in_ok-chip.ensures.ok, inr (c.in_ok-allow_both.ensures.ok, inl (refl, ap g.F.LabFiles.opened c.in_ok-allow_both.ensures.same)))));
+      no_more = tt;
+      kept = ap g.F.LabFiles.kept c.allow_both.ensures.same;
+    })
 
-pub returns-in_err-told-clause-fault : goal.returns-in_err-told-clause-fault
-returns-in_err-told-clause-fault g c =
+pub returns-in_err-told : goal.returns-in_err-told
+returns-in_err-told g c =
     let words = c.args.words.now in
     let why = subst (λ f. IsFileUnmade (g.F.LabFiles.answers f) c.in_ok-chip.chip.raw words.dump.now words.out.now c.in_err-told.field-0.0) c.in_ok-allow_both.ensures.same c.in_err-told.ensures.fault in
-    handed_on (IsUncorrectedBy (g.F.LabFiles.answers c.args.files.now) c.args.words.now (g.F.LabFiles.opened c.args.files.now) (g.F.LabFiles.opened c.put_right.new.files)) _ _ c.from_residual-in_err-told.ensures.1
-    (inr (c.in_ok-geometry.geometry, c.in_ok-geometry.ensures.ok, inr (c.in_ok-chip.chip.raw, c.in_ok-chip.ensures.ok, inr (c.in_ok-allow_both.ensures.ok, inr (inl why)))))
+    rw (handed c.from_residual-in_err-told.result _ c.from_residual-in_err-told.ensures.1) (record {
+      placed = tt;
+      fault = (inr (c.in_ok-geometry.geometry, c.in_ok-geometry.ensures.ok, inr (c.in_ok-chip.chip.raw, c.in_ok-chip.ensures.ok, inr (c.in_ok-allow_both.ensures.ok, inr (inl why)))));
+      no_more = tt;
+      kept = c.in_err-told.ensures.kept ∙ ap g.F.LabFiles.kept c.allow_both.ensures.same;
+    })
 
-pub returns-in_err-keep-clause-fault : goal.returns-in_err-keep-clause-fault
-returns-in_err-keep-clause-fault g c =
+pub returns-in_err-keep : goal.returns-in_err-keep
+returns-in_err-keep g c =
     let words = c.args.words.now in
     let b = g.F.LabFiles.answers c.put_right.new.files in
     let why = unplaced_before (g.F.LabFiles.answers c.args.files.now) b words.out.now words.force c.in_err-keep.field-0.0 (subst (λ f. AnswersNoMore (g.F.LabFiles.answers f) b) c.in_ok-allow_both.ensures.same c.in_ok-told.ensures.no_more) c.in_err-keep.ensures.fault in
-    handed_on (IsUncorrectedBy (g.F.LabFiles.answers c.args.files.now) c.args.words.now (g.F.LabFiles.opened c.args.files.now) (g.F.LabFiles.opened c.keep.new.files)) _ _ c.from_residual-in_err-keep.ensures.1
-    (inr (c.in_ok-geometry.geometry, c.in_ok-geometry.ensures.ok, inr (c.in_ok-chip.chip.raw, c.in_ok-chip.ensures.ok, inr (c.in_ok-allow_both.ensures.ok, inr (inr why)))))
+    rw (handed c.from_residual-in_err-keep.result _ c.from_residual-in_err-keep.ensures.1) (record {
+      placed = tt;
+      fault = (inr (c.in_ok-geometry.geometry, c.in_ok-geometry.ensures.ok, inr (c.in_ok-chip.chip.raw, c.in_ok-chip.ensures.ok, inr (c.in_ok-allow_both.ensures.ok, inr (inr why)))));
+      no_more = tt;
+      kept = c.in_err-keep.ensures.kept ∙ (c.in_ok-told.ensures.beside ∙ ap g.F.LabFiles.kept c.allow_both.ensures.same);
+    })
 
 pub returns-clause-placed : goal.returns-clause-placed
 returns-clause-placed g c =

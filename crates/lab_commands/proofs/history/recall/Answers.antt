@@ -1,25 +1,36 @@
 use Rattle.std.proofs.Common.{refl, inl, inr}
-use Rattle.lab_commands.specs.History.{IsHistoryUntold}
 use Rattle.lab_commands.specs.declared.text.LabFault.TheVariants as fault
-use Rattle.lab_commands.proofs.UndoneLemmas.{handed_on}
+use Rattle.lab_commands.proofs.UndoneLemmas.{handed}
 use Rattle.lab_commands.proofs.history.recall.Goals as goal
 
-pub returns-in_err-geometry-clause-fault : goal.returns-in_err-geometry-clause-fault
-returns-in_err-geometry-clause-fault g c =
-    handed_on (IsHistoryUntold (g.F.LabFiles.answers c.args.files.now) c.args.words.now (g.F.LabFiles.opened c.args.files.now) (g.F.LabFiles.opened c.args.files.now)) _ _ c.from_residual.ensures.1
-    (inl c.in_err-geometry.ensures.fault)
+pub returns-in_err-geometry : goal.returns-in_err-geometry
+returns-in_err-geometry g c =
+    rw (handed c.from_residual.result _ c.from_residual.ensures.1) (record {
+      recalled = tt;
+      fault = (inl c.in_err-geometry.ensures.fault);
+      kept = refl;
+    })
 
-pub returns-in_err-sector-clause-fault : goal.returns-in_err-sector-clause-fault
-returns-in_err-sector-clause-fault g c =
-    handed_on (IsHistoryUntold (g.F.LabFiles.answers c.args.files.now) c.args.words.now (g.F.LabFiles.opened c.args.files.now) (g.F.LabFiles.opened c.args.files.now)) _ _ c.from_residual-in_err-sector.ensures.1
-    (inr (c.in_ok-geometry.geometry, c.in_ok-geometry.ensures.ok, inl c.in_err-sector.ensures.fault))
+pub returns-in_err-sector : goal.returns-in_err-sector
+returns-in_err-sector g c =
+    rw (handed c.from_residual-in_err-sector.result _ c.from_residual-in_err-sector.ensures.1) (record {
+      recalled = tt;
+      fault = (inr (c.in_ok-geometry.geometry, c.in_ok-geometry.ensures.ok, inl c.in_err-sector.ensures.fault));
+      kept = refl;
+    })
 
-pub returns-in_err-room-clause-fault : goal.returns-in_err-room-clause-fault
-returns-in_err-room-clause-fault g c =
-    handed_on (IsHistoryUntold (g.F.LabFiles.answers c.args.files.now) c.args.words.now (g.F.LabFiles.opened c.args.files.now) (g.F.LabFiles.opened c.args.files.now)) _ fault.OutOfMemory c.from_residual-in_err-room.ensures.1
-    (inr (c.in_ok-geometry.geometry, c.in_ok-geometry.ensures.ok, inr (c.in_ok-sector.sector, c.in_ok-sector.ensures.ok, inl (refl, refl))))
+pub returns-in_err-room : goal.returns-in_err-room
+returns-in_err-room g c =
+    rw (handed c.from_residual-in_err-room.result fault.OutOfMemory c.from_residual-in_err-room.ensures.1) (record {
+      recalled = tt;
+      fault = (inr (c.in_ok-geometry.geometry, c.in_ok-geometry.ensures.ok, inr (c.in_ok-sector.sector, c.in_ok-sector.ensures.ok, inl (refl, refl))));
+      kept = refl;
+    })
 
-pub returns-in_err-history-clause-fault : goal.returns-in_err-history-clause-fault
-returns-in_err-history-clause-fault g c =
-    handed_on (IsHistoryUntold (g.F.LabFiles.answers c.args.files.now) c.args.words.now (g.F.LabFiles.opened c.args.files.now) (g.F.LabFiles.opened c.history_of.new.files)) _ _ c.from_residual-in_err-history.ensures.1
-    (inr (c.in_ok-geometry.geometry, c.in_ok-geometry.ensures.ok, inr (c.in_ok-sector.sector, c.in_ok-sector.ensures.ok, inr c.in_err-history.ensures.fault)))
+pub returns-in_err-history : goal.returns-in_err-history
+returns-in_err-history g c =
+    rw (handed c.from_residual-in_err-history.result _ c.from_residual-in_err-history.ensures.1) (record {
+      recalled = tt;
+      fault = (inr (c.in_ok-geometry.geometry, c.in_ok-geometry.ensures.ok, inr (c.in_ok-sector.sector, c.in_ok-sector.ensures.ok, inr c.in_err-history.ensures.fault)));
+      kept = c.history_of.ensures.kept;
+    })

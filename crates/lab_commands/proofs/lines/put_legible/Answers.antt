@@ -5,4 +5,4 @@ use Rattle.lab_commands.proofs.lines.put_legible.Goals as goal
 
 pub returns : goal.returns
 returns g c =
-    subst (λ (n : ℕ). Prints (g.W.Output.failed c.put_pieces.new.out) (g.W.Output.contents c.args.out.now) (g.W.Output.contents c.put_pieces.new.out) (legible_words n c.args.others) c.put_pieces.result) c.from.ensures c.put_pieces.ensures
+    subst (λ (n : ℕ). Prints (g.W.Output.failed c.put_both_between.new.out) (g.W.Output.contents c.args.out.now) (g.W.Output.contents c.put_both_between.new.out) (legible_words n c.args.others) c.put_both_between.result) c.from.ensures c.put_both_between.ensures

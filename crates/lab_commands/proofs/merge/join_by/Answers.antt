@@ -1,11 +1,12 @@
-use Rattle.std.proofs.Common.{◌≡◌, ◌<◌, ℕ, List, inr, length, map, ap, sym, subst, ◌∙◌, rules}
+use Rattle.std.proofs.Common.{◌≡◌, ◌<◌, ℕ, List, inl, inr, length, map, ap, sym, subst, ◌∙◌, rules}
 use Rattle.std.specs.Borrow.{Bor}
 use Rattle.std.proofs.lemmas.List.{length-map}
 use Rattle.lab_mend.specs.declared.merge.MergeFault.TheVariants as merge
 use Rattle.lab_mend.specs.Merged.{IsOfReading, IsPinned}
 use Rattle.program_words.specs.Met.{texts}
-use Rattle.lab_commands.specs.Merge.{dumps_of}
+use Rattle.lab_commands.specs.Merge.{IsSomeUnread, dumps_of}
 use Rattle.lab_commands.proofs.MergeLemmas.{failed_one, unmerged_as}
+use Rattle.lab_commands.proofs.UndoneLemmas.{handed, no_more_then, unwritten_before}
 use Rattle.lab_commands.proofs.merge.join_by.Goals as goal
 
 pub returns-in-Err-clause-fault : goal.returns-in-Err-clause-fault
@@ -30,3 +31,39 @@ returns-in-Err-clause-fault g c =
     (unmerged_as a (dumps_of words) c.args.geometry.now words.out.now (map g.F.Reader.DumpReader.remaining c.open_all.new.readers.items) f
     c.merge_told.result (search rules) (subst (λ (n : ℕ). IsOfReading n f) count c.in-Err.ensures.reading) (search rules) reads writes
     (search rules)))
+
+pub returns-in_err-open_all : goal.returns-in_err-open_all
+returns-in_err-open_all g c =
+    let a = g.F.LabFiles.answers c.args.files.now in
+    let told = c.in_err-open_all.field-0.0 in
+    rw (handed c.from_residual.result _ c.from_residual.ensures.1) (record {
+      made = tt;
+      fault = inl (subst (λ (ds : List (Bor (List ℕ))). IsSomeUnread a (texts ds) told) c.deref.ensures.value c.in_err-open_all.ensures.fault);
+      no_more = c.open_all.ensures.no_more;
+      beside = tt;
+      kept = c.open_all.ensures.kept;
+    })
+
+pub returns-in_err-target : goal.returns-in_err-target
+returns-in_err-target g c =
+    let a = g.F.LabFiles.answers c.args.files.now in
+    let b = g.F.LabFiles.answers c.open_all.new.files in
+    rw (handed c.from_residual-in_err-target.result _ c.from_residual-in_err-target.ensures.1) (record {
+      made = tt;
+      fault = inr (inl (unwritten_before a b c.args.words.now.out.now _ c.open_all.ensures.no_more c.in_err-target.ensures.fault));
+      no_more = no_more_then _ _ _ c.open_all.ensures.no_more c.create_beside.ensures.no_more;
+      beside = tt;
+      kept = c.in_err-target.ensures.kept ∙ c.open_all.ensures.kept;
+    })
+
+pub returns-in-Ok-clause-no_more : goal.returns-in-Ok-clause-no_more
+returns-in-Ok-clause-no_more g c = no_more_then _ _ _ c.open_all.ensures.no_more c.create_beside.ensures.no_more
+
+pub returns-in-Ok-clause-beside : goal.returns-in-Ok-clause-beside
+returns-in-Ok-clause-beside g c = c.in_ok-target.ensures.made ∙ c.open_all.ensures.kept
+
+pub returns-in-Err-clause-no_more : goal.returns-in-Err-clause-no_more
+returns-in-Err-clause-no_more g c = no_more_then _ _ _ (no_more_then _ _ _ c.open_all.ensures.no_more c.create_beside.ensures.no_more) c.discard.ensures.no_more
+
+pub returns-in-Err-clause-kept : goal.returns-in-Err-clause-kept
+returns-in-Err-clause-kept g c = c.discard.ensures.kept ∙ (c.in_ok-target.ensures.made ∙ c.open_all.ensures.kept)

@@ -1,14 +1,17 @@
-use Rattle.std.proofs.Common.{arith}
-use Rattle.program_words.specs.Met.{texts}
-use Rattle.lab_commands.specs.Merge.{IsSomeUnread}
+use Rattle.std.proofs.Common.{arith, ◌∙◌}
 use Rattle.lab_commands.proofs.MergeLemmas.{opened_next, unopened_at}
-use Rattle.lab_commands.proofs.UndoneLemmas.{handed_on}
+use Rattle.lab_commands.proofs.UndoneLemmas.{no_more_then, handed}
 use Rattle.lab_commands.proofs.merge.open_all.Goals as goal
 
-pub returns-in_err-reader-clause-fault : goal.returns-in_err-reader-clause-fault
-returns-in_err-reader-clause-fault g c =
-    handed_on (IsSomeUnread (g.F.LabFiles.answers c.args.files.now) (texts c.args.dumps.now)) _ _ c.from_residual.ensures.1
-    (unopened_at _ _ c.args.dumps.now c.loop-place.place _ _ (omega arith) c.loop-place.invariant.so_far.no_more c.in_err-reader.ensures.fault)
+pub returns-in_err-reader : goal.returns-in_err-reader
+returns-in_err-reader g c =
+    rw (handed c.from_residual.result _ c.from_residual.ensures.1) (record {
+      opened = tt;
+      fails = tt;
+      fault = (unopened_at _ _ c.args.dumps.now c.loop-place.place _ _ (omega arith) c.loop-place.invariant.so_far.no_more c.in_err-reader.ensures.fault);
+      no_more = no_more_then _ _ _ c.loop-place.invariant.so_far.no_more c.open_file.ensures.no_more;
+      kept = c.open_file.ensures.kept ∙ c.loop-place.invariant.so_far.kept;
+    })
 
 pub loop-place-preserved : goal.loop-place-preserved
 loop-place-preserved g c = record {

@@ -1,30 +1,38 @@
 use Rattle.std.proofs.Common.{◌≡◌, ℕ, List, Option, inl, inr, length, map, ap, sym, subst, ◌∙◌}
 use Rattle.std.specs.Borrow.{Bor}
 use Rattle.std.proofs.lemmas.List.{length-map}
-use Rattle.lab_origin.specs.declared.readings.ReadingFault.TheVariants as reading
-use Rattle.lab_origin.specs.declared.trace.OriginFault.TheVariants as origin
 use Rattle.lab_origin.specs.Traced.{ArePinned, IsOfSome, IsUntraced}
-use Rattle.lab_origin.specs.Tracing.{Tell}
 use Rattle.program_words.specs.Met.{texts}
 use Rattle.lab_commands.specs.Merge.{AreOpened, IsSomeUnread}
-use Rattle.lab_commands.specs.Origin.{IsUnfollowed, readings_of}
+use Rattle.lab_commands.specs.Origin.{readings_of}
 use Rattle.lab_commands.proofs.MergeLemmas.{failed_one}
 use Rattle.lab_commands.proofs.OriginLemmas.{each_opened_before, some_unread_before, untraced_as}
-use Rattle.lab_commands.proofs.UndoneLemmas.{handed_on}
+use Rattle.lab_commands.proofs.UndoneLemmas.{no_more_then, handed}
 use Rattle.lab_commands.proofs.origin.follow_by.Goals as goal
 
-pub returns-in_err-dump-clause-fault : goal.returns-in_err-dump-clause-fault
-returns-in_err-dump-clause-fault g c =
-    handed_on (IsUnfollowed (g.F.LabFiles.answers c.args.files.now) c.args.words.now c.args.geometry.now) _ _ c.from_residual.ensures.1 (inl c.in_err-dump.ensures.fault)
+pub returns-in_err-dump : goal.returns-in_err-dump
+returns-in_err-dump g c =
+    rw (handed c.from_residual.result _ c.from_residual.ensures.1) (record {
+      followed = tt;
+      sized = tt;
+      fault = (inl c.in_err-dump.ensures.fault);
+      no_more = c.open_dump.ensures.no_more;
+      kept = c.open_dump.ensures.kept;
+    })
 
-pub returns-in_err-open_readings-clause-fault : goal.returns-in_err-open_readings-clause-fault
-returns-in_err-open_readings-clause-fault g c =
+pub returns-in_err-open_readings : goal.returns-in_err-open_readings
+returns-in_err-open_readings g c =
     let a = g.F.LabFiles.answers c.args.files.now in
     let b = g.F.LabFiles.answers c.open_dump.new.files in
     let words = c.args.words.now in
     let unread : IsSomeUnread b (readings_of words) c.in_err-open_readings.field-0.0 = subst (λ (ps : List (Bor (List ℕ))). IsSomeUnread b (texts ps) c.in_err-open_readings.field-0.0) c.deref.ensures.value c.in_err-open_readings.ensures.fault in
-    handed_on (IsUnfollowed a words c.args.geometry.now) _ _ c.from_residual-in_err-open_readings.ensures.1
-    (inr (inl (some_unread_before a b (readings_of words) _ c.in_ok-dump.ensures.no_more unread)))
+    rw (handed c.from_residual-in_err-open_readings.result _ c.from_residual-in_err-open_readings.ensures.1) (record {
+      followed = tt;
+      sized = tt;
+      fault = (inr (inl (some_unread_before a b (readings_of words) _ c.in_ok-dump.ensures.no_more unread)));
+      no_more = no_more_then _ _ _ c.open_dump.ensures.no_more c.open_readings.ensures.no_more;
+      kept = c.open_readings.ensures.kept ∙ c.open_dump.ensures.kept;
+    })
 
 pub returns-in-Ok-clause-followed : goal.returns-in-Ok-clause-followed
 returns-in-Ok-clause-followed g c =
@@ -61,3 +69,15 @@ returns-clause-fault g c =
     inr (inr (untraced_as a words geometry (bytes c.in_ok-dump.dump) (map bytes items) f c.origin_told.result c.in_ok-dump.ensures.bytes (each_opened_before a b _ _ c.in_ok-dump.ensures.no_more opened) of odd
     (λ is. c.open_dump.ensures.fails c.trace_origins.new.dump (subst (ArePinned dump_failed each_failed) is pinned))
     (λ i is. let found = failed_one failed _ i (subst (ArePinned dump_failed each_failed) is pinned) in c.open_dump.ensures.fails found.0 found.1) c.origin_told.ensures))
+
+pub returns-in-Ok-clause-no_more : goal.returns-in-Ok-clause-no_more
+returns-in-Ok-clause-no_more g c = no_more_then _ _ _ c.open_dump.ensures.no_more c.open_readings.ensures.no_more
+
+pub returns-in-Ok-clause-kept : goal.returns-in-Ok-clause-kept
+returns-in-Ok-clause-kept g c = c.open_readings.ensures.kept ∙ c.open_dump.ensures.kept
+
+pub returns-clause-no_more : goal.returns-clause-no_more
+returns-clause-no_more g c = no_more_then _ _ _ c.open_dump.ensures.no_more c.open_readings.ensures.no_more
+
+pub returns-clause-kept : goal.returns-clause-kept
+returns-clause-kept g c = c.open_readings.ensures.kept ∙ c.open_dump.ensures.kept

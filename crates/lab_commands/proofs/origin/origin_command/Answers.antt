@@ -5,15 +5,17 @@ use Rattle.lab_commands.proofs.PrintLemmas.{done_by, undone_by}
 use Rattle.lab_commands.specs.Reports.{origin_text}
 use Rattle.lab_commands.specs.Origin.{IsOriginFault, WroteOrigin}
 use Rattle.lab_commands.specs.Undone.{form_of}
-use Rattle.lab_commands.proofs.UndoneLemmas.{handed_on, left_all}
+use Rattle.lab_commands.proofs.UndoneLemmas.{left_all, handed}
 use Rattle.lab_commands.proofs.origin.origin_command.Goals as goal
 
-pub returns-in_err-marks-clause-fault : goal.returns-in_err-marks-clause-fault
-returns-in_err-marks-clause-fault g c =
+pub returns-in_err-marks : goal.returns-in_err-marks
+returns-in_err-marks g c =
     let o = g.W.Output.contents c.args.out.now in
     let a = g.F.LabFiles.answers c.args.files.now in
-    handed_on (IsOriginFault a c.args.words (g.F.LabFiles.kept c.args.files.now) (g.F.LabFiles.kept c.place.new.files) (g.F.LabFiles.opened c.args.files.now) (g.F.LabFiles.opened c.place.new.files) (g.W.Output.failed c.args.out.now) o o) _ _ c.from_residual.ensures.1
-    (inl (left_all _ _ o c.in_err-marks.ensures.kept, c.in_err-marks.ensures.fault))
+    rw (handed c.from_residual.result _ c.from_residual.ensures.1) (record {
+      ok = tt;
+      fault = (inl (left_all _ _ o c.in_err-marks.ensures.kept, c.in_err-marks.ensures.fault));
+    })
 
 pub returns : goal.returns
 returns g c =

@@ -3,44 +3,62 @@ use Rattle.lab_dump.specs.declared.map_head.Remark.TheVariants as remark
 use Rattle.lab_dump.specs.declared.mark.MapMark.{MapMark}
 use Rattle.lab_dump.specs.Map.{map_text}
 use Rattle.lab_commands.specs.Files.{AnswersNoMore, with_kept}
-use Rattle.lab_commands.specs.Origin.{IsFollowed, IsUndone, IsUnfollowed}
+use Rattle.lab_commands.specs.Origin.{IsFollowed, IsUnfollowed}
 use Rattle.lab_commands.specs.declared.text.LabFault.TheVariants as fault
-use Rattle.lab_commands.proofs.UndoneLemmas.{handed_on, unplaced_before}
+use Rattle.lab_commands.proofs.UndoneLemmas.{unplaced_before, handed}
 use Rattle.lab_commands.proofs.origin.place.Goals as goal
 
-pub returns-in_err-geometry-clause-fault : goal.returns-in_err-geometry-clause-fault
-returns-in_err-geometry-clause-fault g c =
-    handed_on (IsUndone (g.F.LabFiles.answers c.args.files.now) c.args.words.now (g.F.LabFiles.opened c.args.files.now) (g.F.LabFiles.opened c.args.files.now)) _ _ c.from_residual.ensures.1
-    (inl c.in_err-geometry.ensures.fault)
+pub returns-in_err-geometry : goal.returns-in_err-geometry
+returns-in_err-geometry g c =
+    rw (handed c.from_residual.result _ c.from_residual.ensures.1) (record {
+      placed = tt;
+      fault = (inl c.in_err-geometry.ensures.fault);
+      kept = refl;
+    })
 
-pub returns-in_err-last-clause-fault : goal.returns-in_err-last-clause-fault
-returns-in_err-last-clause-fault g c =
-    handed_on (IsUndone (g.F.LabFiles.answers c.args.files.now) c.args.words.now (g.F.LabFiles.opened c.args.files.now) (g.F.LabFiles.opened c.args.files.now)) _ _ c.from_residual-in_err-last.ensures.1
-    (inr (c.in_ok-geometry.geometry, c.in_ok-geometry.ensures.ok, inl c.in_err-last.ensures.fault))
+pub returns-in_err-last : goal.returns-in_err-last
+returns-in_err-last g c =
+    rw (handed c.from_residual-in_err-last.result _ c.from_residual-in_err-last.ensures.1) (record {
+      placed = tt;
+      fault = (inr (c.in_ok-geometry.geometry, c.in_ok-geometry.ensures.ok, inl c.in_err-last.ensures.fault));
+      kept = refl;
+    })
 
-pub returns-in_err-allow_origin-clause-fault : goal.returns-in_err-allow_origin-clause-fault
-returns-in_err-allow_origin-clause-fault g c =
-    handed_on (IsUndone (g.F.LabFiles.answers c.args.files.now) c.args.words.now (g.F.LabFiles.opened c.args.files.now) (g.F.LabFiles.opened c.allow_origin.new.files)) _ _ c.from_residual-in_err-allow_origin.ensures.1
-    (inr (c.in_ok-geometry.geometry, c.in_ok-geometry.ensures.ok, inr (c.in_ok-last.last, c.in_ok-last.ensures.ok, inl c.in_err-allow_origin.ensures.fault)))
+pub returns-in_err-allow_origin : goal.returns-in_err-allow_origin
+returns-in_err-allow_origin g c =
+    rw (handed c.from_residual-in_err-allow_origin.result _ c.from_residual-in_err-allow_origin.ensures.1) (record {
+      placed = tt;
+      fault = (inr (c.in_ok-geometry.geometry, c.in_ok-geometry.ensures.ok, inr (c.in_ok-last.last, c.in_ok-last.ensures.ok, inl c.in_err-allow_origin.ensures.fault)));
+      kept = ap g.F.LabFiles.kept c.allow_origin.ensures.same;
+    })
 
-pub returns-in_err-room-clause-fault : goal.returns-in_err-room-clause-fault
-returns-in_err-room-clause-fault g c =
-    handed_on (IsUndone (g.F.LabFiles.answers c.args.files.now) c.args.words.now (g.F.LabFiles.opened c.args.files.now) (g.F.LabFiles.opened c.allow_origin.new.files)) _ fault.OutOfMemory c.from_residual-in_err-room.ensures.1
-    (inr (c.in_ok-geometry.geometry, c.in_ok-geometry.ensures.ok, inr (c.in_ok-last.last, c.in_ok-last.ensures.ok, inr (c.in_ok-allow_origin.ensures.ok, inl (refl, ap g.F.LabFiles.opened c.in_ok-allow_origin.ensures.same)))))
+pub returns-in_err-room : goal.returns-in_err-room
+returns-in_err-room g c =
+    rw (handed c.from_residual-in_err-room.result fault.OutOfMemory c.from_residual-in_err-room.ensures.1) (record {
+      placed = tt;
+      fault = (inr (c.in_ok-geometry.geometry, c.in_ok-geometry.ensures.ok, inr (c.in_ok-last.last, c.in_ok-last.ensures.ok, inr (c.in_ok-allow_origin.ensures.ok, inl (refl, ap g.F.LabFiles.opened c.in_ok-allow_origin.ensures.same)))));
+      kept = ap g.F.LabFiles.kept c.allow_origin.ensures.same;
+    })
 
-pub returns-in_err-marks-clause-fault : goal.returns-in_err-marks-clause-fault
-returns-in_err-marks-clause-fault g c =
+pub returns-in_err-marks : goal.returns-in_err-marks
+returns-in_err-marks g c =
     let why = subst (λ f. IsUnfollowed (g.F.LabFiles.answers f) c.args.words.now c.in_ok-geometry.geometry c.in_err-marks.field-0.0) c.in_ok-allow_origin.ensures.same c.in_err-marks.ensures.fault in
-    handed_on (IsUndone (g.F.LabFiles.answers c.args.files.now) c.args.words.now (g.F.LabFiles.opened c.args.files.now) (g.F.LabFiles.opened c.follow.new.files)) _ _ c.from_residual-in_err-marks.ensures.1
-    (inr (c.in_ok-geometry.geometry, c.in_ok-geometry.ensures.ok, inr (c.in_ok-last.last, c.in_ok-last.ensures.ok, inr (c.in_ok-allow_origin.ensures.ok, inr (inl why)))))
+    rw (handed c.from_residual-in_err-marks.result _ c.from_residual-in_err-marks.ensures.1) (record {
+      placed = tt;
+      fault = (inr (c.in_ok-geometry.geometry, c.in_ok-geometry.ensures.ok, inr (c.in_ok-last.last, c.in_ok-last.ensures.ok, inr (c.in_ok-allow_origin.ensures.ok, inr (inl why)))));
+      kept = c.follow.ensures.kept ∙ ap g.F.LabFiles.kept c.allow_origin.ensures.same;
+    })
 
-pub returns-in_err-put_origin-clause-fault : goal.returns-in_err-put_origin-clause-fault
-returns-in_err-put_origin-clause-fault g c =
+pub returns-in_err-put_origin : goal.returns-in_err-put_origin
+returns-in_err-put_origin g c =
     let words = c.args.words.now in
     let b = g.F.LabFiles.answers c.follow.new.files in
     let why = unplaced_before (g.F.LabFiles.answers c.args.files.now) b words.out.now words.force c.in_err-put_origin.field-0.0 (subst (λ f. AnswersNoMore (g.F.LabFiles.answers f) b) c.in_ok-allow_origin.ensures.same c.follow.ensures.no_more) c.in_err-put_origin.ensures.fault in
-    handed_on (IsUndone (g.F.LabFiles.answers c.args.files.now) c.args.words.now (g.F.LabFiles.opened c.args.files.now) (g.F.LabFiles.opened c.put_origin.new.files)) _ _ c.from_residual-in_err-put_origin.ensures.1
-    (inr (c.in_ok-geometry.geometry, c.in_ok-geometry.ensures.ok, inr (c.in_ok-last.last, c.in_ok-last.ensures.ok, inr (c.in_ok-allow_origin.ensures.ok, inr (inr why)))))
+    rw (handed c.from_residual-in_err-put_origin.result _ c.from_residual-in_err-put_origin.ensures.1) (record {
+      placed = tt;
+      fault = (inr (c.in_ok-geometry.geometry, c.in_ok-geometry.ensures.ok, inr (c.in_ok-last.last, c.in_ok-last.ensures.ok, inr (c.in_ok-allow_origin.ensures.ok, inr (inr why)))));
+      kept = c.in_err-put_origin.ensures.kept ∙ (c.follow.ensures.kept ∙ ap g.F.LabFiles.kept c.allow_origin.ensures.same);
+    })
 
 pub returns-clause-placed : goal.returns-clause-placed
 returns-clause-placed g c =

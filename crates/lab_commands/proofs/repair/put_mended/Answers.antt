@@ -1,50 +1,71 @@
 use Rattle.std.proofs.Common.{refl, inl, inr, ap, subst, ◌∙◌}
 use Rattle.lab_commands.specs.Files.{AnswersNoMore, with_kept}
 use Rattle.lab_commands.specs.Undone.{IsFileUnmade}
-use Rattle.lab_commands.specs.Repair.{IsMended, IsUnrepairedBy, asked_of, told_tries}
+use Rattle.lab_commands.specs.Repair.{IsMended, asked_of, told_tries}
 use Rattle.lab_commands.specs.declared.text.LabFault.TheVariants as fault
-use Rattle.lab_commands.proofs.UndoneLemmas.{handed_on, unplaced_before}
+use Rattle.lab_commands.proofs.UndoneLemmas.{unplaced_before, handed}
 use Rattle.lab_commands.proofs.repair.put_mended.Goals as goal
 
-pub returns-in_err-geometry-clause-fault : goal.returns-in_err-geometry-clause-fault
-returns-in_err-geometry-clause-fault g c =
-    handed_on (IsUnrepairedBy (g.F.LabFiles.answers c.args.files.now) c.args.words.now (g.F.LabFiles.opened c.args.files.now) (g.F.LabFiles.opened c.args.files.now)) _ _ c.from_residual.ensures.1
-    (inl c.in_err-geometry.ensures.fault)
+pub returns-in_err-geometry : goal.returns-in_err-geometry
+returns-in_err-geometry g c =
+    rw (handed c.from_residual.result _ c.from_residual.ensures.1) (record {
+      put = tt;
+      fault = (inl c.in_err-geometry.ensures.fault);
+      kept = refl;
+    })
 
-pub returns-in_err-rows-clause-fault : goal.returns-in_err-rows-clause-fault
-returns-in_err-rows-clause-fault g c =
-    handed_on (IsUnrepairedBy (g.F.LabFiles.answers c.args.files.now) c.args.words.now (g.F.LabFiles.opened c.args.files.now) (g.F.LabFiles.opened c.args.files.now)) _ _ c.from_residual-in_err-rows.ensures.1
-    (inr (c.in_ok-geometry.geometry, c.in_ok-geometry.ensures.ok, inl c.in_err-rows.ensures.fault))
+pub returns-in_err-rows : goal.returns-in_err-rows
+returns-in_err-rows g c =
+    rw (handed c.from_residual-in_err-rows.result _ c.from_residual-in_err-rows.ensures.1) (record {
+      put = tt;
+      fault = (inr (c.in_ok-geometry.geometry, c.in_ok-geometry.ensures.ok, inl c.in_err-rows.ensures.fault));
+      kept = refl;
+    })
 
-pub returns-in_err-bits-clause-fault : goal.returns-in_err-bits-clause-fault
-returns-in_err-bits-clause-fault g c =
-    handed_on (IsUnrepairedBy (g.F.LabFiles.answers c.args.files.now) c.args.words.now (g.F.LabFiles.opened c.args.files.now) (g.F.LabFiles.opened c.args.files.now)) _ _ c.from_residual-in_err-bits.ensures.1
-    (inr (c.in_ok-geometry.geometry, c.in_ok-geometry.ensures.ok, inr (c.in_ok-rows.rows, c.in_ok-rows.ensures.ok, inl c.in_err-bits.ensures.fault)))
+pub returns-in_err-bits : goal.returns-in_err-bits
+returns-in_err-bits g c =
+    rw (handed c.from_residual-in_err-bits.result _ c.from_residual-in_err-bits.ensures.1) (record {
+      put = tt;
+      fault = (inr (c.in_ok-geometry.geometry, c.in_ok-geometry.ensures.ok, inr (c.in_ok-rows.rows, c.in_ok-rows.ensures.ok, inl c.in_err-bits.ensures.fault)));
+      kept = refl;
+    })
 
-pub returns-in_err-allow-clause-fault : goal.returns-in_err-allow-clause-fault
-returns-in_err-allow-clause-fault g c =
-    handed_on (IsUnrepairedBy (g.F.LabFiles.answers c.args.files.now) c.args.words.now (g.F.LabFiles.opened c.args.files.now) (g.F.LabFiles.opened c.allow.new.files)) _ _ c.from_residual-in_err-allow.ensures.1
-    (inr (c.in_ok-geometry.geometry, c.in_ok-geometry.ensures.ok, inr (c.in_ok-rows.rows, c.in_ok-rows.ensures.ok, inr (c.in_ok-bits.bits, c.in_ok-bits.ensures.ok, inl c.in_err-allow.ensures.fault))))
+pub returns-in_err-allow : goal.returns-in_err-allow
+returns-in_err-allow g c =
+    rw (handed c.from_residual-in_err-allow.result _ c.from_residual-in_err-allow.ensures.1) (record {
+      put = tt;
+      fault = (inr (c.in_ok-geometry.geometry, c.in_ok-geometry.ensures.ok, inr (c.in_ok-rows.rows, c.in_ok-rows.ensures.ok, inr (c.in_ok-bits.bits, c.in_ok-bits.ensures.ok, inl c.in_err-allow.ensures.fault))));
+      kept = ap g.F.LabFiles.kept c.allow.ensures.same;
+    })
 
-pub returns-in_err-room-clause-fault : goal.returns-in_err-room-clause-fault
-returns-in_err-room-clause-fault g c =
-    handed_on (IsUnrepairedBy (g.F.LabFiles.answers c.args.files.now) c.args.words.now (g.F.LabFiles.opened c.args.files.now) (g.F.LabFiles.opened c.allow.new.files)) _ fault.OutOfMemory c.from_residual-in_err-room.ensures.1
-    (inr (c.in_ok-geometry.geometry, c.in_ok-geometry.ensures.ok, inr (c.in_ok-rows.rows, c.in_ok-rows.ensures.ok, inr (c.in_ok-bits.bits, c.in_ok-bits.ensures.ok, inr (c.in_ok-allow.ensures.ok, inl (refl, ap g.F.LabFiles.opened c.in_ok-allow.ensures.same))))))
+pub returns-in_err-room : goal.returns-in_err-room
+returns-in_err-room g c =
+    rw (handed c.from_residual-in_err-room.result fault.OutOfMemory c.from_residual-in_err-room.ensures.1) (record {
+      put = tt;
+      fault = (inr (c.in_ok-geometry.geometry, c.in_ok-geometry.ensures.ok, inr (c.in_ok-rows.rows, c.in_ok-rows.ensures.ok, inr (c.in_ok-bits.bits, c.in_ok-bits.ensures.ok, inr (c.in_ok-allow.ensures.ok, inl (refl, ap g.F.LabFiles.opened c.in_ok-allow.ensures.same))))));
+      kept = ap g.F.LabFiles.kept c.allow.ensures.same;
+    })
 
-pub returns-in_err-repaired-clause-fault : goal.returns-in_err-repaired-clause-fault
-returns-in_err-repaired-clause-fault g c =
+pub returns-in_err-repaired : goal.returns-in_err-repaired
+returns-in_err-repaired g c =
     let words = c.args.words.now in
     let why = subst (λ f. IsFileUnmade (g.F.LabFiles.answers f) c.in_ok-geometry.geometry words.dump.now words.out.now c.in_err-repaired.field-0.0) c.in_ok-allow.ensures.same c.in_err-repaired.ensures.fault in
-    handed_on (IsUnrepairedBy (g.F.LabFiles.answers c.args.files.now) c.args.words.now (g.F.LabFiles.opened c.args.files.now) (g.F.LabFiles.opened c.mend.new.files)) _ _ c.from_residual-in_err-repaired.ensures.1
-    (inr (c.in_ok-geometry.geometry, c.in_ok-geometry.ensures.ok, inr (c.in_ok-rows.rows, c.in_ok-rows.ensures.ok, inr (c.in_ok-bits.bits, c.in_ok-bits.ensures.ok, inr (c.in_ok-allow.ensures.ok, inr (inl why))))))
+    rw (handed c.from_residual-in_err-repaired.result _ c.from_residual-in_err-repaired.ensures.1) (record {
+      put = tt;
+      fault = (inr (c.in_ok-geometry.geometry, c.in_ok-geometry.ensures.ok, inr (c.in_ok-rows.rows, c.in_ok-rows.ensures.ok, inr (c.in_ok-bits.bits, c.in_ok-bits.ensures.ok, inr (c.in_ok-allow.ensures.ok, inr (inl why))))));
+      kept = c.in_err-repaired.ensures.kept ∙ ap g.F.LabFiles.kept c.allow.ensures.same;
+    })
 
-pub returns-in_err-keep-clause-fault : goal.returns-in_err-keep-clause-fault
-returns-in_err-keep-clause-fault g c =
+pub returns-in_err-keep : goal.returns-in_err-keep
+returns-in_err-keep g c =
     let words = c.args.words.now in
     let b = g.F.LabFiles.answers c.mend.new.files in
     let why = unplaced_before (g.F.LabFiles.answers c.args.files.now) b words.out.now words.force c.in_err-keep.field-0.0 (subst (λ f. AnswersNoMore (g.F.LabFiles.answers f) b) c.in_ok-allow.ensures.same c.in_ok-repaired.ensures.no_more) c.in_err-keep.ensures.fault in
-    handed_on (IsUnrepairedBy (g.F.LabFiles.answers c.args.files.now) c.args.words.now (g.F.LabFiles.opened c.args.files.now) (g.F.LabFiles.opened c.keep.new.files)) _ _ c.from_residual-in_err-keep.ensures.1
-    (inr (c.in_ok-geometry.geometry, c.in_ok-geometry.ensures.ok, inr (c.in_ok-rows.rows, c.in_ok-rows.ensures.ok, inr (c.in_ok-bits.bits, c.in_ok-bits.ensures.ok, inr (c.in_ok-allow.ensures.ok, inr (inr why))))))
+    rw (handed c.from_residual-in_err-keep.result _ c.from_residual-in_err-keep.ensures.1) (record {
+      put = tt;
+      fault = (inr (c.in_ok-geometry.geometry, c.in_ok-geometry.ensures.ok, inr (c.in_ok-rows.rows, c.in_ok-rows.ensures.ok, inr (c.in_ok-bits.bits, c.in_ok-bits.ensures.ok, inr (c.in_ok-allow.ensures.ok, inr (inr why))))));
+      kept = c.in_err-keep.ensures.kept ∙ (c.in_ok-repaired.ensures.beside ∙ ap g.F.LabFiles.kept c.allow.ensures.same);
+    })
 
 pub returns-clause-put : goal.returns-clause-put
 returns-clause-put g c =

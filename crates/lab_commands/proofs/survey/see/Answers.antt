@@ -1,25 +1,36 @@
 use Rattle.std.proofs.Common.{refl, inl, inr}
-use Rattle.lab_commands.specs.Survey.{IsUnseen}
 use Rattle.lab_commands.specs.declared.text.LabFault.TheVariants as fault
-use Rattle.lab_commands.proofs.UndoneLemmas.{handed_on}
+use Rattle.lab_commands.proofs.UndoneLemmas.{handed}
 use Rattle.lab_commands.proofs.survey.see.Goals as goal
 
-pub returns-in_err-geometry-clause-fault : goal.returns-in_err-geometry-clause-fault
-returns-in_err-geometry-clause-fault g c =
-    handed_on (IsUnseen (g.F.LabFiles.answers c.args.files.now) c.args.words.now (g.F.LabFiles.opened c.args.files.now) (g.F.LabFiles.opened c.args.files.now)) _ _ c.from_residual.ensures.1
-    (inl c.in_err-geometry.ensures.fault)
+pub returns-in_err-geometry : goal.returns-in_err-geometry
+returns-in_err-geometry g c =
+    rw (handed c.from_residual.result _ c.from_residual.ensures.1) (record {
+      seen = tt;
+      fault = (inl c.in_err-geometry.ensures.fault);
+      kept = refl;
+    })
 
-pub returns-in_err-rows-clause-fault : goal.returns-in_err-rows-clause-fault
-returns-in_err-rows-clause-fault g c =
-    handed_on (IsUnseen (g.F.LabFiles.answers c.args.files.now) c.args.words.now (g.F.LabFiles.opened c.args.files.now) (g.F.LabFiles.opened c.args.files.now)) _ _ c.from_residual-in_err-rows.ensures.1
-    (inr (c.in_ok-geometry.geometry, c.in_ok-geometry.ensures.ok, inl c.in_err-rows.ensures.fault))
+pub returns-in_err-rows : goal.returns-in_err-rows
+returns-in_err-rows g c =
+    rw (handed c.from_residual-in_err-rows.result _ c.from_residual-in_err-rows.ensures.1) (record {
+      seen = tt;
+      fault = (inr (c.in_ok-geometry.geometry, c.in_ok-geometry.ensures.ok, inl c.in_err-rows.ensures.fault));
+      kept = refl;
+    })
 
-pub returns-in_err-room-clause-fault : goal.returns-in_err-room-clause-fault
-returns-in_err-room-clause-fault g c =
-    handed_on (IsUnseen (g.F.LabFiles.answers c.args.files.now) c.args.words.now (g.F.LabFiles.opened c.args.files.now) (g.F.LabFiles.opened c.args.files.now)) _ fault.OutOfMemory c.from_residual-in_err-room.ensures.1
-    (inr (c.in_ok-geometry.geometry, c.in_ok-geometry.ensures.ok, inr (c.in_ok-rows.rows, c.in_ok-rows.ensures.ok, inl (refl, refl))))
+pub returns-in_err-room : goal.returns-in_err-room
+returns-in_err-room g c =
+    rw (handed c.from_residual-in_err-room.result fault.OutOfMemory c.from_residual-in_err-room.ensures.1) (record {
+      seen = tt;
+      fault = (inr (c.in_ok-geometry.geometry, c.in_ok-geometry.ensures.ok, inr (c.in_ok-rows.rows, c.in_ok-rows.ensures.ok, inl (refl, refl))));
+      kept = refl;
+    })
 
-pub returns-in_err-survey-clause-fault : goal.returns-in_err-survey-clause-fault
-returns-in_err-survey-clause-fault g c =
-    handed_on (IsUnseen (g.F.LabFiles.answers c.args.files.now) c.args.words.now (g.F.LabFiles.opened c.args.files.now) (g.F.LabFiles.opened c.survey_of.new.files)) _ _ c.from_residual-in_err-survey.ensures.1
-    (inr (c.in_ok-geometry.geometry, c.in_ok-geometry.ensures.ok, inr (c.in_ok-rows.rows, c.in_ok-rows.ensures.ok, inr c.in_err-survey.ensures.fault)))
+pub returns-in_err-survey : goal.returns-in_err-survey
+returns-in_err-survey g c =
+    rw (handed c.from_residual-in_err-survey.result _ c.from_residual-in_err-survey.ensures.1) (record {
+      seen = tt;
+      fault = (inr (c.in_ok-geometry.geometry, c.in_ok-geometry.ensures.ok, inr (c.in_ok-rows.rows, c.in_ok-rows.ensures.ok, inr c.in_err-survey.ensures.fault)));
+      kept = c.survey_of.ensures.kept;
+    })

@@ -4,15 +4,18 @@ use Rattle.lab_commands.proofs.PrintLemmas.{done_by, undone_by}
 use Rattle.lab_commands.specs.Reports.{survey_text}
 use Rattle.lab_commands.specs.Survey.{IsSurveyFault, ToldSurvey}
 use Rattle.lab_commands.specs.Undone.{form_of}
-use Rattle.lab_commands.proofs.UndoneLemmas.{handed_on, left_all}
+use Rattle.lab_commands.proofs.UndoneLemmas.{left_all, handed}
 use Rattle.lab_commands.proofs.survey.survey_command.Goals as goal
 
-pub returns-in_err-seen-clause-fault : goal.returns-in_err-seen-clause-fault
-returns-in_err-seen-clause-fault g c =
+pub returns-in_err-seen : goal.returns-in_err-seen
+returns-in_err-seen g c =
     let o = g.W.Output.contents c.args.out.now in
     let a = g.F.LabFiles.answers c.args.files.now in
-    handed_on (IsSurveyFault a c.args.words (g.F.LabFiles.kept c.args.files.now) (g.F.LabFiles.kept c.see.new.files) (g.F.LabFiles.opened c.args.files.now) (g.F.LabFiles.opened c.see.new.files) (g.W.Output.failed c.args.out.now) o o) _ _ c.from_residual.ensures.1
-    (inl (left_all _ _ o c.in_err-seen.ensures.kept, c.in_err-seen.ensures.fault))
+    rw (handed c.from_residual.result _ c.from_residual.ensures.1) (record {
+      ok = tt;
+      kept = c.see.ensures.kept;
+      fault = (inl (left_all _ _ o c.in_err-seen.ensures.kept, c.in_err-seen.ensures.fault));
+    })
 
 pub returns : goal.returns
 returns g c =

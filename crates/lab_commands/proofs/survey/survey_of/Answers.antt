@@ -1,8 +1,11 @@
 use Rattle.std.proofs.Common.{inl}
-use Rattle.lab_commands.specs.Survey.{IsUnsurveyed}
-use Rattle.lab_commands.proofs.UndoneLemmas.{handed_on}
+use Rattle.lab_commands.proofs.UndoneLemmas.{handed}
 use Rattle.lab_commands.proofs.survey.survey_of.Goals as goal
 
-pub returns-in_err-reader-clause-fault : goal.returns-in_err-reader-clause-fault
-returns-in_err-reader-clause-fault g c =
-    handed_on (IsUnsurveyed (g.F.LabFiles.answers c.args.files.now) c.args.geometry.now c.args.dump.now) _ _ c.from_residual.ensures.1 (inl c.in_err-reader.ensures.fault)
+pub returns-in_err-reader : goal.returns-in_err-reader
+returns-in_err-reader g c =
+    rw (handed c.from_residual.result _ c.from_residual.ensures.1) (record {
+      seen = tt;
+      fault = (inl c.in_err-reader.ensures.fault);
+      kept = c.open_file.ensures.kept;
+    })

@@ -6,6 +6,6 @@ use Rattle.lab_commands.proofs.values.put_age.Goals as goal
 pub returns : goal.returns
 returns g c =
     subst
-    (λ (t : List ℕ). Prints (g.W.Output.failed c.put_pieces.new.out) (g.W.Output.contents c.args.out.now)
-    (g.W.Output.contents c.put_pieces.new.out) t c.put_pieces.result)
-    (age_json c.args.doubts c.most_older.result c.from.result c.most_older.ensures c.from.ensures) c.put_pieces.ensures
+    (λ (t : List ℕ). Prints (g.W.Output.failed c.put_both_between.new.out) (g.W.Output.contents c.args.out.now)
+    (g.W.Output.contents c.put_both_between.new.out) t c.put_both_between.result)
+    (age_json c.args.doubts c.most_older.result c.from.result c.most_older.ensures c.from.ensures) c.put_both_between.ensures

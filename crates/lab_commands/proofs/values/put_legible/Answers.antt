@@ -5,4 +5,4 @@ use Rattle.lab_commands.proofs.values.put_legible.Goals as goal
 
 pub returns : goal.returns
 returns g c =
-    subst (λ (t : List ℕ). Prints (g.W.Output.failed c.put_pieces.new.out) (g.W.Output.contents c.args.out.now) (g.W.Output.contents c.put_pieces.new.out) t c.put_pieces.result) (legible_json c.args.legible c.args.others c.from.result c.from.ensures) c.put_pieces.ensures
+    subst (λ (t : List ℕ). Prints (g.W.Output.failed c.put_both_between.new.out) (g.W.Output.contents c.args.out.now) (g.W.Output.contents c.put_both_between.new.out) t c.put_both_between.result) (legible_json c.args.legible c.args.others c.from.result c.from.ensures) c.put_both_between.ensures

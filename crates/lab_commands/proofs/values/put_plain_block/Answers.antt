@@ -1,11 +1,6 @@
-use Rattle.std.proofs.Common.{List, ℕ, subst}
-use Rattle.lab_commands.specs.Document.{Prints}
-use Rattle.lab_commands.proofs.JsonLemmas.{plain_block_json}
+use Rattle.json.specs.Print.{escape_byte}
 use Rattle.lab_commands.proofs.values.put_plain_block.Goals as goal
 
 pub returns : goal.returns
-returns g c =
-    subst
-    (λ (t : List ℕ). Prints (g.W.Output.failed c.put_pieces.new.out) (g.W.Output.contents c.args.out.now)
-    (g.W.Output.contents c.put_pieces.new.out) t c.put_pieces.result)
-    (plain_block_json c.args.block c.args.unsound c.from.result c.from-2.result c.from.ensures c.from-2.ensures) c.put_pieces.ensures
+unfolding escape_byte
+returns g c = c.put_counts_between.ensures

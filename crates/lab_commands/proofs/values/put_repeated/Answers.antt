@@ -6,6 +6,6 @@ use Rattle.lab_commands.proofs.values.put_repeated.Goals as goal
 pub returns : goal.returns
 returns g c =
     subst
-    (λ (t : List ℕ). Prints (g.W.Output.failed c.put_pieces.new.out) (g.W.Output.contents c.args.out.now)
-    (g.W.Output.contents c.put_pieces.new.out) t c.put_pieces.result)
-    (repeated_json c.args.first c.args.second c.from.result c.from-2.result c.from.ensures c.from-2.ensures) c.put_pieces.ensures
+    (λ (t : List ℕ). Prints (g.W.Output.failed c.put_counts_between.new.out) (g.W.Output.contents c.args.out.now)
+    (g.W.Output.contents c.put_counts_between.new.out) t c.put_counts_between.result)
+    (repeated_json c.args.first c.args.second) c.put_counts_between.ensures
