@@ -44,6 +44,8 @@ NAMELESS = re.compile(
     r"not in scope|unknown (name|module|import)|no (item|module|name|definition) |cannot find|unresolved|does not (have|export|declare)|"
     r"is private|is not declared|parse error|syntax error|unexpected (token|character|end)"
 )
+# an answer of a goal that the bug took away, as with an exit: it shows nothing by itself
+GONE = re.compile(r"Goals` has no `[^`]*` that can be named")
 # what a prover says of a clause that a body doesn't meet
 UNMET = re.compile(r"prove|goal|clause|requires|ensures|invariant|search|grind|omega")
 MESSAGE = re.compile(r"^(?P<file>\S+?\.(?:rt|antt)):(?P<line>\d+):\d+: error: (?P<text>.*)$|^error(?:\[\w+\])?: (?P<rust>.*)$|^.*must prove: (?P<goal>.*)$")
@@ -80,8 +82,11 @@ def verdict_of(said):
         return ("unread" if messages else "none"), messages[0][1] if messages else said[-160:]
     if not messages:
         return "none", said[-160:]
+    unmet = [it for it in messages if not GONE.search(it[1])]
+    if not unmet:
+        return "unread", f"{messages[0][0] or ''} {messages[0][1]}"
     # an open goal says more than an answer whose form broke
-    file, text = next((it for it in messages if it[1].startswith("must prove")), messages[0])
+    file, text = next((it for it in unmet if it[1].startswith("must prove")), unmet[0])
     return "refused", f"{file or ''} {text}"
 
 

@@ -112,7 +112,7 @@ pub record IsUnaccepted {N : Type 0} (view : View N) (nand : N) (g : Geometry) (
   pub back : IsHandedBack view nand g given
 
 -- no memory was left to start a device, and the die's pages are as they were
-pub record IsUnstarted {N : Type 0} (view : View N) (nand : N) (g : Geometry) (capacity : ℕ) (c : Claim) (given : N) : Type 0 where
+pub record IsRunUnstarted {N : Type 0} (view : View N) (nand : N) (g : Geometry) (capacity : ℕ) (c : Claim) (given : N) : Type 0 where
   pub same : view.honest nand ≡ true → view.flash given ≡ view.flash nand
   pub agrees : view.honest nand ≡ true → Agrees g capacity (view.flash nand).image c
   pub back : IsHandedBack view nand g given
@@ -121,5 +121,5 @@ pub record IsUnstarted {N : Type 0} (view : View N) (nand : N) (g : Geometry) (c
 abbrev pub FailsToServe : {N : Type 0} → (view : View N) → N → Geometry → (share capacity : ℕ)
     → Claim → (unread left before after : Option (List ℕ)) → RunFault N → Type 0
 FailsToServe view nand g share capacity c unread left before after (Refused why given) = IsUntouched unread left before after × IsUnaccepted view nand g capacity c why given
-FailsToServe view nand g share capacity c unread left before after (Start given) = IsUntouched unread left before after × IsUnstarted view nand g capacity c given
+FailsToServe view nand g share capacity c unread left before after (Start given) = IsUntouched unread left before after × IsRunUnstarted view nand g capacity c given
 FailsToServe view nand g share capacity c unread left before after (Serve stop given) = IsServed view nand g share capacity c unread left before after (Err stop) given

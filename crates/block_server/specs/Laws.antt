@@ -25,7 +25,7 @@ use Rattle.command_queue.specs.Exchanges.{Exchange, commands_in, replies_in, Are
 use Rattle.command_queue.specs.Tells.{ToldEach}
 use Rattle.command_queue.specs.Run.{accepted_device}
 use Rattle.block_server.specs.declared.server.Served.{Served}
-use Rattle.block_server.specs.Checked.{Headline, HeadlineHolds, HasBusFailed, IsBegun, IsHandedBack, IsServed, IsUnaccepted, IsUnstarted}
+use Rattle.block_server.specs.Checked.{Headline, HeadlineHolds, HasBusFailed, IsBegun, IsHandedBack, IsServed, IsUnaccepted, IsRunUnstarted}
 
 -- ---- of the headline
 
@@ -102,4 +102,4 @@ BackLaw {N} view = (nand : N) (g : Geometry) (given : N) → IsHandedBack view n
 abbrev pub UnservedLaw : {N : Type 0} → (view : View N) → Type 0
 UnservedLaw {N} view = (nand : N) (g : Geometry) (capacity : ℕ) (c : Claim) (why : Refusal) (given : N) → view.honest nand ≡ true
     → (IsUnaccepted view nand g capacity c why given → IsRefusal g capacity (view.flash nand).image c why × (why ≢ refusal.Source → view.flash given ≡ view.flash nand))
-    × (IsUnstarted view nand g capacity c given → Agrees g capacity (view.flash nand).image c × (view.flash given ≡ view.flash nand))
+    × (IsRunUnstarted view nand g capacity c given → Agrees g capacity (view.flash nand).image c × (view.flash given ≡ view.flash nand))

@@ -42,3 +42,4 @@ pub mod Stops
 pub mod HalfPuts
 pub mod PageReads
 pub mod Cuts
+pub mod Standing

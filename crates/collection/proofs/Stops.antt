@@ -23,13 +23,13 @@ use Rattle.collection.specs.declared.fault.EngineFault.{EngineFault}
 use Rattle.collection.specs.declared.fault.EngineFault.TheVariants.{ReadOnly, SequenceSpent, Damaged, Bus}
 use Rattle.mapping_cache.specs.Mapping.{MappingState}
 use Rattle.collection.specs.Settle.{SetsMapping}
-use Rattle.collection.specs.Collect.{IsRearranged, RoomRefused}
+use Rattle.collection.specs.Collect.{IsRearranged, KeepsKeys, RoomRefused}
 use Rattle.collection.proofs.Costs.{err_as}
 use Rattle.collection.specs.Live.{FindsFirst, IsFirstLive, IsLivePage}
 use Rattle.collection.specs.State.{Ram}
 use Rattle.collection.specs.Safe.{IsRam}
 use Rattle.collection.specs.Truth.{IsTrue}
-use Rattle.collection.specs.Results.{CanProgram, IsSame, IsImageKept, Refused}
+use Rattle.collection.specs.Results.{CanProgram, Goes, IsSame, IsImageKept, Refused}
 use Rattle.collection.specs.Stops.{IsLeftByStop, IsKeptOr, OneGainLaw, room_of}
 use Rattle.collection.proofs.Mounts.{orderly}
 
@@ -100,6 +100,14 @@ sized_same a = record { geometry = refl; capacity = refl; share = refl }
 
 pub sized_then : (a b c : Ram) → IsSized a b → IsSized b c → IsSized a c
 sized_then a b c p q = record { geometry = q.geometry ∙ p.geometry; capacity = q.capacity ∙ p.capacity; share = q.share ∙ p.share }
+
+-- a call leaves the size, and nothing went on before it
+pub sized_after : (a b c : Ram) → b ≡ a → Goes b c → KeepsKeys b.mapping c.mapping → IsSized a c
+sized_after a b c same goes keys = record {
+  geometry = goes.geometry ∙ ap (λ r. r.geometry) same;
+  capacity = keys.limits.capacity ∙ ap (λ r. r.mapping.capacity) same;
+  share = keys.limits.share ∙ ap (λ r. r.mapping.share) same;
+}
 
 pub orderly_sized : (a b : Ram) (image : Image) → IsSized a b → IsOrderly b.geometry (room_of b) image → IsOrderly a.geometry (room_of a) image
 orderly_sized a b image s o =

@@ -103,7 +103,9 @@ touched_from flushing r r1 r2 x x1 x2 block first page row found body live w sam
     let here : row ≡ block * r.geometry.pages + page = at ∙ ap (λ (z : Ram). block * z.geometry.pages + page) same in
     let of_block : row / r1.geometry.pages ≡ block = ap (λ (z : Ram). row / z.geometry.pages) same ∙ (ap (λ k. k / r.geometry.pages) here ∙ div-mul-add block r.geometry.pages page lt) in
     let live_page : IsLivePage row body found x = (let P : ℕ → Type 0 = λ q. IsLivePage q body found x in subst P (sym here) f.live) in
-    let touched : TouchesNoMore flushing (row / r1.geometry.pages) r1 x1 r2 x2 = call (rw (same, still) w) (let here_shut : is_shut r.blocks (row / r1.geometry.pages) ≡ true = ap (is_shut r.blocks) of_block ∙ shut_closed r.blocks block closed in (let P : Ram → Type 0 = λ z. is_shut z.blocks (row / r1.geometry.pages) ≡ true in subst P (sym same) here_shut)) (rw still live_page) in
+    let here_shut : is_shut r.blocks (row / r1.geometry.pages) ≡ true = ap (is_shut r.blocks) of_block ∙ shut_closed r.blocks block closed in
+    let P : Ram → Type 0 = λ z. is_shut z.blocks (row / r1.geometry.pages) ≡ true in
+    let touched : TouchesNoMore flushing (row / r1.geometry.pages) r1 x1 r2 x2 = call (rw (same, still) w) (subst P (sym same) here_shut) (rw still live_page) in
     let P : ℕ → Type 0 = λ k. TouchesNoMore flushing k r1 x1 r2 x2 in
     let Q : Image → Type 0 = λ i. TouchesNoMore flushing block r1 i r2 x2 in
     let R : Ram → Type 0 = λ z. TouchesNoMore flushing block z x r2 x2 in
@@ -167,7 +169,9 @@ stepped_on flushing p r b (step.Copied page) (low, high, c, f) next = record { c
 stepped_on flushing p r b step.WroteBack c next = record { cost = c; next = next }
 stepped_on flushing p r b step.Erased (none, c) next = record { cost = c; next = next }
 
-few_on : (r b : Ram) (p q : Pinned) → q.block ≡ p.block → b.geometry ≡ r.geometry → b.mapping.share ≡ r.mapping.share → live_at b.blocks p.block ≤ live_at r.blocks p.block → live_at b.blocks p.block + length b.mapping.moved ≤ live_at r.blocks p.block + length r.mapping.moved → IsFew 0 r p → IsFew 0 b q
+few_on : (r b : Ram) (p q : Pinned) → q.block ≡ p.block → b.geometry ≡ r.geometry → b.mapping.share ≡ r.mapping.share
+    → live_at b.blocks p.block ≤ live_at r.blocks p.block → live_at b.blocks p.block + length b.mapping.moved ≤ live_at r.blocks p.block + length r.mapping.moved
+    → IsFew 0 r p → IsFew 0 b q
 few_on r b p q at same share fewer sum few =
     let small = few.small in
     let moved = few.moved in

@@ -41,7 +41,11 @@ module _ (old new : Ram) (call : List Operation) (safe : IsRam old) (safe' : IsR
       → IfErr result (Says old new) → IfErr result (IsShown old.geometry old.mapping.share (is_bad_by old) old.next [] call ro image) → NoDamage result → result ≢ Err BusFault → IfErr result (IsShown old.geometry old.mapping.share bad next before call ro image)
   shown_on next ro image (Ok done) w spent says shown sound ne = tt
   shown_on next ro image (Err OutOfRange) w spent says shown sound ne = tt
-  shown_on next ro image (Err (ReadOnly good wanted failed)) w spent says shown sound ne = (subst (λ n. IsShortIn old.geometry n bad (before ++ call) call image good wanted failed) shared (short_in old.geometry bad (before ++ call) new image sized also old call good wanted failed safe safe' refl follows w says), short_on ro shown.1)
+  shown_on next ro image (Err (ReadOnly good wanted failed)) w spent says shown sound ne = (
+    subst (λ n. IsShortIn old.geometry n bad (before ++ call) call image good wanted failed)
+        shared (short_in old.geometry bad (before ++ call) new image sized also old call good wanted failed safe safe' refl follows w says),
+    short_on ro shown.1,
+  )
   shown_on next ro image (Err SequenceSpent) w spent says shown sound ne = sym spent ∙ says
   shown_on next ro image (Err OutOfMemory) w spent says shown sound ne = tt
   shown_on next ro image (Err Damaged) w spent says shown sound ne = sound

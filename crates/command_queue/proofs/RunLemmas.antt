@@ -335,7 +335,8 @@ module _ {N : Type 0} (view : View N) (old mid new : Device N) (done : List Exch
         let its = h.flushed is done in
         let mid_bad : (b : ℕ) → b < mid.engine.geometry.blocks → is_bad_by (ram new.engine) b ≡ bad_of mid.engine.geometry.pages (is_bad_by (ram mid.engine)) h.went.log b = λ b lt. bad_now_law (ram mid.engine) (ram new.engine) h.went.log b mid_safe.blocks_of h.went.follows lt in
         flushed_then (ram old.engine) (ram mid.engine) (ram new.engine) (log_of ran.run.events) h.went.log (image_in view.flash new.engine) sized most ran.wears mid_bad (bads_then mid.engine.geometry sized) its;
-    stale = λ need e. h.stale (subst (λ (g : Geometry). needs_no_memory mid.engine.mapping.share (is_some mid.engine.pinned) g (image_in view.flash mid.engine) x.command ≡ true) (sym sized) (subst (λ n. needs_no_memory n (is_some mid.engine.pinned) old.engine.geometry (image_in view.flash mid.engine) x.command ≡ true) (sym mid_limits.share) need)) e;
+    stale = λ need e. h.stale (subst (λ (g : Geometry). needs_no_memory mid.engine.mapping.share (is_some mid.engine.pinned) g (image_in view.flash mid.engine) x.command ≡ true)
+        (sym sized) (subst (λ n. needs_no_memory n (is_some mid.engine.pinned) old.engine.geometry (image_in view.flash mid.engine) x.command ≡ true) (sym mid_limits.share) need)) e;
     mountable = λ most. mountable_after view.flash old.engine new new.engine refl (sized' ∙ sized) limits safe' well most;
     reads = h.reads;
     versions = subst (λ (g : Geometry). AddsNoOld g (image_in view.flash mid.engine) (image_in view.flash new.engine)) sized h.versions;

@@ -60,7 +60,8 @@ module _ {N : Type 0} (view : View N) where
         none_on (ram old.engine) (ram new.engine) its.happened.went.log device.engine.memory its.tells.device.engine.memory its.tells.sized its.happened.went.follows rescued
         (subst (λ l. FailsNowhere old.engine.geometry l) its.piece nowhere) none
 
-    quiet_so : IsQuiet view.erases old.engine new.engine → (0 < programs_in event.piece) ⊎ HasRisen (view.erases old.engine.nand) (view.erases new.engine.nand) ⊎ (need_at new.engine.geometry new.engine.mapping.share + 3 ≤ good_by (ram new.engine) → 12 + flush_blocks_at new.engine.geometry new.engine.mapping.share ≤ free_by (ram new.engine) (image_in view.flash new.engine))
+    quiet_so : IsQuiet view.erases old.engine new.engine → (0 < programs_in event.piece) ⊎ HasRisen (view.erases old.engine.nand) (view.erases new.engine.nand)
+        ⊎ (need_at new.engine.geometry new.engine.mapping.share + 3 ≤ good_by (ram new.engine) → 12 + flush_blocks_at new.engine.geometry new.engine.mapping.share ≤ free_by (ram new.engine) (image_in view.flash new.engine))
     quiet_so (inl (inl more)) = inl (omega (arith, more, its.happened.went.next, ap programs_in its.piece))
     quiet_so (inl (inr rose)) = inr (inl rose)
     quiet_so (inr enough) =
@@ -69,7 +70,8 @@ module _ {N : Type 0} (view : View N) where
         let free : free_count (ram new.engine).blocks ≡ free_by (ram new.engine) (image_in view.flash new.engine) = free_now_law (ram new.engine) (image_in view.flash new.engine) safe well_then.truth in
         inr (inr (λ many. subst (λ n. 12 + flush_blocks_at new.engine.geometry new.engine.mapping.share ≤ n) free (enough (omega (arith, many, good)))))
 
-    quiet : (0 < programs_in event.piece) ⊎ HasRisen (view.erases old.engine.nand) (view.erases new.engine.nand) ⊎ (need_at new.engine.geometry new.engine.mapping.share + 3 ≤ good_by (ram new.engine) → 12 + flush_blocks_at new.engine.geometry new.engine.mapping.share ≤ free_by (ram new.engine) (image_in view.flash new.engine))
+    quiet : (0 < programs_in event.piece) ⊎ HasRisen (view.erases old.engine.nand) (view.erases new.engine.nand)
+        ⊎ (need_at new.engine.geometry new.engine.mapping.share + 3 ≤ good_by (ram new.engine) → 12 + flush_blocks_at new.engine.geometry new.engine.mapping.share ≤ free_by (ram new.engine) (image_in view.flash new.engine))
     quiet = quiet_so (subst (λ r. OnOk r (IsQuiet view.erases old.engine new.engine)) done (takes.quiet is_honest well))
 
   -- with fewer left than there are turns, one of them rests

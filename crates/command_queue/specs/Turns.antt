@@ -54,7 +54,8 @@ TurnsInARowLaw {N} view = (old new : Device N) (events : List Event) (xs : List 
 abbrev pub QuietTurnLaw : {N : Type 0} → (view : View N) → Type 0
 QuietTurnLaw {N} view = (old new : Device N) (event : Event) (x : Exchange) → view.honest old.engine.nand ≡ true
     → IsWell view.flash old → is_turn x.command ≡ true → x.result ≡ Ok tt → IsEventOf view old event x new
-    → (0 < programs_in event.piece) ⊎ HasRisen (view.erases old.engine.nand) (view.erases new.engine.nand) ⊎ (need_at new.engine.geometry new.engine.mapping.share + 3 ≤ good_by (ram new.engine) → 12 + flush_blocks_at new.engine.geometry new.engine.mapping.share ≤ free_by (ram new.engine) (image_in view.flash new.engine))
+    → (0 < programs_in event.piece) ⊎ HasRisen (view.erases old.engine.nand) (view.erases new.engine.nand)
+    ⊎ (need_at new.engine.geometry new.engine.mapping.share + 3 ≤ good_by (ram new.engine) → 12 + flush_blocks_at new.engine.geometry new.engine.mapping.share ≤ free_by (ram new.engine) (image_in view.flash new.engine))
 
 -- A TURN OF A RUN THAT IS DONE AND PROGRAMS AND ERASES NOTHING leaves twelve free blocks, and those of a flush, by the image and the log up to it, where three more are good by
 -- that log than the geometry asks for

@@ -91,7 +91,8 @@ kept_whole n xs ys e = ap (λ k. take k (xs ++ drop (length xs) ys)) (sym e) ∙
 
 -- the vector's bytes are those of the slice that was formatted
 pub has_formatted : (gives : Gives) (words : FileWords) (numbers : GeometryNumbers) (g : Geometry) (loaded before after stored : List ℕ) (good n : ℕ) → SpellsGeometry words.geometry.now numbers
-    → HasNumbers numbers.data_bytes numbers.spare_bytes numbers.pages numbers.blocks numbers.sectors g → gives words.input.now (Ok loaded) → before ≡ loaded → stored ≡ take n (after ++ drop (length after) loaded) → length after ≡ n → IsFormattedImage g before after good → HasFormatted gives words stored good
+    → HasNumbers numbers.data_bytes numbers.spare_bytes numbers.pages numbers.blocks numbers.sectors g → gives words.input.now (Ok loaded) → before ≡ loaded
+    → stored ≡ take n (after ++ drop (length after) loaded) → length after ≡ n → IsFormattedImage g before after good → HasFormatted gives words stored good
 has_formatted gives words numbers g loaded before after stored good n spelled valid given same taken whole formatted = let kept = taken ∙ kept_whole n after loaded whole in record {
   geometry = g;
   before = loaded;

@@ -75,7 +75,8 @@ mended_members Hamming mended = codes ",\"code\":\"hamming\",\"turned\":" ++ (de
 abbrev pub object_of : Info → (lost : List ℕ) → List ℕ
 object_of i lost =
     codes "{\"size\":" ++ (decimal (size_of i.shape.geometry) ++ (codes ",\"geometry\":\"" ++ (geometry_words i.shape.geometry ++ (codes "\",\"cache\":" ++ (decimal i.shape.cache
-    ++ (codes ",\"share\":" ++ (decimal i.shape.share ++ (codes ",\"free\":" ++ (decimal i.free ++ (codes ",\"bad\":" ++ (decimal i.bad ++ (codes ",\"wear\":" ++ (wear_of i ++ (codes ",\"next\":" ++ (decimal i.next ++ (codes ",\"lost\":[" ++ (lost ++ (codes "]" ++ (mended_members i.shape.code i.mended ++ codes "}\n")))))))))))))))))))
+    ++ (codes ",\"share\":" ++ (decimal i.shape.share ++ (codes ",\"free\":" ++ (decimal i.free ++ (codes ",\"bad\":"
+    ++ (decimal i.bad ++ (codes ",\"wear\":" ++ (wear_of i ++ (codes ",\"next\":" ++ (decimal i.next ++ (codes ",\"lost\":[" ++ (lost ++ (codes "]" ++ (mended_members i.shape.code i.mended ++ codes "}\n")))))))))))))))))))
 
 abbrev pub info_text : Form → Info → (lost : List ℕ) → List ℕ
 info_text Text i lost = lines_of i ++ (lost_lines lost ++ mended_lines i.shape.code i.mended)

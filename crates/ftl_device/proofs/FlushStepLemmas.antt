@@ -35,7 +35,7 @@ use Rattle.ftl_device.specs.declared.fault.CallFault.TheVariants as call
 use Rattle.ftl_device.specs.Calls.{Knows, KeepsArray, CallRefused, HasMadeRoom, HasPage, OneKindLaw, WriteOrTrimLaw, answer_of}
 use Rattle.ftl_device.specs.Changes.{EngineLeaves}
 use Rattle.ftl_device.specs.Flush.{IsClean}
-use Rattle.ftl_device.specs.FlushSteps.{HasBegun, HasCleared, WritesBack, FlushesPage, FlushesPages, WritesTable, WritesFirst, HasRound, Repeats, WritesRounds, HasFlushed, CleanFlushLaw, FailedFlushLaw, LackingPageLaw}
+use Rattle.ftl_device.specs.FlushSteps.{HasBegunFlush, HasCleared, WritesBack, FlushesPage, FlushesPages, WritesTable, WritesFirst, HasRound, Repeats, WritesRounds, HasFlushed, CleanFlushLaw, FailedFlushLaw, LackingPageLaw}
 use Rattle.ftl_device.proofs.CallLemmas.{done_too}
 use Rattle.ftl_device.proofs.FlushLoops.{keeps_same, engine_keeps}
 
@@ -74,7 +74,7 @@ module _ {N : Type 0} (view : View N) where
   pub begun_by : (old mid : Engine N) (done : Unit {0}) → EngineLeaves view old (Ok done) mid → (old.mapping.share ≡ 0 → mid ≡ old)
       → (0 < old.mapping.share → HasMadeRoom (wanted reserve.Flush (ram old)) false (ram old) (ram mid))
       → (view.honest old.nand ≡ true → Knows (ram old) (image_in view.flash old) → KeepsArray old.geometry (image_in view.flash old) (ram mid) (image_in view.flash mid))
-      → HasBegun view old mid
+      → HasBegunFlush view old mid
   begun_by old mid done leaves still room keeps = record {
     still = still;
     room = room;
@@ -93,7 +93,7 @@ module _ {N : Type 0} (view : View N) where
   pub begun_ok : (old mid : Engine N) (result : Result (Unit {0}) EngineFault) → 0 < old.mapping.share → EngineLeaves view old result mid → OnOk result (HasMadeRoom (wanted reserve.Flush (ram old)) false (ram old) (ram mid))
       → (view.honest old.nand ≡ true → Knows (ram old) (image_in view.flash old)
       → MatchResult result (λ done. KeepsArray old.geometry (image_in view.flash old) (ram mid) (image_in view.flash mid)) (λ fault. CallRefused old.geometry (image_in view.flash old) (ram mid) (image_in view.flash mid) (call.Engine fault)))
-      → OnOk result (HasBegun view old mid)
+      → OnOk result (HasBegunFlush view old mid)
   begun_ok old mid (Ok done) some leaves room keeps = begun_by old mid done leaves (λ none. absurd (omega (arith, none, some))) (λ any. room) keeps
   begun_ok old mid (Err fault) some leaves room keeps = tt
 
@@ -253,7 +253,7 @@ module _ {N : Type 0} (view : View N) where
   ]
 
   -- nor as it begins
-  begins_rests : (old new : Engine N) → wanted reserve.Flush (ram old) ≤ free_count (ram old).blocks → HasBegun view old new → ram new ≡ ram old
+  begins_rests : (old new : Engine N) → wanted reserve.Flush (ram old) ≤ free_count (ram old).blocks → HasBegunFlush view old new → ram new ≡ ram old
   begins_rests old new enough begun = elim (cases_eq old.mapping.share 0) [
     | inl none ↦ ap (λ (e : Engine N). ram e) (begun.still none)
     | inr some ↦ (begun.room (omega (arith, some))).rests enough

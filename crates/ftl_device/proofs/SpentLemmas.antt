@@ -269,7 +269,8 @@ flush_first SequenceSpent a b h = tt
 flush_first Damaged a b h = tt
 flush_first Bus a b h = tt
 
-pub flush_room : (fault : EngineFault) (a b c : Ram) → b.geometry ≡ a.geometry → b.mapping.share ≡ a.mapping.share → Tells {A = Unit {0}} b c (Err fault) → FlushFunded 0 a b → ((g : ℕ) → IsFunded b.geometry.pages g (counts_of b.blocks) → RoomCounts 9 g b c (Err fault)) → FlushShort a c (Err (Engine fault))
+pub flush_room : (fault : EngineFault) (a b c : Ram) → b.geometry ≡ a.geometry → b.mapping.share ≡ a.mapping.share → Tells {A = Unit {0}} b c (Err fault)
+    → FlushFunded 0 a b → ((g : ℕ) → IsFunded b.geometry.pages g (counts_of b.blocks) → RoomCounts 9 g b c (Err fault)) → FlushShort a c (Err (Engine fault))
 flush_room fault a b c same share tells so h = flush_first fault a c (counts_then 0 (Err fault) a b c same share tells so (λ g funded. unroomed_counts g fault b c (h g funded)))
 
 -- nine are free for the table pages, or too few good, or too few were good before

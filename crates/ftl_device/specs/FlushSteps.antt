@@ -31,7 +31,7 @@ abbrev pub GoesHonestly : {N : Type 0} → View N → Engine N → Engine N → 
 GoesHonestly view old new = view.honest old.nand ≡ true → Knows (ram old) (image_in view.flash old) → GoesOver view old new
 
 -- ABOVE SHARE 0 ROOM WAS MADE FOR THE WHOLE FLUSH, by collections as outside one; with share 0 nothing was done
-pub record HasBegun {N : Type 0} (view : View N) (old new : Engine N) : Type 0 where
+pub record HasBegunFlush {N : Type 0} (view : View N) (old new : Engine N) : Type 0 where
   pub still : old.mapping.share ≡ 0 → new ≡ old
   pub room : 0 < old.mapping.share → HasMadeRoom (wanted reserve.Flush (ram old)) false (ram old) (ram new)
   pub honest_is : view.honest new.nand ≡ view.honest old.nand
@@ -118,7 +118,7 @@ pub record HasFlushed {N : Type 0} (view : View N) (old new : Engine N) : Type 0
   pub begun : Engine N
   pub back : Engine N
   pub ready : Engine N
-  pub begins : HasBegun view old begun
+  pub begins : HasBegunFlush view old begun
   pub pages : FlushesPages view (translation_pages old.geometry) begun back
   pub cleared : HasCleared view back ready
   pub tables : WritesRounds view ready new

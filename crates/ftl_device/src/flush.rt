@@ -15,7 +15,7 @@ ghost use Rattle.ftl_device.specs.Calls.{IsWell, Knows, KeepsArray, CallRefused}
 ghost use Rattle.ftl_device.specs.Renewed.{Finishes};
 ghost use Rattle.ftl_device.specs.Flush.{IsClean, KeepsClean, HasNewTables, SpellsAll, KeepsTables, AddsPages, FailsAmong, RunsOut, IsFlushed, WritesTables, MayFlush};
 ghost use Rattle.ftl_device.specs.Flush.{MayNotFlush};
-ghost use Rattle.ftl_device.specs.FlushSteps.{HasBegun, HasCleared, FlushesPage, FlushesPages, HasRound, WritesRounds, HasFlushed};
+ghost use Rattle.ftl_device.specs.FlushSteps.{HasBegunFlush, HasCleared, FlushesPage, FlushesPages, HasRound, WritesRounds, HasFlushed};
 ghost use Rattle.ftl_device.specs.Shortage.{HasFunds, SpendsPages, FlushCounts, FlushShort};
 ghost use Rattle.mapping_cache.specs.Mapping.{HasLimitsOf};
 ghost use Rattle.promises.specs.Step.{Flush};
@@ -185,7 +185,7 @@ fn begin_flush<N: Nand>(engine: &mut Engine<N>) -> Result<(), EngineFault>
     ensures keys { KeepsKeys engine.old.mapping engine.new.mapping }
     ensures calm { OnOk result (IsCalm (ram engine.new)) }
     ensures pins { OnOk result (engine.old.pinned ≡ None → engine.new.pinned ≡ None) }
-    ensures begins { OnOk result (HasBegun N.view engine.old engine.new) }
+    ensures begins { OnOk result (HasBegunFlush N.view engine.old engine.new) }
     ensures shared { IfErr result (λ fault. 0 < engine.old.mapping.share) }
     ensures count { 0 < engine.old.mapping.share → N.view.honest engine.old.nand ≡ true → Knows (ram engine.old) (image_in N.view.flash engine.old) →
         (failures : ℕ) → IsFunded engine.old.geometry.pages failures (counts_of (ram engine.old).blocks) →

@@ -18,6 +18,8 @@ pub mod OnceLemmas
 pub mod NotedLemmas
 pub mod PassLemmas
 pub mod PageReaderLemmas
+pub mod ReadLemmas
+pub mod RefusalLemmas
 pub mod StreamLemmas
 pub mod SeenLemmas
 pub mod TornLemmas

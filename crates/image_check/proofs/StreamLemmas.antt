@@ -1,5 +1,5 @@
 -- What the checker says of an image that a reader gives.
-use Rattle.std.proofs.Common.{◌≡◌, ℕ, ◌+◌, List, ◌++◌, length, length-append, Option, IfSome, Result, Ok, Err, IfOk, IfErr, OnOk, arith, inl, inr}
+use Rattle.std.proofs.Common.{◌≡◌, ◌⊎◌, ℕ, ◌+◌, List, ◌++◌, length, length-append, Option, IfSome, Result, Ok, Err, IfOk, IfErr, OnOk, arith, inl, inr}
 use Rattle.std.proofs.KnownBytes.{Consumes-trans}
 use Rattle.page_layout.specs.declared.geometry.Geometry.{Geometry}
 use Rattle.page_layout.specs.Geometry.{row_count}
@@ -31,6 +31,10 @@ shows_all g p image = Shows image (row_count g) p
 pub cut_untaken : (g : Geometry) (a b : Option (List ℕ)) (cut : Cut) (r : Refusal) → IsCut (image_bytes g) a b cut → r ≡ refusal_of cut → IfSome a (λ bytes. IsUntaken g bytes r)
 cut_untaken g a b Ended r h e = if_more a (λ bytes. ¬ (length bytes ≡ image_bytes g)) (λ bytes. IsUntaken g bytes r) (cut_short g a b h) (λ bytes short. inr (e, short))
 cut_untaken g a b Failed r h e = if_all a (λ bytes. IsUntaken g bytes r) (λ bytes. inl e)
+
+pub cut_stops : (cut : Cut) (r : Refusal) → r ≡ refusal_of cut → (r ≡ refusals.Source) ⊎ (r ≡ refusals.WrongLength)
+cut_stops Ended r e = inr e
+cut_stops Failed r e = inl e
 
 pub past_untaken : (g : Geometry) (a b : Option (List ℕ)) (shows : Image → Type 0) (r : Refusal) → IsReadTo g (row_count g) a b shows → HasMore b → r ≡ refusals.WrongLength → IfSome a (λ bytes. IsUntaken g bytes r)
 past_untaken g a b shows r h more e = if_more a (λ bytes. ¬ (length bytes ≡ image_bytes g)) (λ bytes. IsUntaken g bytes r) (read_past g a b shows h more) (λ bytes long. inr (e, long))

@@ -1,5 +1,5 @@
 -- What keeps an image from having a certificate.
-use Rattle.std.proofs.Common.{◌≡◌, ℕ, ◌<◌, ◌⊎◌, inl, inr, List, [], length, Some, None, refl, sym, ap, subst, ◌∙◌, arith}
+use Rattle.std.proofs.Common.{Result, Ok, Err, ◌≡◌, ℕ, ◌<◌, ◌⊎◌, inl, inr, List, [], length, Some, None, refl, sym, ap, subst, ◌∙◌, arith}
 use Rattle.page_layout.specs.declared.geometry.Geometry.{Geometry}
 use Rattle.page_layout.specs.Page.{Image}
 use Rattle.page_layout.specs.Array.{marks}
@@ -130,3 +130,17 @@ stale_refused g capacity image stale n is size over right =
       sequences = λ after. right.part Sequences (omega arith) (omega arith);
       tables = λ after. right.part Tables (omega arith) (omega arith);
     })
+
+-- ---- what an answer is not
+
+pub given_not : {T : Type 0} (r : Result T Refusal) (x : T) (e : Refusal) → r ≡ Ok x → r ≡ Err e → ⊥
+given_not r x e h k = (let never : ⊥ = cc in never)
+
+pub stale_not_source : (count most : ℕ) → refusals.TooStale count most ≡ refusals.Source → ⊥
+stale_not_source count most e = (let never : ⊥ = cc in never)
+
+pub next_not_source : refusals.NextSequence ≡ refusals.Source → ⊥
+next_not_source e = (let never : ⊥ = cc in never)
+
+pub image_not_source : (r : Refusal) → IsOfImage r → r ≡ refusals.Source → ⊥
+image_not_source r kind e = subst IsOfImage e kind

@@ -1,5 +1,5 @@
 -- What the pages of a block say of it.
-use Rattle.std.proofs.Common.{[], ◌≡◌, inl, inr, ℕ, ◌+◌, ◌-◌, ◌*◌, ◌/◌, ◌<◌, ◌≤◌, Bool, false, List, length, set, Option, Some, None, get_or, sym}
+use Rattle.std.proofs.Common.{[], ◌≡◌, inl, inr, ℕ, ◌+◌, ◌-◌, ◌*◌, ◌/◌, ◌<◌, ◌≤◌, ◌^◌, Bool, false, List, length, set, Option, Some, None, get_or, sym}
 use Rattle.std.proofs.Common.{◌∙◌, ap, arith}
 use Rattle.std.specs.Option.{IfSome, option_or}
 use Rattle.std.proofs.lemmas.Bool.{cases_eq}
@@ -7,6 +7,7 @@ use Rattle.std.proofs.Math.ListN.{get_or-map}
 use Rattle.std.proofs.lemmas.List.{get_or-set_same, get_or-set_other, length-map}
 use Rattle.std.proofs.lemmas.Nat.{div-mul-add}
 use Rattle.page_layout.specs.declared.geometry.Geometry.{Geometry}
+use Rattle.page_layout.specs.Counter.{counted}
 use Rattle.page_layout.specs.Page.{Image}
 use Rattle.page_layout.specs.Flash.{no_page}
 use Rattle.bad_blocks.specs.declared.class.Class.{Class}
@@ -67,3 +68,24 @@ first_more test block pages (Some k) used below here = first_in_front test 0 (bl
 pub IfSome-or : (P : ℕ → Type 0) (a b : Option ℕ) → IfSome a P → IfSome b P → IfSome (option_or a b) P
 IfSome-or P None b ha hb = hb
 IfSome-or P (Some x) b ha hb = ha
+
+-- ---- the reads of a block: its first page, its last, and those between
+
+pub reads_first : (a b pages : ℕ) → b ≡ counted a → 2 ≤ pages → b ≤ a + pages
+reads_first a b pages one some = omega (arith, one, some)
+
+pub reads_last : (a b c pages : ℕ) → b ≡ counted a → c ≡ counted b → 2 ≤ pages → c ≤ a + pages
+reads_last a b c pages one two some = omega (arith, one, two, some)
+
+pub reads_inner : (a b c d inner pages : ℕ) → b ≡ counted a → c ≡ counted b → d ≤ c + inner → inner + 2 ≡ pages → d ≤ a + pages
+reads_inner a b c d inner pages one two most all = omega (arith, one, two, most, all)
+
+pub reads_whole : (a b c d inner pages : ℕ) → b ≡ counted a → c ≡ counted b → (c + inner < 2 ^ 64 → d ≡ c + inner) → inner + 2 ≡ pages → a + pages < 2 ^ 64 → d ≡ a + pages
+reads_whole a b c d inner pages one two each all fits =
+    let two_more : c ≡ a + 2 = omega (arith, one, two, all, fits) in
+    let sum = each (omega (arith, two_more, all, fits)) in
+    omega (arith, two_more, sum, all)
+
+-- nothing was programmed
+pub unprogrammed : (a b n : ℕ) → b ≡ a → b ≤ a + n
+unprogrammed a b n same = omega (arith, same)

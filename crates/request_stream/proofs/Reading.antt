@@ -1,6 +1,6 @@
 -- A header that was read, and then its body.
-use Rattle.std.proofs.Common.{◌≡◌, ◌<◌, ◌^◌, ℕ, List, [], ◌++◌, Option, Result, Ok, Err, length, refl, sym, subst, ap, arith, inr}
-use Rattle.std.proofs.Common.{length-append}
+use Rattle.std.proofs.Common.{◌≡◌, ◌≢◌, ◌<◌, ◌^◌, ℕ, List, [], ◌++◌, Option, Result, Ok, Err, length, refl, sym, subst, ap, arith, inr}
+use Rattle.std.proofs.Common.{length-append, ◌≤◌, take, length-take-le}
 use Rattle.std.specs.Io.KnownBytes.{Consumes}
 use Rattle.std.proofs.KnownBytes.{Consumes-trans}
 use Rattle.promises.specs.Stream.{Request, IsRequest, header_bytes, request_bytes, body_length}
@@ -41,3 +41,18 @@ after_header h u m v buffer bytes (Ok (next.Ended e)) tag sector twelve spelled 
     (bytes ++ part, subst (λ (k : End). Rests (length buffer) k (bytes ++ part) v) (sym same) rests, Consumes-trans u m v bytes part first body)
 after_header h u m v buffer bytes (Err e) tag sector twelve spelled first (same, part, short, body) =
     (same, bytes ++ part, inr (begun h part, short, ap (λ l. l ++ part) spelled), Consumes-trans u m v bytes part first body)
+
+-- fewer bytes than a header's were read
+pub short_part : (n : ℕ) (buffer : List ℕ) → n ≤ length buffer → n < 12 → length (take n buffer) < 12
+short_part n buffer within less = omega (arith, length-take-le n buffer within)
+
+pub some_part : (n : ℕ) (buffer : List ℕ) → n ≤ length buffer → n ≢ 0 → 0 < length (take n buffer)
+some_part n buffer within some = omega (arith, length-take-le n buffer within)
+
+-- nothing follows the header of what is no write
+pub none_follows : (op : Op) (buffer : List ℕ) → op ≢ Write → body_at op buffer ≡ []
+none_follows Read buffer other = refl
+none_follows Write buffer other = absurd (other refl)
+none_follows Trim buffer other = refl
+none_follows Flush buffer other = refl
+none_follows Turn buffer other = refl

@@ -40,7 +40,8 @@ translations-preserved g c = record {
   spends = λ some. spends_then c.translations.t 1 (Ok tt) (ram c.args.engine.now) (ram c.translations.engine) (ram c.flush_translation.new.engine) c.translations.invariant.leaves.geometry
       (c.translations.invariant.spends some) (c.in_ok-flush_translation.ensures.spends (let share = c.translations.invariant.limits.share in omega (arith, some, share)));
   count = λ none honest w failures funded.
-      counts_then failures (Ok tt) (ram c.args.engine.now) (ram c.translations.engine) (ram c.flush_translation.new.engine) c.translations.invariant.leaves.geometry c.translations.invariant.limits.share c.in_ok-flush_translation.ensures.leaves.tells (c.translations.invariant.count none honest w failures funded)
+      counts_then failures (Ok tt) (ram c.args.engine.now) (ram c.translations.engine) (ram c.flush_translation.new.engine) c.translations.invariant.leaves.geometry
+      c.translations.invariant.limits.share c.in_ok-flush_translation.ensures.leaves.tells (c.translations.invariant.count none honest w failures funded)
       (c.in_ok-flush_translation.ensures.count (c.translations.invariant.limits.share ∙ none) (c.translations.invariant.leaves.honest_is ∙ honest) (c.translations.invariant.truth honest w).truth);
   truth = λ honest w.
       let before = c.translations.invariant.truth honest w in

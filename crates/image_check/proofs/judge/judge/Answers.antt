@@ -68,3 +68,43 @@ returns-clause-ok c = λ capacity image h passes.
     let blocks : HoldBetween g capacity image claim 1 10 = hold_join g capacity image claim 1 6 10 rows (c.in_ok-judge_blocks.ensures.ok g capacity image given) in
     let pairs : SurveysPairs g image c.deref-2.result.now = pairs_given g image s.pairs.items c.deref-2.result.now c.deref-2.ensures.value sorted.pairs in
     hold_more g capacity image claim Next 1 10 11 refl refl blocks (c.in_ok-check_next.ensures.ok g image pairs)
+
+pub returns-in_err-describe-clause-ok : goal.returns-in_err-describe-clause-ok
+returns-in_err-describe-clause-ok c =
+    let p = err_from_is_err_and c.from_residual.result c.from_residual.ensures.1 in
+    rw p.1 (tt)
+
+pub returns-in_err-describe-clause-named : goal.returns-in_err-describe-clause-named
+returns-in_err-describe-clause-named c =
+    let p = err_from_is_err_and c.from_residual.result c.from_residual.ensures.1 in
+    rw (p.1, p.2) c.in_err-describe.ensures.named
+
+pub returns-in_err-judge_rows-clause-ok : goal.returns-in_err-judge_rows-clause-ok
+returns-in_err-judge_rows-clause-ok c =
+    let p = err_from_is_err_and c.from_residual-in_err-judge_rows.result c.from_residual-in_err-judge_rows.ensures.1 in
+    rw p.1 (tt)
+
+pub returns-in_err-judge_rows-clause-named : goal.returns-in_err-judge_rows-clause-named
+returns-in_err-judge_rows-clause-named c =
+    let p = err_from_is_err_and c.from_residual-in_err-judge_rows.result c.from_residual-in_err-judge_rows.ensures.1 in
+    rw (p.1, p.2) c.in_err-judge_rows.ensures.named
+
+pub returns-in_err-judge_blocks-clause-ok : goal.returns-in_err-judge_blocks-clause-ok
+returns-in_err-judge_blocks-clause-ok c =
+    let p = err_from_is_err_and c.from_residual-in_err-judge_blocks.result c.from_residual-in_err-judge_blocks.ensures.1 in
+    rw p.1 (tt)
+
+pub returns-in_err-judge_blocks-clause-named : goal.returns-in_err-judge_blocks-clause-named
+returns-in_err-judge_blocks-clause-named c =
+    let p = err_from_is_err_and c.from_residual-in_err-judge_blocks.result c.from_residual-in_err-judge_blocks.ensures.1 in
+    rw (p.1, p.2) c.in_err-judge_blocks.ensures.named
+
+pub returns-in_err-check_next-clause-ok : goal.returns-in_err-check_next-clause-ok
+returns-in_err-check_next-clause-ok c =
+    let p = err_from_is_err_and c.from_residual-in_err-check_next.result c.from_residual-in_err-check_next.ensures.1 in
+    rw p.1 (tt)
+
+pub returns-in_err-check_next-clause-named : goal.returns-in_err-check_next-clause-named
+returns-in_err-check_next-clause-named c =
+    let p = err_from_is_err_and c.from_residual-in_err-check_next.result c.from_residual-in_err-check_next.ensures.1 in
+    rw (p.1, p.2) c.in_err-check_next.ensures.named

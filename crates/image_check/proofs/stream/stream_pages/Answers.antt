@@ -1,9 +1,10 @@
-use Rattle.std.proofs.lemmas.Grind.{common_steps}
 use Rattle.std.proofs.lemmas.Result.{err_from_is_err_and}
-use Rattle.std.proofs.Common.{◌+◌, refl, arith, ◌∙◌}
-use Rattle.image_check.specs.Passed.{Shows}
+use Rattle.std.proofs.Common.{◌+◌, refl, arith, ◌∙◌, ◌≡◌, subst}
+use Rattle.image_check.specs.Passed.{Shows, IsPass}
 use Rattle.image_check.proofs.PageReaderLemmas.{read_none, read_more, read_cut}
 use Rattle.image_check.proofs.PassLemmas.{same_pass}
+use Rattle.page_layout.specs.Geometry.{row_count}
+use Rattle.image_check.specs.PageReader.{IsReadTo}
 use Rattle.image_check.proofs.stream.stream_pages.Goals as goal
 
 pub loop-row-init : goal.loop-row-init
@@ -39,4 +40,29 @@ returns-in_err-read_page-clause-cut g c =
     rw (p.1, p.2) (read_cut c.args.geometry.now row _ _ _ _ (λ image. Shows image row c.loop-row.pass) _ inv.read (omega arith) (omega arith) c.in_err-read_page.ensures.cut)
 
 pub returns-clause-read : goal.returns-clause-read
-returns-clause-read g c = grind (arith, common_steps)
+returns-clause-read g c =
+    let end : c.loop-row.row ≡ row_count c.args.geometry.now = omega arith in
+    subst (λ k. IsReadTo c.args.geometry.now k (g.R.DumpReader.remaining c.args.reader.now) (g.R.DumpReader.remaining c.loop-row.reader) (λ image. Shows image k c.loop-row.pass)) end c.loop-row.invariant.read
+
+pub returns-clause-pass : goal.returns-clause-pass
+returns-clause-pass g c =
+    let end : c.loop-row.row ≡ row_count c.args.geometry.now = omega arith in
+    subst (λ k. IsPass k c.loop-row.pass) end c.loop-row.invariant.pass_is
+
+pub returns-clause-same_pass : goal.returns-clause-same_pass
+returns-clause-same_pass g c = c.loop-row.invariant.pass_same
+
+pub returns-in_err-read_page-clause-pass : goal.returns-in_err-read_page-clause-pass
+returns-in_err-read_page-clause-pass g c =
+    let p = err_from_is_err_and c.from_residual.result c.from_residual.ensures.1 in
+    rw p.1 (tt)
+
+pub returns-in_err-read_page-clause-same_pass : goal.returns-in_err-read_page-clause-same_pass
+returns-in_err-read_page-clause-same_pass g c =
+    let p = err_from_is_err_and c.from_residual.result c.from_residual.ensures.1 in
+    rw p.1 (tt)
+
+pub returns-in_err-read_page-clause-read : goal.returns-in_err-read_page-clause-read
+returns-in_err-read_page-clause-read g c =
+    let p = err_from_is_err_and c.from_residual.result c.from_residual.ensures.1 in
+    rw p.1 (tt)

@@ -4,18 +4,15 @@ use Rattle.page_layout.specs.Counter.{counted}
 use Rattle.collection.specs.Safe.{ram}
 use Rattle.collection.proofs.Acts.{acts_same, acts_then, acts_ok, acts_err}
 use Rattle.collection.proofs.Memory.{goes_same, goes_then}
-use Rattle.collection.proofs.Looks.{none_from}
+use Rattle.collection.proofs.Looks.{none_from, ok_not_bus}
 use Rattle.collection.proofs.Puts.{refused_then}
 use Rattle.collection.proofs.Copies.{keys_same, keys_then, refreshes_same, refreshes_then}
-use Rattle.collection.proofs.Ledgers.{begun, stepped, still_goes, still_erased, once_erased, room_next, steps_fall, but_then, ends_erased, erased_by}
-use Rattle.collection.proofs.Ledgers.{emptied_by, emptied_then, none_due_by, collected_cost, collected_few, less_work, counts_collected, thrifty_erased, thrifty_refused}
-use Rattle.collection.proofs.Ledgers.{begins_small, refused_cost, refused_counts, closed_still, released_from, undamaged}
+use Rattle.collection.proofs.Ledgers.{begun, stepped, still_goes, still_erased, once_erased, room_next, steps_fall, but_then, ends_erased, erased_by, emptied_by, emptied_then, none_due_by, collected_cost, collected_few, less_work, counts_collected, thrifty_erased, thrifty_refused, begins_small, refused_cost, refused_counts, closed_still, released_from, undamaged}
 use Rattle.collection.proofs.HalfDone.{due_few, due_first, pin_next, pin_erased, few_left, unpinned_few}
 use Rattle.collection.proofs.PageReads.{none_read, read_more, read_all}
 use Rattle.collection.specs.Whole.{next_of}
 use Rattle.promises.proofs.StopLemmas.{leaves_nothing}
 use Rattle.collection.proofs.Stops.{same_left, stops_then, IsSized}
-use Rattle.collection.proofs.Looks.{ok_not_bus}
 use Rattle.collection.proofs.Costs.{not_bus}
 use Rattle.collection.proofs.Cuts.{cut_after}
 use Rattle.collection.proofs.Steps.{err_same}
@@ -288,3 +285,55 @@ returns-in_err-step-clause-cut g c =
     let sized : IsSized (ram c.args.self.now) (ram c.steps.self) = record { geometry = i.goes.geometry; capacity = i.keys.limits.capacity; share = i.keys.limits.share } in
     let now = i.acts.honest_is ∙ honest in
     cut_after (ram c.args.self.now) (ram c.steps.self) _ _ _ _ _ sized so.same.array before (c.in_err-step.ensures.cut now so.same.truth (let n = so.none in rw i.goes.geometry n) (err_same _ _ is)))
+
+pub returns-in_default-clause-cut : goal.returns-in_default-clause-cut
+returns-in_default-clause-cut g c = λ _ _ _ h3. cc
+
+pub returns-in_err-step-clause-idle : goal.returns-in_err-step-clause-idle
+returns-in_err-step-clause-idle g c =
+    let p = err_from_is_err_and c.from_residual.result c.from_residual.ensures.1 in
+    rw p.1 (tt)
+
+pub returns-in_err-step-clause-unpinned : goal.returns-in_err-step-clause-unpinned
+returns-in_err-step-clause-unpinned g c =
+    let p = err_from_is_err_and c.from_residual.result c.from_residual.ensures.1 in
+    rw p.1 (tt)
+
+pub returns-in_err-step-clause-released : goal.returns-in_err-step-clause-released
+returns-in_err-step-clause-released g c =
+    let p = err_from_is_err_and c.from_residual.result c.from_residual.ensures.1 in
+    rw p.1 (tt)
+
+pub returns-in_err-step-clause-sparing : goal.returns-in_err-step-clause-sparing
+returns-in_err-step-clause-sparing g c =
+    let p = err_from_is_err_and c.from_residual.result c.from_residual.ensures.1 in
+    rw p.1 (λ _ _ _ _. tt)
+
+pub returns-in_err-step-clause-erases : goal.returns-in_err-step-clause-erases
+returns-in_err-step-clause-erases g c =
+    let p = err_from_is_err_and c.from_residual.result c.from_residual.ensures.1 in
+    rw p.1 (tt)
+
+pub returns-in_err-step-clause-less_work : goal.returns-in_err-step-clause-less_work
+returns-in_err-step-clause-less_work g c =
+    let p = err_from_is_err_and c.from_residual.result c.from_residual.ensures.1 in
+    rw p.1 (tt)
+
+pub returns-in_err-step-clause-goes : goal.returns-in_err-step-clause-goes
+returns-in_err-step-clause-goes g c = but_then c.args.pinned.block _ _ _ c.steps.invariant.goes c.step_on.ensures.goes
+
+pub returns-in_err-step-clause-keys : goal.returns-in_err-step-clause-keys
+returns-in_err-step-clause-keys g c = keys_then _ _ _ c.steps.invariant.keys c.step_on.ensures.keys
+
+pub returns-in_default-clause-keys : goal.returns-in_default-clause-keys
+returns-in_default-clause-keys g c = keys_then _ _ _ c.steps.invariant.keys c.step_on.ensures.keys
+
+pub returns-in_default-clause-idle : goal.returns-in_default-clause-idle
+returns-in_default-clause-idle g c =
+    let e = ends_erased _ c.in_ok-step.step (sym c.next_page-going_on.ensures ∙ none_from c.next_page-going_on.result c.in_default.not-Some) in
+    c.in_ok-step.ensures.idle (ap Ok e)
+
+pub returns-in_default-clause-unpinned : goal.returns-in_default-clause-unpinned
+returns-in_default-clause-unpinned g c =
+    let e = ends_erased _ c.in_ok-step.step (sym c.next_page-going_on.ensures ∙ none_from c.next_page-going_on.result c.in_default.not-Some) in
+    c.in_ok-step.ensures.next ∙ pin_erased c.args.pinned.block _ c.in_ok-step.step e

@@ -1,20 +1,22 @@
-use Rattle.std.proofs.Common.{◌∙◌, ◌<◌, inr, Ok, replicate, false, None, ap, sym, subst}
+use Rattle.std.proofs.Common.{◌∙◌, ◌<◌, inr, Ok, replicate, false, None, ap, sym, subst, Some, ◌≡◌, arith, refl, inl, rules}
 use Rattle.std.proofs.lemmas.Result.{err_from_is_err_and}
 use Rattle.page_layout.specs.Change.{HoldsNone}
 use Rattle.page_layout.specs.Geometry.{translation_pages}
-use Rattle.collection.specs.State.{Ram}
+use Rattle.collection.specs.State.{Ram, Pin}
 use Rattle.collection.specs.Safe.{ram, image_in}
 use Rattle.collection.specs.Truth.{IsTrue}
 use Rattle.collection.specs.Results.{Goes, IsImageKept}
-use Rattle.collection.specs.Collect.{HasWritten, HasErased, OwesNone, OwesPage}
+use Rattle.collection.specs.Collect.{HasWritten, HasErased, OwesNone, OwesPage, FaultCosts, IsReleased, GoesBut, due_count}
 use Rattle.collection.proofs.Acts.{acts_then, acts_ok, acts_err}
-use Rattle.collection.proofs.Looks.{none_from}
+use Rattle.collection.proofs.Looks.{none_from, ok_not_bus}
 use Rattle.collection.proofs.Steps.{at_start, err_same, goes_but, found_none, none_now, emptied_written, emptied_erased, refused_written, idle_by, erased_fresh}
 use Rattle.collection.proofs.Stops.{stops_then, fault_not_bus, IsSized}
-use Rattle.collection.proofs.Looks.{ok_not_bus}
 use Rattle.collection.proofs.Costs.{not_bus}
 use Rattle.collection.specs.Stops.{Stops, IsLeftByStop, CutsSafely}
 use Rattle.collection.proofs.Cuts.{cut_after}
+use Rattle.page_layout.specs.Counter.{counted}
+use Rattle.collection.proofs.Memory.{goes_same, goes_then}
+use Rattle.collection.proofs.Copies.{refreshes_same, refreshes_then, keys_same, keys_then}
 use Rattle.collection.proofs.engine.Engine.collect_step.Goals as goal
 
 -- ---- a translation page could not be written
@@ -202,3 +204,399 @@ returns-in_err-erase_block-clause-cut g c =
     (subst (λ e. HoldsNone (ram e).geometry.pages c.args.block (image_in g.N.PageSource.view.flash e)) (sym none.1) held) (err_same _ _ is) in
     cut_after (ram c.args.self.now) (ram c.copy_lowest.new.self) _ _ _ _ _ sized first.0.array (c.in_ok-copied.ensures.stops honest w (ok_not_bus _))
     (subst (λ e. CutsSafely g.N.PageSource.view e c.erase_block.new.self) none.1 erased))
+
+pub returns-clause-unmoved : goal.returns-clause-unmoved
+returns-clause-unmoved g c = tt
+
+pub returns-clause-owed : goal.returns-clause-owed
+returns-clause-owed g c = λ h0. cc
+
+pub returns-clause-cut : goal.returns-clause-cut
+returns-clause-cut g c = λ _ _ _ h3. cc
+
+pub returns-in-Some-clause-acts : goal.returns-in-Some-clause-acts
+returns-in-Some-clause-acts g c = acts_ok _ _ _ _ c.in_ok-copied.ensures.acts
+
+pub returns-in-Some-clause-keys : goal.returns-in-Some-clause-keys
+returns-in-Some-clause-keys g c = c.copy_lowest.ensures.keys
+
+pub returns-in-Some-clause-refreshes : goal.returns-in-Some-clause-refreshes
+returns-in-Some-clause-refreshes g c = c.copy_lowest.ensures.refreshes
+
+pub returns-in-Some-clause-pin : goal.returns-in-Some-clause-pin
+returns-in-Some-clause-pin g c = c.copy_lowest.ensures.pin
+
+pub returns-in-Some-clause-unmoved : goal.returns-in-Some-clause-unmoved
+returns-in-Some-clause-unmoved g c = tt
+
+pub returns-in-Some-clause-erases : goal.returns-in-Some-clause-erases
+returns-in-Some-clause-erases g c = c.in_ok-copied.ensures.erases
+
+pub returns-in-Some-clause-owed : goal.returns-in-Some-clause-owed
+returns-in-Some-clause-owed g c = λ h0. cc
+
+pub returns-in-Some-clause-cut : goal.returns-in-Some-clause-cut
+returns-in-Some-clause-cut g c = λ _ _ _ h3. cc
+
+pub returns-in_err-copied-clause-keys : goal.returns-in_err-copied-clause-keys
+returns-in_err-copied-clause-keys g c = c.copy_lowest.ensures.keys
+
+pub returns-in_err-copied-clause-refreshes : goal.returns-in_err-copied-clause-refreshes
+returns-in_err-copied-clause-refreshes g c = c.copy_lowest.ensures.refreshes
+
+pub returns-in_err-copied-clause-pin : goal.returns-in_err-copied-clause-pin
+returns-in_err-copied-clause-pin g c = c.copy_lowest.ensures.pin
+
+pub returns-in_err-copied-clause-idle : goal.returns-in_err-copied-clause-idle
+returns-in_err-copied-clause-idle g c =
+    let p = err_from_is_err_and c.from_residual.result c.from_residual.ensures.1 in
+    rw (p.1, p.2) (λ h0. cc)
+
+pub returns-in_err-copied-clause-released : goal.returns-in_err-copied-clause-released
+returns-in_err-copied-clause-released g c =
+    let p = err_from_is_err_and c.from_residual.result c.from_residual.ensures.1 in
+    rw (p.1, p.2) (λ h0. cc)
+
+pub returns-in_err-copied-clause-copied_reads : goal.returns-in_err-copied-clause-copied_reads
+returns-in_err-copied-clause-copied_reads g c =
+    let p = err_from_is_err_and c.from_residual.result c.from_residual.ensures.1 in
+    rw (p.1, p.2) (λ _ h1. cc)
+
+pub returns-in_err-copied-clause-cost : goal.returns-in_err-copied-clause-cost
+returns-in_err-copied-clause-cost g c =
+    let p = err_from_is_err_and c.from_residual.result c.from_residual.ensures.1 in
+    rw (p.1, p.2) (c.in_err-copied.ensures.cost)
+
+pub returns-in_err-copied-clause-truth : goal.returns-in_err-copied-clause-truth
+returns-in_err-copied-clause-truth g c =
+    let p = err_from_is_err_and c.from_residual.result c.from_residual.ensures.1 in
+    rw (p.1, p.2) (c.in_err-copied.ensures.truth)
+
+pub returns-in_err-copied-clause-touched : goal.returns-in_err-copied-clause-touched
+returns-in_err-copied-clause-touched g c =
+    let p = err_from_is_err_and c.from_residual.result c.from_residual.ensures.1 in
+    rw (p.1, p.2) (λ _ _ _ h3. cc)
+
+pub returns-in_err-erase_block-clause-idle : goal.returns-in_err-erase_block-clause-idle
+returns-in_err-erase_block-clause-idle g c =
+    let p = err_from_is_err_and c.from_residual-in_err-erase_block.result c.from_residual-in_err-erase_block.ensures.1 in
+    rw (p.1, p.2) (λ h0. cc)
+
+pub returns-in_err-erase_block-clause-released : goal.returns-in_err-erase_block-clause-released
+returns-in_err-erase_block-clause-released g c =
+    let p = err_from_is_err_and c.from_residual-in_err-erase_block.result c.from_residual-in_err-erase_block.ensures.1 in
+    rw (p.1, p.2) (λ h0. cc)
+
+pub returns-in_err-erase_block-clause-copied_reads : goal.returns-in_err-erase_block-clause-copied_reads
+returns-in_err-erase_block-clause-copied_reads g c =
+    let p = err_from_is_err_and c.from_residual-in_err-erase_block.result c.from_residual-in_err-erase_block.ensures.1 in
+    rw (p.1, p.2) (λ _ h1. cc)
+
+pub returns-in_err-erase_block-clause-touched : goal.returns-in_err-erase_block-clause-touched
+returns-in_err-erase_block-clause-touched g c =
+    let p = err_from_is_err_and c.from_residual-in_err-erase_block.result c.from_residual-in_err-erase_block.ensures.1 in
+    rw (p.1, p.2) (λ _ _ _ h3. cc)
+
+pub returns-in_err-written-clause-keys : goal.returns-in_err-written-clause-keys
+returns-in_err-written-clause-keys g c = keys_then _ _ _ c.copy_lowest.ensures.keys c.write_back_lowest.ensures.keys
+
+pub returns-in_err-written-clause-pin : goal.returns-in_err-written-clause-pin
+returns-in_err-written-clause-pin g c = c.write_back_lowest.ensures.pin ∙ c.copy_lowest.ensures.pin
+
+pub returns-in_err-written-clause-idle : goal.returns-in_err-written-clause-idle
+returns-in_err-written-clause-idle g c =
+    let p = err_from_is_err_and c.from_residual-in_err-written.result c.from_residual-in_err-written.ensures.1 in
+    rw (p.1, p.2) (λ h0. cc)
+
+pub returns-in_err-written-clause-released : goal.returns-in_err-written-clause-released
+returns-in_err-written-clause-released g c =
+    let p = err_from_is_err_and c.from_residual-in_err-written.result c.from_residual-in_err-written.ensures.1 in
+    rw (p.1, p.2) (λ h0. cc)
+
+pub returns-in_err-written-clause-copied_reads : goal.returns-in_err-written-clause-copied_reads
+returns-in_err-written-clause-copied_reads g c =
+    let p = err_from_is_err_and c.from_residual-in_err-written.result c.from_residual-in_err-written.ensures.1 in
+    rw (p.1, p.2) (λ _ h1. cc)
+
+pub returns-in_err-written-clause-touched : goal.returns-in_err-written-clause-touched
+returns-in_err-written-clause-touched g c =
+    let p = err_from_is_err_and c.from_residual-in_err-written.result c.from_residual-in_err-written.ensures.1 in
+    rw (p.1, p.2) (λ _ _ _ h3. cc)
+
+pub returns-then-written-clause-keys : goal.returns-then-written-clause-keys
+returns-then-written-clause-keys g c = keys_then _ _ _ c.copy_lowest.ensures.keys c.write_back_lowest.ensures.keys
+
+pub returns-then-written-clause-pin : goal.returns-then-written-clause-pin
+returns-then-written-clause-pin g c = c.write_back_lowest.ensures.pin ∙ c.copy_lowest.ensures.pin
+
+pub returns-then-written-clause-unmoved : goal.returns-then-written-clause-unmoved
+returns-then-written-clause-unmoved g c = tt
+
+pub returns-then-written-clause-owed : goal.returns-then-written-clause-owed
+returns-then-written-clause-owed g c = λ h0. cc
+
+pub returns-then-written-clause-cut : goal.returns-then-written-clause-cut
+returns-then-written-clause-cut g c = λ _ _ _ h3. cc
+
+pub returns-in-Some-clause-goes : goal.returns-in-Some-clause-goes
+returns-in-Some-clause-goes g c = goes_but _ _ _ c.copy_lowest.ensures.goes
+
+pub returns-in_err-copied-clause-acts : goal.returns-in_err-copied-clause-acts
+returns-in_err-copied-clause-acts g c =
+    let p = err_from_is_err_and c.from_residual.result c.from_residual.ensures.1 in
+    rw (p.1, p.2) (acts_err _ _ _ c.in_err-copied.ensures.acts)
+
+pub returns-in_err-copied-clause-goes : goal.returns-in_err-copied-clause-goes
+returns-in_err-copied-clause-goes g c = goes_but _ _ _ c.copy_lowest.ensures.goes
+
+pub returns-in_err-copied-clause-unmarked : goal.returns-in_err-copied-clause-unmarked
+returns-in_err-copied-clause-unmarked g c =
+    let p = err_from_is_err_and c.from_residual.result c.from_residual.ensures.1 in
+    rw p.1 (λ _ _. tt)
+
+pub returns-in_err-copied-clause-erases : goal.returns-in_err-copied-clause-erases
+returns-in_err-copied-clause-erases g c =
+    let p = err_from_is_err_and c.from_residual.result c.from_residual.ensures.1 in
+    rw p.1 (tt)
+
+pub returns-in_err-erase_block-clause-unmarked : goal.returns-in_err-erase_block-clause-unmarked
+returns-in_err-erase_block-clause-unmarked g c =
+    let p = err_from_is_err_and c.from_residual-in_err-erase_block.result c.from_residual-in_err-erase_block.ensures.1 in
+    rw p.1 (λ _ _. tt)
+
+pub returns-in_err-erase_block-clause-erases : goal.returns-in_err-erase_block-clause-erases
+returns-in_err-erase_block-clause-erases g c =
+    let p = err_from_is_err_and c.from_residual-in_err-erase_block.result c.from_residual-in_err-erase_block.ensures.1 in
+    rw p.1 (tt)
+
+pub returns-in_err-written-clause-unmarked : goal.returns-in_err-written-clause-unmarked
+returns-in_err-written-clause-unmarked g c =
+    let p = err_from_is_err_and c.from_residual-in_err-written.result c.from_residual-in_err-written.ensures.1 in
+    rw p.1 (λ _ _. tt)
+
+pub returns-in_err-written-clause-erases : goal.returns-in_err-written-clause-erases
+returns-in_err-written-clause-erases g c =
+    let p = err_from_is_err_and c.from_residual-in_err-written.result c.from_residual-in_err-written.ensures.1 in
+    rw p.1 (tt)
+
+pub returns-in_err-written-clause-goes : goal.returns-in_err-written-clause-goes
+returns-in_err-written-clause-goes g c = goes_but c.args.block _ _ (goes_then _ _ _ c.copy_lowest.ensures.goes c.write_back_lowest.ensures.goes)
+
+pub returns-in_err-written-clause-goes_still : goal.returns-in_err-written-clause-goes_still
+returns-in_err-written-clause-goes_still g c = λ _. goes_then _ _ _ c.copy_lowest.ensures.goes c.write_back_lowest.ensures.goes
+
+pub returns-then-written-clause-goes_still : goal.returns-then-written-clause-goes_still
+returns-then-written-clause-goes_still g c = λ _. goes_then _ _ _ c.copy_lowest.ensures.goes c.write_back_lowest.ensures.goes
+
+pub returns-in_err-copied-clause-goes_still : goal.returns-in_err-copied-clause-goes_still
+returns-in_err-copied-clause-goes_still g c = λ _. c.copy_lowest.ensures.goes
+
+pub returns-in-Some-clause-goes_still : goal.returns-in-Some-clause-goes_still
+returns-in-Some-clause-goes_still g c = λ _. c.copy_lowest.ensures.goes
+
+pub returns-in-Some-clause-idle : goal.returns-in-Some-clause-idle
+returns-in-Some-clause-idle g c = λ h. cc
+
+pub returns-in-Some-clause-released : goal.returns-in-Some-clause-released
+returns-in-Some-clause-released g c = λ h. cc
+
+pub returns-then-written-clause-idle : goal.returns-then-written-clause-idle
+returns-then-written-clause-idle g c = λ h. cc
+
+pub returns-then-written-clause-released : goal.returns-then-written-clause-released
+returns-then-written-clause-released g c = λ h. cc
+
+pub returns-then-written-clause-copied_reads : goal.returns-then-written-clause-copied_reads
+returns-then-written-clause-copied_reads g c = λ _ h. cc
+
+pub returns-then-written-clause-touched : goal.returns-then-written-clause-touched
+returns-then-written-clause-touched g c = λ _ _ _ h. cc
+
+pub returns-clause-copied_reads : goal.returns-clause-copied_reads
+returns-clause-copied_reads g c = λ _ h. cc
+
+pub returns-clause-touched : goal.returns-clause-touched
+returns-clause-touched g c = λ _ _ _ h. cc
+
+pub returns-clause-goes_still : goal.returns-clause-goes_still
+returns-clause-goes_still g c = λ ne. absurd (ne refl)
+
+pub returns-in_err-copied-clause-unmoved : goal.returns-in_err-copied-clause-unmoved
+returns-in_err-copied-clause-unmoved g c =
+    let p = err_from_is_err_and c.from_residual.result c.from_residual.ensures.1 in
+    rw p.1 c.in_err-copied.ensures.unmoved
+
+pub returns-in_err-copied-clause-owed : goal.returns-in_err-copied-clause-owed
+returns-in_err-copied-clause-owed g c =
+    let p = err_from_is_err_and c.from_residual.result c.from_residual.ensures.1 in
+    rw (p.1, p.2) (λ is. inl (c.in_err-copied.ensures.owed (err_same _ _ is)))
+
+pub returns-clause-goes : goal.returns-clause-goes
+returns-clause-goes g c =
+    let same = c.in_ok-copied.ensures.none (ap Ok (none_from c.in_ok-copied.copied c.in_default.not-Some)) in
+    let none = c.in_ok-written.ensures.none (ap Ok c.if-written.false) in
+    let back = ap (λ e. ram e) none.1 ∙ same in
+    at_start (λ z. GoesBut c.args.block z (ram c.erase_block.new.self)) (ram c.args.self.now) (ram c.write_back_lowest.new.self) back c.erase_block.ensures.goes
+
+pub returns-clause-keys : goal.returns-clause-keys
+returns-clause-keys g c =
+    let same = c.in_ok-copied.ensures.none (ap Ok (none_from c.in_ok-copied.copied c.in_default.not-Some)) in
+    let none = c.in_ok-written.ensures.none (ap Ok c.if-written.false) in
+    let back = ap (λ e. ram e) none.1 ∙ same in
+    keys_same _ _ (c.in_ok-erase_block.ensures.erased.mapping ∙ ap (λ (r : Ram). r.mapping) back)
+
+pub returns-clause-pin : goal.returns-clause-pin
+returns-clause-pin g c =
+    let same = c.in_ok-copied.ensures.none (ap Ok (none_from c.in_ok-copied.copied c.in_default.not-Some)) in
+    let none = c.in_ok-written.ensures.none (ap Ok c.if-written.false) in
+    let back = ap (λ e. ram e) none.1 ∙ same in
+    c.erase_block.ensures.pin ∙ ap (λ (r : Ram). r.pin.block) back
+
+pub returns-clause-unmarked : goal.returns-clause-unmarked
+returns-clause-unmarked g c =
+    let same = c.in_ok-copied.ensures.none (ap Ok (none_from c.in_ok-copied.copied c.in_default.not-Some)) in
+    let none = c.in_ok-written.ensures.none (ap Ok c.if-written.false) in
+    let back = ap (λ e. ram e) none.1 ∙ same in
+    λ off fresh. c.in_ok-erase_block.ensures.unmarked ∙ ap (λ (z : Ram). replicate (translation_pages z.geometry) false) back
+
+pub returns-clause-reads : goal.returns-clause-reads
+returns-clause-reads g c =
+    let none = c.in_ok-written.ensures.none (ap Ok c.if-written.false) in
+    let is = c.erase_block.ensures.reads ∙ ap (λ e. g.N.PageSource.view.reads e.nand) none.1 in
+    let most = c.copy_lowest.ensures.reads in
+    omega arith
+
+pub returns-clause-erases : goal.returns-clause-erases
+returns-clause-erases g c =
+    let none = c.in_ok-written.ensures.none (ap Ok c.if-written.false) in
+    c.erase_block.ensures.erases ∙ ap counted (ap (λ e. g.N.PageSource.view.erases e.nand) none.1 ∙ c.copy_lowest.ensures.erases)
+
+pub returns-clause-released : goal.returns-clause-released
+returns-clause-released g c =
+    let same = c.in_ok-copied.ensures.none (ap Ok (none_from c.in_ok-copied.copied c.in_default.not-Some)) in
+    let none = c.in_ok-written.ensures.none (ap Ok c.if-written.false) in
+    let back = ap (λ e. ram e) none.1 ∙ same in
+    λ _. at_start (λ z. IsReleased c.args.block z.blocks (ram c.erase_block.new.self).blocks) (ram c.args.self.now) (ram c.write_back_lowest.new.self) back c.in_ok-erase_block.ensures.released
+
+pub returns-in-Some-clause-unmarked : goal.returns-in-Some-clause-unmarked
+returns-in-Some-clause-unmarked g c = λ off fresh. ap (λ (p : Pin). p.marks) (c.in_ok-copied.ensures.unmarked off) ∙ fresh
+
+pub returns-in-Some-clause-reads : goal.returns-in-Some-clause-reads
+returns-in-Some-clause-reads g c =
+    let most = c.copy_lowest.ensures.reads in
+    omega arith
+
+pub returns-in-Some-clause-copied_reads : goal.returns-in-Some-clause-copied_reads
+returns-in-Some-clause-copied_reads g c =
+    λ page is.
+    let e : c.in-Some.page ≡ page = cc in
+    c.in_ok-copied.ensures.copied_reads page (c.in-Some.is ∙ ap Some e)
+
+pub returns-in-Some-clause-cost : goal.returns-in-Some-clause-cost
+returns-in-Some-clause-cost g c =
+    let w = c.in_ok-copied.ensures.within c.in-Some.page c.in-Some.is in
+    (w.0, w.1, c.in_ok-copied.ensures.cost c.in-Some.page c.in-Some.is, c.in_ok-copied.ensures.acts.fault)
+
+pub returns-in-Some-clause-truth : goal.returns-in-Some-clause-truth
+returns-in-Some-clause-truth g c = λ honest w none_in. rw c.in-Some.is at (c.in_ok-copied.ensures.truth honest w none_in)
+
+pub returns-in-Some-clause-touched : goal.returns-in-Some-clause-touched
+returns-in-Some-clause-touched g c = λ honest w page is. rw c.in-Some.is at (c.in_ok-copied.ensures.touched honest w)
+
+pub returns-in_err-copied-clause-reads : goal.returns-in_err-copied-clause-reads
+returns-in_err-copied-clause-reads g c =
+    let most = c.copy_lowest.ensures.reads in
+    omega arith
+
+pub returns-in_err-erase_block-clause-goes : goal.returns-in_err-erase_block-clause-goes
+returns-in_err-erase_block-clause-goes g c =
+    let same = c.in_ok-copied.ensures.none (ap Ok (none_from c.in_ok-copied.copied c.in_default.not-Some)) in
+    let none = c.in_ok-written.ensures.none (ap Ok c.if-written.false) in
+    let back = ap (λ e. ram e) none.1 ∙ same in
+    at_start (λ z. GoesBut c.args.block z (ram c.erase_block.new.self)) (ram c.args.self.now) (ram c.write_back_lowest.new.self) back c.erase_block.ensures.goes
+
+pub returns-in_err-erase_block-clause-goes_still : goal.returns-in_err-erase_block-clause-goes_still
+returns-in_err-erase_block-clause-goes_still g c =
+    let same = c.in_ok-copied.ensures.none (ap Ok (none_from c.in_ok-copied.copied c.in_default.not-Some)) in
+    let none = c.in_ok-written.ensures.none (ap Ok c.if-written.false) in
+    let back = ap (λ e. ram e) none.1 ∙ same in
+    let all = c.in_err-erase_block.ensures.refused ∙ back in
+    λ _. subst (λ z. Goes (ram c.args.self.now) z) (sym all) (goes_same _)
+
+pub returns-in_err-erase_block-clause-keys : goal.returns-in_err-erase_block-clause-keys
+returns-in_err-erase_block-clause-keys g c =
+    let same = c.in_ok-copied.ensures.none (ap Ok (none_from c.in_ok-copied.copied c.in_default.not-Some)) in
+    let none = c.in_ok-written.ensures.none (ap Ok c.if-written.false) in
+    let back = ap (λ e. ram e) none.1 ∙ same in
+    let all = c.in_err-erase_block.ensures.refused ∙ back in
+    keys_same _ _ (ap (λ (r : Ram). r.mapping) all)
+
+pub returns-in_err-erase_block-clause-pin : goal.returns-in_err-erase_block-clause-pin
+returns-in_err-erase_block-clause-pin g c =
+    let same = c.in_ok-copied.ensures.none (ap Ok (none_from c.in_ok-copied.copied c.in_default.not-Some)) in
+    let none = c.in_ok-written.ensures.none (ap Ok c.if-written.false) in
+    let back = ap (λ e. ram e) none.1 ∙ same in
+    c.erase_block.ensures.pin ∙ ap (λ (r : Ram). r.pin.block) back
+
+pub returns-in_err-erase_block-clause-unmoved : goal.returns-in_err-erase_block-clause-unmoved
+returns-in_err-erase_block-clause-unmoved g c =
+    let same = c.in_ok-copied.ensures.none (ap Ok (none_from c.in_ok-copied.copied c.in_default.not-Some)) in
+    let none = c.in_ok-written.ensures.none (ap Ok c.if-written.false) in
+    let back = ap (λ e. ram e) none.1 ∙ same in
+    let all = c.in_err-erase_block.ensures.refused ∙ back in
+    let p = err_from_is_err_and c.from_residual-in_err-erase_block.result c.from_residual-in_err-erase_block.ensures.1 in
+    rw p.1 (ap (λ (r : Ram). r.mapping) all)
+
+pub returns-in_err-erase_block-clause-reads : goal.returns-in_err-erase_block-clause-reads
+returns-in_err-erase_block-clause-reads g c =
+    let none = c.in_ok-written.ensures.none (ap Ok c.if-written.false) in
+    let is = c.erase_block.ensures.reads ∙ ap (λ e. g.N.PageSource.view.reads e.nand) none.1 in
+    let most = c.copy_lowest.ensures.reads in
+    omega arith
+
+pub returns-in_err-erase_block-clause-owed : goal.returns-in_err-erase_block-clause-owed
+returns-in_err-erase_block-clause-owed g c =
+    let p = err_from_is_err_and c.from_residual-in_err-erase_block.result c.from_residual-in_err-erase_block.ensures.1 in
+    let bus = c.in_err-erase_block.ensures.bus in
+    rw (p.1, p.2) (λ is. cc)
+
+pub returns-in_err-erase_block-clause-cost : goal.returns-in_err-erase_block-clause-cost
+returns-in_err-erase_block-clause-cost g c =
+    let p = err_from_is_err_and c.from_residual-in_err-erase_block.result c.from_residual-in_err-erase_block.ensures.1 in
+    rw (p.1, p.2, c.in_err-erase_block.ensures.bus) tt
+
+pub returns-in_err-erase_block-clause-truth : goal.returns-in_err-erase_block-clause-truth
+returns-in_err-erase_block-clause-truth g c =
+    let p = err_from_is_err_and c.from_residual-in_err-erase_block.result c.from_residual-in_err-erase_block.ensures.1 in
+    λ _ _ _. rw (p.1, p.2, c.in_err-erase_block.ensures.bus) tt
+
+pub returns-in_err-written-clause-refreshes : goal.returns-in_err-written-clause-refreshes
+returns-in_err-written-clause-refreshes g c = λ on. refreshes_then _ _ _ c.copy_lowest.ensures.goes.geometry (c.copy_lowest.ensures.refreshes on) (c.write_back_lowest.ensures.refreshes on)
+
+pub returns-in_err-written-clause-unmoved : goal.returns-in_err-written-clause-unmoved
+returns-in_err-written-clause-unmoved g c =
+    let same = c.in_ok-copied.ensures.none (ap Ok (none_from c.in_ok-copied.copied c.in_default.not-Some)) in
+    let p = err_from_is_err_and c.from_residual-in_err-written.result c.from_residual-in_err-written.ensures.1 in
+    rw p.1 (c.in_err-written.ensures.unmoved ∙ ap (λ (r : Ram). r.mapping) same)
+
+pub returns-then-written-clause-refreshes : goal.returns-then-written-clause-refreshes
+returns-then-written-clause-refreshes g c = λ on. refreshes_then _ _ _ c.copy_lowest.ensures.goes.geometry (c.copy_lowest.ensures.refreshes on) (c.write_back_lowest.ensures.refreshes on)
+
+pub returns-then-written-clause-unmarked : goal.returns-then-written-clause-unmarked
+returns-then-written-clause-unmarked g c =
+    let same = c.in_ok-copied.ensures.none (ap Ok (none_from c.in_ok-copied.copied c.in_default.not-Some)) in
+    λ off fresh. c.in_ok-written.ensures.unmarked (subst (λ (z : Ram). z.pin.marks ≡ replicate (translation_pages z.geometry) false) (sym same) fresh)
+    ∙ ap (λ (z : Ram). replicate (translation_pages z.geometry) false) same
+
+pub returns-then-written-clause-erases : goal.returns-then-written-clause-erases
+returns-then-written-clause-erases g c = c.write_back_lowest.ensures.erases ∙ c.copy_lowest.ensures.erases
+
+pub returns-in_err-written-clause-cost : goal.returns-in_err-written-clause-cost
+returns-in_err-written-clause-cost g c = search rules
+
+pub returns-in_err-erase_block-clause-refreshes : goal.returns-in_err-erase_block-clause-refreshes
+returns-in_err-erase_block-clause-refreshes g c =
+    let same = c.in_ok-copied.ensures.none (ap Ok (none_from c.in_ok-copied.copied c.in_default.not-Some)) in
+    let none = c.in_ok-written.ensures.none (ap Ok c.if-written.false) in
+    let all = c.in_err-erase_block.ensures.refused ∙ (ap (λ e. ram e) none.1 ∙ same) in
+    λ on. refreshes_same _ _ (ap (λ (r : Ram). r.mapping) all) (ap (λ (r : Ram). r.pin) all)

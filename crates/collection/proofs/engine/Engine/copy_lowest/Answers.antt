@@ -1,4 +1,4 @@
-use Rattle.std.proofs.Common.{◌≡◌, ◌∙◌, ap, arith, None}
+use Rattle.std.proofs.Common.{◌≡◌, ◌∙◌, ap, arith, None, rules, refl}
 use Rattle.std.proofs.lemmas.Result.{err_from_is_err_and}
 use Rattle.allocation.specs.State.{live_at}
 use Rattle.allocation.specs.View.{state}
@@ -12,6 +12,8 @@ use Rattle.collection.proofs.Stops.{same_left, leaves_still, stops_looked, fault
 use Rattle.collection.proofs.Costs.{not_bus}
 use Rattle.collection.proofs.Cuts.{cut_read, cut_looking}
 use Rattle.collection.proofs.Steps.{err_same}
+use Rattle.collection.proofs.Memory.{goes_same}
+use Rattle.collection.proofs.Copies.{keys_same}
 use Rattle.collection.proofs.engine.Engine.copy_lowest.Goals as goal
 
 pub returns-then-live-eq0-clause-truth : goal.returns-then-live-eq0-clause-truth
@@ -128,3 +130,233 @@ returns-clause-within g c = λ page is.
     let same : c.in-Some.page ≡ page = cc in
     let within = c.in_ok-live.ensures.within (c.in-Some.page, c.in-Some.found) c.in-Some.is in
     (omega (arith, same, within.0), omega (arith, same, within.1))
+
+pub returns-clause-unmoved : goal.returns-clause-unmoved
+returns-clause-unmoved g c = tt
+
+pub returns-clause-owed : goal.returns-clause-owed
+returns-clause-owed g c = λ h0. cc
+
+pub returns-clause-cut : goal.returns-clause-cut
+returns-clause-cut g c = λ _ _ h2. cc
+
+pub returns-in_default-clause-reads : goal.returns-in_default-clause-reads
+returns-in_default-clause-reads g c = c.first_live.ensures.reads
+
+pub returns-in_default-clause-unmoved : goal.returns-in_default-clause-unmoved
+returns-in_default-clause-unmoved g c = tt
+
+pub returns-in_default-clause-owed : goal.returns-in_default-clause-owed
+returns-in_default-clause-owed g c = λ h0. cc
+
+pub returns-in_default-clause-cut : goal.returns-in_default-clause-cut
+returns-in_default-clause-cut g c = λ _ _ h2. cc
+
+pub returns-in_err-bring_out-clause-none : goal.returns-in_err-bring_out-clause-none
+returns-in_err-bring_out-clause-none g c =
+    let p = err_from_is_err_and c.from_residual-in_err-bring_out.result c.from_residual-in_err-bring_out.ensures.1 in
+    rw (p.1, p.2) (λ h0. cc)
+
+pub returns-in_err-live-clause-reads : goal.returns-in_err-live-clause-reads
+returns-in_err-live-clause-reads g c = c.first_live.ensures.reads
+
+pub returns-in_err-live-clause-none : goal.returns-in_err-live-clause-none
+returns-in_err-live-clause-none g c =
+    let p = err_from_is_err_and c.from_residual.result c.from_residual.ensures.1 in
+    rw (p.1, p.2) (λ h0. cc)
+
+pub returns-then-live-eq0-clause-goes : goal.returns-then-live-eq0-clause-goes
+returns-then-live-eq0-clause-goes g c = goes_same _
+
+pub returns-then-live-eq0-clause-erases : goal.returns-then-live-eq0-clause-erases
+returns-then-live-eq0-clause-erases g c = refl
+
+pub returns-then-live-eq0-clause-keys : goal.returns-then-live-eq0-clause-keys
+returns-then-live-eq0-clause-keys g c = keys_same _ _ refl
+
+pub returns-then-live-eq0-clause-pin : goal.returns-then-live-eq0-clause-pin
+returns-then-live-eq0-clause-pin g c = refl
+
+pub returns-then-live-eq0-clause-unmoved : goal.returns-then-live-eq0-clause-unmoved
+returns-then-live-eq0-clause-unmoved g c = tt
+
+pub returns-then-live-eq0-clause-owed : goal.returns-then-live-eq0-clause-owed
+returns-then-live-eq0-clause-owed g c = λ h0. cc
+
+pub returns-then-live-eq0-clause-cut : goal.returns-then-live-eq0-clause-cut
+returns-then-live-eq0-clause-cut g c = λ _ _ h2. cc
+
+pub returns-clause-goes : goal.returns-clause-goes
+returns-clause-goes g c = search rules
+
+pub returns-clause-reads : goal.returns-clause-reads
+returns-clause-reads g c = search rules
+
+pub returns-clause-erases : goal.returns-clause-erases
+returns-clause-erases g c = search rules
+
+pub returns-clause-keys : goal.returns-clause-keys
+returns-clause-keys g c = search rules
+
+pub returns-clause-refreshes : goal.returns-clause-refreshes
+returns-clause-refreshes g c = search rules
+
+pub returns-clause-none : goal.returns-clause-none
+returns-clause-none g c = search rules
+
+pub returns-clause-pin : goal.returns-clause-pin
+returns-clause-pin g c = search rules
+
+pub returns-clause-unmarked : goal.returns-clause-unmarked
+returns-clause-unmarked g c = search rules
+
+pub returns-clause-cost : goal.returns-clause-cost
+returns-clause-cost g c = search rules
+
+pub returns-in_default-clause-goes : goal.returns-in_default-clause-goes
+returns-in_default-clause-goes g c = search rules
+
+pub returns-in_default-clause-copied_reads : goal.returns-in_default-clause-copied_reads
+returns-in_default-clause-copied_reads g c = search rules
+
+pub returns-in_default-clause-erases : goal.returns-in_default-clause-erases
+returns-in_default-clause-erases g c = search rules
+
+pub returns-in_default-clause-keys : goal.returns-in_default-clause-keys
+returns-in_default-clause-keys g c = search rules
+
+pub returns-in_default-clause-none : goal.returns-in_default-clause-none
+returns-in_default-clause-none g c = search rules
+
+pub returns-in_default-clause-within : goal.returns-in_default-clause-within
+returns-in_default-clause-within g c = search rules
+
+pub returns-in_default-clause-pin : goal.returns-in_default-clause-pin
+returns-in_default-clause-pin g c = search rules
+
+pub returns-in_default-clause-unmarked : goal.returns-in_default-clause-unmarked
+returns-in_default-clause-unmarked g c = search rules
+
+pub returns-in_default-clause-touched : goal.returns-in_default-clause-touched
+returns-in_default-clause-touched g c = search rules
+
+pub returns-in_default-clause-cost : goal.returns-in_default-clause-cost
+returns-in_default-clause-cost g c = search rules
+
+pub returns-in_err-bring_out-clause-goes : goal.returns-in_err-bring_out-clause-goes
+returns-in_err-bring_out-clause-goes g c = search rules
+
+pub returns-in_err-bring_out-clause-reads : goal.returns-in_err-bring_out-clause-reads
+returns-in_err-bring_out-clause-reads g c = search rules
+
+pub returns-in_err-bring_out-clause-copied_reads : goal.returns-in_err-bring_out-clause-copied_reads
+returns-in_err-bring_out-clause-copied_reads g c =
+    let p = err_from_is_err_and c.from_residual-in_err-bring_out.result c.from_residual-in_err-bring_out.ensures.1 in
+    rw p.1 (tt)
+
+pub returns-in_err-bring_out-clause-erases : goal.returns-in_err-bring_out-clause-erases
+returns-in_err-bring_out-clause-erases g c = search rules
+
+pub returns-in_err-bring_out-clause-keys : goal.returns-in_err-bring_out-clause-keys
+returns-in_err-bring_out-clause-keys g c = search rules
+
+pub returns-in_err-bring_out-clause-refreshes : goal.returns-in_err-bring_out-clause-refreshes
+returns-in_err-bring_out-clause-refreshes g c = search rules
+
+pub returns-in_err-bring_out-clause-within : goal.returns-in_err-bring_out-clause-within
+returns-in_err-bring_out-clause-within g c =
+    let p = err_from_is_err_and c.from_residual-in_err-bring_out.result c.from_residual-in_err-bring_out.ensures.1 in
+    rw p.1 (tt)
+
+pub returns-in_err-bring_out-clause-pin : goal.returns-in_err-bring_out-clause-pin
+returns-in_err-bring_out-clause-pin g c = search rules
+
+pub returns-in_err-bring_out-clause-unmoved : goal.returns-in_err-bring_out-clause-unmoved
+returns-in_err-bring_out-clause-unmoved g c = search rules
+
+pub returns-in_err-bring_out-clause-owed : goal.returns-in_err-bring_out-clause-owed
+returns-in_err-bring_out-clause-owed g c = search rules
+
+pub returns-in_err-bring_out-clause-unmarked : goal.returns-in_err-bring_out-clause-unmarked
+returns-in_err-bring_out-clause-unmarked g c =
+    let p = err_from_is_err_and c.from_residual-in_err-bring_out.result c.from_residual-in_err-bring_out.ensures.1 in
+    rw p.1 (λ _. tt)
+
+pub returns-in_err-bring_out-clause-touched : goal.returns-in_err-bring_out-clause-touched
+returns-in_err-bring_out-clause-touched g c =
+    let p = err_from_is_err_and c.from_residual-in_err-bring_out.result c.from_residual-in_err-bring_out.ensures.1 in
+    rw p.1 (λ _ _. tt)
+
+pub returns-in_err-bring_out-clause-cost : goal.returns-in_err-bring_out-clause-cost
+returns-in_err-bring_out-clause-cost g c = search rules
+
+pub returns-in_err-bring_out-clause-truth : goal.returns-in_err-bring_out-clause-truth
+returns-in_err-bring_out-clause-truth g c = search rules
+
+pub returns-in_err-live-clause-goes : goal.returns-in_err-live-clause-goes
+returns-in_err-live-clause-goes g c = search rules
+
+pub returns-in_err-live-clause-copied_reads : goal.returns-in_err-live-clause-copied_reads
+returns-in_err-live-clause-copied_reads g c =
+    let p = err_from_is_err_and c.from_residual.result c.from_residual.ensures.1 in
+    rw p.1 (tt)
+
+pub returns-in_err-live-clause-erases : goal.returns-in_err-live-clause-erases
+returns-in_err-live-clause-erases g c = search rules
+
+pub returns-in_err-live-clause-keys : goal.returns-in_err-live-clause-keys
+returns-in_err-live-clause-keys g c = search rules
+
+pub returns-in_err-live-clause-within : goal.returns-in_err-live-clause-within
+returns-in_err-live-clause-within g c =
+    let p = err_from_is_err_and c.from_residual.result c.from_residual.ensures.1 in
+    rw p.1 (tt)
+
+pub returns-in_err-live-clause-pin : goal.returns-in_err-live-clause-pin
+returns-in_err-live-clause-pin g c = search rules
+
+pub returns-in_err-live-clause-unmoved : goal.returns-in_err-live-clause-unmoved
+returns-in_err-live-clause-unmoved g c = search rules
+
+pub returns-in_err-live-clause-owed : goal.returns-in_err-live-clause-owed
+returns-in_err-live-clause-owed g c = search rules
+
+pub returns-in_err-live-clause-unmarked : goal.returns-in_err-live-clause-unmarked
+returns-in_err-live-clause-unmarked g c =
+    let p = err_from_is_err_and c.from_residual.result c.from_residual.ensures.1 in
+    rw p.1 (λ _. tt)
+
+pub returns-in_err-live-clause-touched : goal.returns-in_err-live-clause-touched
+returns-in_err-live-clause-touched g c =
+    let p = err_from_is_err_and c.from_residual.result c.from_residual.ensures.1 in
+    rw p.1 (λ _ _. tt)
+
+pub returns-in_err-live-clause-cost : goal.returns-in_err-live-clause-cost
+returns-in_err-live-clause-cost g c = search rules
+
+pub returns-in_err-live-clause-truth : goal.returns-in_err-live-clause-truth
+returns-in_err-live-clause-truth g c = search rules
+
+pub returns-then-live-eq0-clause-reads : goal.returns-then-live-eq0-clause-reads
+returns-then-live-eq0-clause-reads g c = search rules
+
+pub returns-then-live-eq0-clause-copied_reads : goal.returns-then-live-eq0-clause-copied_reads
+returns-then-live-eq0-clause-copied_reads g c = search rules
+
+pub returns-then-live-eq0-clause-refreshes : goal.returns-then-live-eq0-clause-refreshes
+returns-then-live-eq0-clause-refreshes g c = search rules
+
+pub returns-then-live-eq0-clause-none : goal.returns-then-live-eq0-clause-none
+returns-then-live-eq0-clause-none g c = search rules
+
+pub returns-then-live-eq0-clause-within : goal.returns-then-live-eq0-clause-within
+returns-then-live-eq0-clause-within g c = search rules
+
+pub returns-then-live-eq0-clause-unmarked : goal.returns-then-live-eq0-clause-unmarked
+returns-then-live-eq0-clause-unmarked g c = search rules
+
+pub returns-then-live-eq0-clause-touched : goal.returns-then-live-eq0-clause-touched
+returns-then-live-eq0-clause-touched g c = search rules
+
+pub returns-then-live-eq0-clause-cost : goal.returns-then-live-eq0-clause-cost
+returns-then-live-eq0-clause-cost g c = search rules

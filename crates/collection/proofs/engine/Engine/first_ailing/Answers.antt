@@ -1,4 +1,4 @@
-use Rattle.std.proofs.Common.{◌∙◌, ◌+◌, ◌*◌, ap, sym, subst, arith}
+use Rattle.std.proofs.Common.{◌∙◌, ◌+◌, ◌*◌, ap, sym, subst, arith, rules}
 use Rattle.std.proofs.lemmas.Result.{err_from_is_err_and}
 use Rattle.collection.specs.Safe.{ram}
 use Rattle.collection.proofs.Rescues.{found_at, true_over, looked_through, ailing_more, first_by, row_found}
@@ -69,3 +69,28 @@ returns-in_err-live-clause-looks g c =
 
 pub returns-in-Some-clause-looks : goal.returns-in-Some-clause-looks
 returns-in-Some-clause-looks g c = looks_then _ _ _ tt _ c.numbers.invariant.looks (looks_ok _ _ _ _ c.in_ok-live.ensures.looks)
+
+pub returns-clause-looks : goal.returns-clause-looks
+returns-clause-looks g c = search rules
+
+pub returns-clause-row : goal.returns-clause-row
+returns-clause-row g c = search rules
+
+pub returns-clause-checked : goal.returns-clause-checked
+returns-clause-checked g c = search rules
+
+pub returns-clause-truth : goal.returns-clause-truth
+returns-clause-truth g c = search rules
+
+pub returns-in_err-live-clause-row : goal.returns-in_err-live-clause-row
+returns-in_err-live-clause-row g c =
+    let p = err_from_is_err_and c.from_residual.result c.from_residual.ensures.1 in
+    rw p.1 (tt)
+
+pub returns-in_err-live-clause-checked : goal.returns-in_err-live-clause-checked
+returns-in_err-live-clause-checked g c =
+    let p = err_from_is_err_and c.from_residual.result c.from_residual.ensures.1 in
+    rw p.1 (tt)
+
+pub returns-in_err-live-clause-truth : goal.returns-in_err-live-clause-truth
+returns-in_err-live-clause-truth g c = search rules

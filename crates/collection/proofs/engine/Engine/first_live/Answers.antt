@@ -1,10 +1,11 @@
-use Rattle.std.proofs.Common.{◌∙◌, ap, arith}
+use Rattle.std.proofs.Common.{◌∙◌, ap, arith, rules}
 use Rattle.std.proofs.lemmas.Result.{err_from_is_err_and}
 use Rattle.collection.specs.Safe.{ram}
 use Rattle.collection.proofs.Acts.{looks_same, looks_then, looks_ok, looks_err}
 use Rattle.collection.proofs.Finds.{none_yet}
 use Rattle.collection.proofs.Looks.{ok_not_bus}
 use Rattle.collection.proofs.Rescues.{true_over, none_further}
+use Rattle.std.proofs.lemmas.Grind.{common_steps}
 use Rattle.collection.proofs.engine.Engine.first_live.Goals as goal
 
 pub candidates-init : goal.candidates-init
@@ -35,3 +36,57 @@ returns-in_err-live-clause-looks g c =
 
 pub returns-in-Some-clause-looks : goal.returns-in-Some-clause-looks
 returns-in-Some-clause-looks g c = looks_then _ _ _ tt _ c.candidates.invariant.looks (looks_ok _ _ _ _ c.in_ok-live.ensures.looks)
+
+pub returns-clause-looks : goal.returns-clause-looks
+returns-clause-looks g c = search rules
+
+pub returns-clause-reads : goal.returns-clause-reads
+returns-clause-reads g c = search rules
+
+pub returns-clause-found_reads : goal.returns-clause-found_reads
+returns-clause-found_reads g c = search rules
+
+pub returns-clause-within : goal.returns-clause-within
+returns-clause-within g c = search rules
+
+pub returns-clause-checked : goal.returns-clause-checked
+returns-clause-checked g c = search rules
+
+pub returns-clause-truth : goal.returns-clause-truth
+returns-clause-truth g c = search rules
+
+pub returns-in-Some-clause-reads : goal.returns-in-Some-clause-reads
+returns-in-Some-clause-reads g c = search rules
+
+pub returns-in-Some-clause-found_reads : goal.returns-in-Some-clause-found_reads
+returns-in-Some-clause-found_reads g c = search rules
+
+pub returns-in-Some-clause-within : goal.returns-in-Some-clause-within
+returns-in-Some-clause-within g c = search rules
+
+pub returns-in-Some-clause-truth : goal.returns-in-Some-clause-truth
+returns-in-Some-clause-truth g c = search rules
+
+pub returns-in_err-live-clause-reads : goal.returns-in_err-live-clause-reads
+returns-in_err-live-clause-reads g c = search rules
+
+pub returns-in_err-live-clause-found_reads : goal.returns-in_err-live-clause-found_reads
+returns-in_err-live-clause-found_reads g c =
+    let p = err_from_is_err_and c.from_residual.result c.from_residual.ensures.1 in
+    rw p.1 (tt)
+
+pub returns-in_err-live-clause-within : goal.returns-in_err-live-clause-within
+returns-in_err-live-clause-within g c =
+    let p = err_from_is_err_and c.from_residual.result c.from_residual.ensures.1 in
+    rw p.1 (tt)
+
+pub returns-in_err-live-clause-checked : goal.returns-in_err-live-clause-checked
+returns-in_err-live-clause-checked g c =
+    let p = err_from_is_err_and c.from_residual.result c.from_residual.ensures.1 in
+    rw p.1 (tt)
+
+pub returns-in_err-live-clause-truth : goal.returns-in_err-live-clause-truth
+returns-in_err-live-clause-truth g c = search rules
+
+pub returns-in-Some-clause-checked : goal.returns-in-Some-clause-checked
+returns-in-Some-clause-checked g c = grind (arith, common_steps)

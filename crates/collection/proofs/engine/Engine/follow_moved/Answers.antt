@@ -1,10 +1,12 @@
-use Rattle.std.proofs.Common.{◌∙◌, sym}
+use Rattle.std.proofs.Common.{◌∙◌, sym, rules, refl}
 use Rattle.promises.proofs.StopLemmas.{leaves_nothing}
 use Rattle.collection.proofs.Stops.{same_left}
 use Rattle.collection.specs.Safe.{ram}
 use Rattle.collection.proofs.Acts.{acts_same}
 use Rattle.collection.proofs.Follows.{none_if}
 use Rattle.collection.proofs.Rescues.{followed_result}
+use Rattle.collection.proofs.Memory.{goes_same}
+use Rattle.collection.proofs.Copies.{keys_same}
 use Rattle.collection.proofs.engine.Engine.follow_moved.Goals as goal
 
 -- ---- what a stop leaves
@@ -37,3 +39,81 @@ returns-clause-truth g c = λ honest w.
 
 pub returns-clause-cut : goal.returns-clause-cut
 returns-clause-cut g c = λ honest w is. c.write_page_back.ensures.cut honest w is
+
+pub returns-clause-acts : goal.returns-clause-acts
+returns-clause-acts g c = c.write_page_back.ensures.acts
+
+pub returns-clause-goes : goal.returns-clause-goes
+returns-clause-goes g c = c.write_page_back.ensures.goes
+
+pub returns-clause-erases : goal.returns-clause-erases
+returns-clause-erases g c = c.write_page_back.ensures.erases
+
+pub returns-clause-pin : goal.returns-clause-pin
+returns-clause-pin g c = c.write_page_back.ensures.pin
+
+pub returns-in_default-clause-goes : goal.returns-in_default-clause-goes
+returns-in_default-clause-goes g c = goes_same _
+
+pub returns-in_default-clause-erases : goal.returns-in_default-clause-erases
+returns-in_default-clause-erases g c = refl
+
+pub returns-in_default-clause-keys : goal.returns-in_default-clause-keys
+returns-in_default-clause-keys g c = keys_same _ _ refl
+
+pub returns-in_default-clause-pin : goal.returns-in_default-clause-pin
+returns-in_default-clause-pin g c = refl
+
+pub returns-in_default-clause-unmoved : goal.returns-in_default-clause-unmoved
+returns-in_default-clause-unmoved g c = tt
+
+pub returns-in_default-clause-cut : goal.returns-in_default-clause-cut
+returns-in_default-clause-cut g c = λ _ _ h2. cc
+
+pub returns-then-is_cached-clause-goes : goal.returns-then-is_cached-clause-goes
+returns-then-is_cached-clause-goes g c = goes_same _
+
+pub returns-then-is_cached-clause-erases : goal.returns-then-is_cached-clause-erases
+returns-then-is_cached-clause-erases g c = refl
+
+pub returns-then-is_cached-clause-keys : goal.returns-then-is_cached-clause-keys
+returns-then-is_cached-clause-keys g c = keys_same _ _ refl
+
+pub returns-then-is_cached-clause-pin : goal.returns-then-is_cached-clause-pin
+returns-then-is_cached-clause-pin g c = refl
+
+pub returns-then-is_cached-clause-unmoved : goal.returns-then-is_cached-clause-unmoved
+returns-then-is_cached-clause-unmoved g c = tt
+
+pub returns-then-is_cached-clause-cut : goal.returns-then-is_cached-clause-cut
+returns-then-is_cached-clause-cut g c = λ _ _ h2. cc
+
+pub returns-clause-keys : goal.returns-clause-keys
+returns-clause-keys g c = search rules
+
+pub returns-clause-followed : goal.returns-clause-followed
+returns-clause-followed g c = search rules
+
+pub returns-clause-unmoved : goal.returns-clause-unmoved
+returns-clause-unmoved g c = search rules
+
+pub returns-clause-cost : goal.returns-clause-cost
+returns-clause-cost g c = search rules
+
+pub returns-in_default-clause-followed : goal.returns-in_default-clause-followed
+returns-in_default-clause-followed g c = search rules
+
+pub returns-in_default-clause-cost : goal.returns-in_default-clause-cost
+returns-in_default-clause-cost g c = search rules
+
+pub returns-in_default-clause-truth : goal.returns-in_default-clause-truth
+returns-in_default-clause-truth g c = search rules
+
+pub returns-then-is_cached-clause-followed : goal.returns-then-is_cached-clause-followed
+returns-then-is_cached-clause-followed g c = search rules
+
+pub returns-then-is_cached-clause-cost : goal.returns-then-is_cached-clause-cost
+returns-then-is_cached-clause-cost g c = search rules
+
+pub returns-then-is_cached-clause-truth : goal.returns-then-is_cached-clause-truth
+returns-then-is_cached-clause-truth g c = search rules

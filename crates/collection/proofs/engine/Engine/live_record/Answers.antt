@@ -1,4 +1,4 @@
-use Rattle.std.proofs.Common.{◌∙◌, ap}
+use Rattle.std.proofs.Common.{◌∙◌, ap, rules}
 use Rattle.std.proofs.lemmas.Result.{err_from_is_err_and}
 use Rattle.collection.specs.Safe.{ram}
 use Rattle.collection.specs.Pages.{newest_row}
@@ -29,3 +29,85 @@ returns-then-eq-clause-looks g c = looks_then _ _ _ _ _ c.in_ok-taken.ensures.lo
 
 pub returns-else-eq-clause-looks : goal.returns-else-eq-clause-looks
 returns-else-eq-clause-looks g c = looks_then _ _ _ _ _ c.in_ok-taken.ensures.looks (looks_ok _ _ _ _ c.in_ok-newest.ensures.looks)
+
+pub returns-in_default-clause-stands : goal.returns-in_default-clause-stands
+returns-in_default-clause-stands g c = c.in_ok-taken.ensures.stands
+
+pub returns-in_err-taken-clause-looks : goal.returns-in_err-taken-clause-looks
+returns-in_err-taken-clause-looks g c =
+    let p = err_from_is_err_and c.from_residual.result c.from_residual.ensures.1 in
+    rw (p.1, p.2) (c.in_err-taken.ensures.looks)
+
+pub returns-then-not-has_key-clause-stands : goal.returns-then-not-has_key-clause-stands
+returns-then-not-has_key-clause-stands g c = c.in_ok-taken.ensures.stands
+
+pub returns-else-eq-clause-reads : goal.returns-else-eq-clause-reads
+returns-else-eq-clause-reads g c = search rules
+
+pub returns-else-eq-clause-checked : goal.returns-else-eq-clause-checked
+returns-else-eq-clause-checked g c = search rules
+
+pub returns-else-eq-clause-stands : goal.returns-else-eq-clause-stands
+returns-else-eq-clause-stands g c = search rules
+
+pub returns-in_default-clause-looks : goal.returns-in_default-clause-looks
+returns-in_default-clause-looks g c = search rules
+
+pub returns-in_default-clause-reads : goal.returns-in_default-clause-reads
+returns-in_default-clause-reads g c = search rules
+
+pub returns-in_default-clause-checked : goal.returns-in_default-clause-checked
+returns-in_default-clause-checked g c = search rules
+
+pub returns-in_err-newest-clause-reads : goal.returns-in_err-newest-clause-reads
+returns-in_err-newest-clause-reads g c = search rules
+
+pub returns-in_err-newest-clause-checked : goal.returns-in_err-newest-clause-checked
+returns-in_err-newest-clause-checked g c =
+    let p = err_from_is_err_and c.from_residual-in_err-newest.result c.from_residual-in_err-newest.ensures.1 in
+    rw p.1 (tt)
+
+pub returns-in_err-newest-clause-stands : goal.returns-in_err-newest-clause-stands
+returns-in_err-newest-clause-stands g c =
+    let p = err_from_is_err_and c.from_residual-in_err-newest.result c.from_residual-in_err-newest.ensures.1 in
+    rw p.1 (λ _. tt)
+
+pub returns-in_err-newest-clause-truth : goal.returns-in_err-newest-clause-truth
+returns-in_err-newest-clause-truth g c = search rules
+
+pub returns-in_err-taken-clause-reads : goal.returns-in_err-taken-clause-reads
+returns-in_err-taken-clause-reads g c = search rules
+
+pub returns-in_err-taken-clause-checked : goal.returns-in_err-taken-clause-checked
+returns-in_err-taken-clause-checked g c =
+    let p = err_from_is_err_and c.from_residual.result c.from_residual.ensures.1 in
+    rw p.1 (tt)
+
+pub returns-in_err-taken-clause-stands : goal.returns-in_err-taken-clause-stands
+returns-in_err-taken-clause-stands g c =
+    let p = err_from_is_err_and c.from_residual.result c.from_residual.ensures.1 in
+    rw p.1 (λ _. tt)
+
+pub returns-in_err-taken-clause-truth : goal.returns-in_err-taken-clause-truth
+returns-in_err-taken-clause-truth g c = search rules
+
+pub returns-then-eq-clause-reads : goal.returns-then-eq-clause-reads
+returns-then-eq-clause-reads g c = search rules
+
+pub returns-then-eq-clause-checked : goal.returns-then-eq-clause-checked
+returns-then-eq-clause-checked g c = search rules
+
+pub returns-then-eq-clause-stands : goal.returns-then-eq-clause-stands
+returns-then-eq-clause-stands g c = search rules
+
+pub returns-then-eq-clause-truth : goal.returns-then-eq-clause-truth
+returns-then-eq-clause-truth g c = search rules
+
+pub returns-then-not-has_key-clause-looks : goal.returns-then-not-has_key-clause-looks
+returns-then-not-has_key-clause-looks g c = search rules
+
+pub returns-then-not-has_key-clause-reads : goal.returns-then-not-has_key-clause-reads
+returns-then-not-has_key-clause-reads g c = search rules
+
+pub returns-then-not-has_key-clause-checked : goal.returns-then-not-has_key-clause-checked
+returns-then-not-has_key-clause-checked g c = search rules

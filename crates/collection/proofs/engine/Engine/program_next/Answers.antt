@@ -17,8 +17,7 @@ use Rattle.collection.proofs.Programs.{at_outcome, buffer_spare}
 use Rattle.collection.proofs.HalfPuts.{try_cut}
 use Rattle.collection.proofs.Looks.{ok_not_bus}
 use Rattle.collection.proofs.Memory.{taken_outside}
-use Rattle.collection.proofs.Attempts.{taken_by, taken_good, next_record, step_others, asked_ram, asked_goes, failed_ram, failed_goes, failed_cost}
-use Rattle.collection.proofs.Attempts.{failed_went, failed_kept, passed_ram, passed_goes, passed_cost, passed_went, passed_put, may_program}
+use Rattle.collection.proofs.Attempts.{taken_by, taken_good, next_record, step_others, asked_ram, asked_goes, failed_ram, failed_goes, failed_cost, failed_went, failed_kept, passed_ram, passed_goes, passed_cost, passed_went, passed_put, may_program}
 use Rattle.collection.proofs.WriteBacks.{read_went}
 use Rattle.promises.proofs.StopLemmas.{leaves_nothing}
 use Rattle.collection.proofs.engine.Engine.program_next.Goals as goal
@@ -259,3 +258,81 @@ returns-in-Err-clause-cut g c = λ honest may e.
     let is = taken_by r c.of.result row b t c.requires.safe.memory c.in-Some.ensures.some c.split_row-block.ensures.block_is in
     let can = may_program c.of.result b row r t c.requires.safe.memory is c.args.kind c.args.number c.args.old_row c.args.self.now.page.body.items before.image may c.requires.key c.wear.result in
     try_cut c.args.kind c.args.number row (next_record c.args.kind c.args.number c.args.self.now.next c.wear.result) c.args.self.now.page.body.items c.deref.result.now r.geometry _ _ _ refl refl c.requires.next c.deref.ensures.value (c.in-Err.ensures.cut honest can)
+
+pub returns-in-Err-clause-page : goal.returns-in-Err-clause-page
+returns-in-Err-clause-page g c = refl
+
+pub returns-in-Err-clause-scratch : goal.returns-in-Err-clause-scratch
+returns-in-Err-clause-scratch g c = refl
+
+pub returns-in-Ok-Failed-clause-page : goal.returns-in-Ok-Failed-clause-page
+returns-in-Ok-Failed-clause-page g c = refl
+
+pub returns-in-Ok-Failed-clause-scratch : goal.returns-in-Ok-Failed-clause-scratch
+returns-in-Ok-Failed-clause-scratch g c = refl
+
+pub returns-in-Ok-Failed-clause-cut : goal.returns-in-Ok-Failed-clause-cut
+returns-in-Ok-Failed-clause-cut g c = λ _ _ h2. cc
+
+pub returns-in-Ok-Passed-clause-page : goal.returns-in-Ok-Passed-clause-page
+returns-in-Ok-Passed-clause-page g c = refl
+
+pub returns-in-Ok-Passed-clause-scratch : goal.returns-in-Ok-Passed-clause-scratch
+returns-in-Ok-Passed-clause-scratch g c = refl
+
+pub returns-in-Ok-Passed-clause-cut : goal.returns-in-Ok-Passed-clause-cut
+returns-in-Ok-Passed-clause-cut g c = λ _ _ h2. cc
+
+pub returns-in_default-clause-page : goal.returns-in_default-clause-page
+returns-in_default-clause-page g c = refl
+
+pub returns-in_default-clause-scratch : goal.returns-in_default-clause-scratch
+returns-in_default-clause-scratch g c = refl
+
+pub returns-in_default-clause-cut : goal.returns-in_default-clause-cut
+returns-in_default-clause-cut g c = λ _ _ h2. cc
+
+pub returns-in-Err-clause-only_programs : goal.returns-in-Err-clause-only_programs
+returns-in-Err-clause-only_programs g c = search rules
+
+pub returns-in-Err-clause-row : goal.returns-in-Err-clause-row
+returns-in-Err-clause-row g c = search rules
+
+pub returns-in-Err-clause-programmed : goal.returns-in-Err-clause-programmed
+returns-in-Err-clause-programmed g c = search rules
+
+pub returns-in-Err-clause-cost : goal.returns-in-Err-clause-cost
+returns-in-Err-clause-cost g c = search rules
+
+pub returns-in-Err-clause-truth : goal.returns-in-Err-clause-truth
+returns-in-Err-clause-truth g c = search rules
+
+pub returns-in-Ok-Failed-clause-only_programs : goal.returns-in-Ok-Failed-clause-only_programs
+returns-in-Ok-Failed-clause-only_programs g c = search rules
+
+pub returns-in-Ok-Failed-clause-row : goal.returns-in-Ok-Failed-clause-row
+returns-in-Ok-Failed-clause-row g c = search rules
+
+pub returns-in-Ok-Failed-clause-programmed : goal.returns-in-Ok-Failed-clause-programmed
+returns-in-Ok-Failed-clause-programmed g c = search rules
+
+pub returns-in-Ok-Passed-clause-only_programs : goal.returns-in-Ok-Passed-clause-only_programs
+returns-in-Ok-Passed-clause-only_programs g c = search rules
+
+pub returns-in_default-clause-goes : goal.returns-in_default-clause-goes
+returns-in_default-clause-goes g c = search rules
+
+pub returns-in_default-clause-only_programs : goal.returns-in_default-clause-only_programs
+returns-in_default-clause-only_programs g c = search rules
+
+pub returns-in_default-clause-row : goal.returns-in_default-clause-row
+returns-in_default-clause-row g c = search rules
+
+pub returns-in_default-clause-programmed : goal.returns-in_default-clause-programmed
+returns-in_default-clause-programmed g c = search rules
+
+pub returns-in_default-clause-cost : goal.returns-in_default-clause-cost
+returns-in_default-clause-cost g c = search rules
+
+pub returns-in_default-clause-truth : goal.returns-in_default-clause-truth
+returns-in_default-clause-truth g c = search rules

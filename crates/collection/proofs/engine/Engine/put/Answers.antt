@@ -32,7 +32,9 @@ returns-clause-stops g c = λ honest none w fits. rw (c.noted.ensures.same, c.no
 
 pub returns-clause-cut : goal.returns-clause-cut
 returns-clause-cut g c = λ honest none w fits. rw (c.noted.ensures.same, c.noted.ensures.noted) (λ e.
-    cut_bytes (λ bytes. IsKeptOrPut c.args.written.now.kind c.args.written.now.number bytes c.args.self.now.geometry (image_in g.N.PageSource.view.flash c.args.self.now)) _ _ _ _ _ c.copy_from_slice.ensures.items (c.put_page-answer.ensures.cut honest (record { truth = w; page_for = search rules; old_row_is = c.row_of_key-old_row.ensures.newest _ w ∙ ap (newest_row (image_in g.N.PageSource.view.flash c.args.self.now)) c.key.ensures }) e))
+    let image = image_in g.N.PageSource.view.flash c.args.self.now in
+    cut_bytes (λ bytes. IsKeptOrPut c.args.written.now.kind c.args.written.now.number bytes c.args.self.now.geometry image) _ _ _ _ _ c.copy_from_slice.ensures.items
+    (c.put_page-answer.ensures.cut honest (record { truth = w; page_for = search rules; old_row_is = c.row_of_key-old_row.ensures.newest _ w ∙ ap (newest_row image) c.key.ensures }) e))
 
 -- ---- a fault stands
 

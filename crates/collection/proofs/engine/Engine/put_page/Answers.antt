@@ -1,4 +1,4 @@
-use Rattle.std.proofs.Common.{inl, ◌∙◌, ap, refl, arith}
+use Rattle.std.proofs.Common.{inl, ◌∙◌, ap, refl, arith, rules}
 use Rattle.std.proofs.lemmas.Result.{err_from_is_err_and}
 use Rattle.budget.specs.Stream.{stream_of}
 use Rattle.collection.specs.Safe.{ram}
@@ -124,3 +124,64 @@ returns-in_err-tried-clause-cut g c =
     let kept = c.tries.invariant.truth honest may in
     let now = may_still c.args.kind c.args.number c.args.old_row _ _ _ _ _ _ may (ap (λ v. v.items) c.tries.invariant.page) c.tries.invariant.goes kept in
     tries_cut c.args.kind c.args.number _ _ _ _ _ _ _ _ _ (ap (λ v. v.items) c.tries.invariant.page) c.tries.invariant.goes.goes.geometry kept.keeps (c.tries.invariant.stops honest may) (c.in_err-tried.ensures.cut (c.tries.invariant.acts.honest_is ∙ honest) now (err_same _ _ e)))
+
+pub returns-clause-cut : goal.returns-clause-cut
+returns-clause-cut g c = λ _ _ h2. cc
+
+pub returns-in-Some-clause-cut : goal.returns-in-Some-clause-cut
+returns-in-Some-clause-cut g c = λ _ _ h2. cc
+
+pub returns-clause-acts : goal.returns-clause-acts
+returns-clause-acts g c = search rules
+
+pub returns-clause-goes : goal.returns-clause-goes
+returns-clause-goes g c = search rules
+
+pub returns-clause-page : goal.returns-clause-page
+returns-clause-page g c = search rules
+
+pub returns-clause-scratch : goal.returns-clause-scratch
+returns-clause-scratch g c = search rules
+
+pub returns-clause-only_programs : goal.returns-clause-only_programs
+returns-clause-only_programs g c = search rules
+
+pub returns-clause-row : goal.returns-clause-row
+returns-clause-row g c = search rules
+
+pub returns-clause-programmed : goal.returns-clause-programmed
+returns-clause-programmed g c = search rules
+
+pub returns-clause-cost : goal.returns-clause-cost
+returns-clause-cost g c = search rules
+
+pub returns-in-Some-clause-page : goal.returns-in-Some-clause-page
+returns-in-Some-clause-page g c = search rules
+
+pub returns-in-Some-clause-scratch : goal.returns-in-Some-clause-scratch
+returns-in-Some-clause-scratch g c = search rules
+
+pub returns-in-Some-clause-only_programs : goal.returns-in-Some-clause-only_programs
+returns-in-Some-clause-only_programs g c = search rules
+
+pub returns-in-Some-clause-programmed : goal.returns-in-Some-clause-programmed
+returns-in-Some-clause-programmed g c = search rules
+
+pub returns-in_err-tried-clause-page : goal.returns-in_err-tried-clause-page
+returns-in_err-tried-clause-page g c = search rules
+
+pub returns-in_err-tried-clause-scratch : goal.returns-in_err-tried-clause-scratch
+returns-in_err-tried-clause-scratch g c = search rules
+
+pub returns-in_err-tried-clause-only_programs : goal.returns-in_err-tried-clause-only_programs
+returns-in_err-tried-clause-only_programs g c = search rules
+
+pub returns-in_err-tried-clause-row : goal.returns-in_err-tried-clause-row
+returns-in_err-tried-clause-row g c =
+    let p = err_from_is_err_and c.from_residual.result c.from_residual.ensures.1 in
+    rw p.1 (tt)
+
+pub returns-in_err-tried-clause-programmed : goal.returns-in_err-tried-clause-programmed
+returns-in_err-tried-clause-programmed g c =
+    let p = err_from_is_err_and c.from_residual.result c.from_residual.ensures.1 in
+    rw p.1 (tt)

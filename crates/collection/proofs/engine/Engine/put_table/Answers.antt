@@ -1,4 +1,4 @@
-use Rattle.std.proofs.Common.{◌∙◌}
+use Rattle.std.proofs.Common.{◌∙◌, ap, rules}
 use Rattle.std.proofs.lemmas.List.{with_items_is}
 use Rattle.std.proofs.lemmas.Result.{err_from_is_err_and}
 use Rattle.allocation.specs.View.{state}
@@ -77,3 +77,72 @@ returns-in_err-replace-clause-cut g c =
     ∙ spelled_by c.deref_mut.result.now c.args.self.now.page.body.items c.args.self.now.geometry c.table.result.now
     (state c.args.self.now.blocks).table c.args.u c.deref_mut.ensures.value c.requires.safe.page.body c.table.ensures))
     (c.row_of_key-old_row.ensures.newest _ w)) (err_same _ _ is)))
+
+pub returns-clause-goes : goal.returns-clause-goes
+returns-clause-goes g c = c.replace.ensures.goes
+
+pub returns-clause-table : goal.returns-clause-table
+returns-clause-table g c = c.replace.ensures.table
+
+pub returns-clause-pin : goal.returns-clause-pin
+returns-clause-pin g c = c.replace.ensures.pin
+
+pub returns-clause-only_programs : goal.returns-clause-only_programs
+returns-clause-only_programs g c = c.replace.ensures.only_programs
+
+pub returns-clause-programmed : goal.returns-clause-programmed
+returns-clause-programmed g c = c.in_ok-replace.ensures.programmed
+
+pub returns-clause-cost : goal.returns-clause-cost
+returns-clause-cost g c = c.in_ok-replace.ensures.cost
+
+pub returns-clause-cut : goal.returns-clause-cut
+returns-clause-cut g c = λ _ _ h2. cc
+
+pub returns-in_err-replace-clause-goes : goal.returns-in_err-replace-clause-goes
+returns-in_err-replace-clause-goes g c = c.replace.ensures.goes
+
+pub returns-in_err-replace-clause-table : goal.returns-in_err-replace-clause-table
+returns-in_err-replace-clause-table g c = c.replace.ensures.table
+
+pub returns-in_err-replace-clause-pin : goal.returns-in_err-replace-clause-pin
+returns-in_err-replace-clause-pin g c = c.replace.ensures.pin
+
+pub returns-in_err-replace-clause-only_programs : goal.returns-in_err-replace-clause-only_programs
+returns-in_err-replace-clause-only_programs g c = c.replace.ensures.only_programs
+
+pub returns-in_err-replace-clause-cost : goal.returns-in_err-replace-clause-cost
+returns-in_err-replace-clause-cost g c =
+    let p = err_from_is_err_and c.from_residual.result c.from_residual.ensures.1 in
+    rw (p.1, p.2) (c.in_err-replace.ensures.cost)
+
+pub returns-clause-acts : goal.returns-clause-acts
+returns-clause-acts g c = search rules
+
+pub returns-clause-mapping : goal.returns-clause-mapping
+returns-clause-mapping g c = search rules
+
+pub returns-in_err-replace-clause-acts : goal.returns-in_err-replace-clause-acts
+returns-in_err-replace-clause-acts g c = search rules
+
+pub returns-in_err-replace-clause-mapping : goal.returns-in_err-replace-clause-mapping
+returns-in_err-replace-clause-mapping g c = search rules
+
+pub returns-in_err-replace-clause-programmed : goal.returns-in_err-replace-clause-programmed
+returns-in_err-replace-clause-programmed g c =
+    let p = err_from_is_err_and c.from_residual.result c.from_residual.ensures.1 in
+    rw p.1 (tt)
+
+pub returns-clause-spelled : goal.returns-clause-spelled
+returns-clause-spelled g c =
+    ap (λ b. b.items) c.replace.ensures.page ∙ (with_items_is c.args.self.now.page.body c.write_table_page.new.page (c.write_table_page.auto.page ∙ c.deref_mut.ensures.len)
+    ∙ (c.write_table_page.ensures
+    ∙ spelled_by c.deref_mut.result.now c.args.self.now.page.body.items c.args.self.now.geometry c.table.result.now
+    (state c.args.self.now.blocks).table c.args.u c.deref_mut.ensures.value c.requires.safe.page.body c.table.ensures))
+
+pub returns-in_err-replace-clause-spelled : goal.returns-in_err-replace-clause-spelled
+returns-in_err-replace-clause-spelled g c =
+    ap (λ b. b.items) c.replace.ensures.page ∙ (with_items_is c.args.self.now.page.body c.write_table_page.new.page (c.write_table_page.auto.page ∙ c.deref_mut.ensures.len)
+    ∙ (c.write_table_page.ensures
+    ∙ spelled_by c.deref_mut.result.now c.args.self.now.page.body.items c.args.self.now.geometry c.table.result.now
+    (state c.args.self.now.blocks).table c.args.u c.deref_mut.ensures.value c.requires.safe.page.body c.table.ensures))

@@ -49,3 +49,24 @@ pub returns-clause-looks : goal.returns-clause-looks
 returns-clause-looks g c = looks_then _ _ _ _ _ c.in_ok-found.ensures.looks (looks_ok _ _ _ _
     (looks_read c.row_of_sector.new.self c.read_of.new.nand c.read_of.new.buffer _ c.row_of_sector.ensures.looks.safe c.read_of.ensures.buffer
     c.read_of.ensures.only_reads c.read_of.ensures.asked c.in_ok-written.ensures.faults c.in_ok-written.ensures.rose c.in_ok-written.ensures.same c.in_ok-written.ensures.told c.in_ok-written.ensures.cut))
+
+pub returns-clause-refused : goal.returns-clause-refused
+returns-clause-refused g c = tt
+
+pub returns-in_default-clause-refused : goal.returns-in_default-clause-refused
+returns-in_default-clause-refused g c = tt
+
+pub returns-in_err-found-clause-looks : goal.returns-in_err-found-clause-looks
+returns-in_err-found-clause-looks g c =
+    let p = err_from_is_err_and c.from_residual.result c.from_residual.ensures.1 in
+    rw (p.1, p.2) (c.in_err-found.ensures.looks)
+
+pub returns-in_err-found-clause-unmapped : goal.returns-in_err-found-clause-unmapped
+returns-in_err-found-clause-unmapped g c =
+    let p = err_from_is_err_and c.from_residual.result c.from_residual.ensures.1 in
+    rw (p.1, p.2) (c.in_err-found.ensures.unmapped)
+
+pub returns-in_err-found-clause-truth : goal.returns-in_err-found-clause-truth
+returns-in_err-found-clause-truth g c =
+    let p = err_from_is_err_and c.from_residual.result c.from_residual.ensures.1 in
+    rw (p.1, p.2) (c.in_err-found.ensures.truth)

@@ -7,7 +7,7 @@ use Rattle.collection.proofs.HalfDone.{calm_idle, calm_by, unpinned_now, collect
 use Rattle.collection.proofs.Copies.{keys_then, refreshes_then}
 use Rattle.collection.proofs.Rooms.{room_tells, on_then, erased_more, rearranged_then, room_refused, funded_then, refused_room, made_none, made_some, final_counts}
 use Rattle.collection.proofs.Made.{not_resting, enough_made}
-use Rattle.collection.proofs.Stops.{stops_then}
+use Rattle.collection.proofs.Stops.{stops_then, IsSized}
 use Rattle.collection.proofs.Cuts.{cut_after}
 use Rattle.collection.proofs.engine.Engine.regain.Goals as goal
 
@@ -131,7 +131,8 @@ returns-in_err-collect_block-clause-stops g c =
     rw (p.1, p.2) (λ honest w passed ne.
     let i = c.rounds.invariant in
     let k = i.makes.truth honest w passed in
-    stops_then (ram c.args.self.now) (ram c.rounds.self) _ _ _ _ _ _ (record { geometry = i.makes.goes.geometry; capacity = i.makes.keys.limits.capacity; share = i.makes.keys.limits.share }) k.array (i.stops honest w passed) (c.in_err-collect_block.ensures.stops (i.acts.honest_is ∙ honest) k.truth ne))
+    let sized : IsSized (ram c.args.self.now) (ram c.rounds.self) = record { geometry = i.makes.goes.geometry; capacity = i.makes.keys.limits.capacity; share = i.makes.keys.limits.share } in
+    stops_then (ram c.args.self.now) (ram c.rounds.self) _ _ _ _ _ _ sized k.array (i.stops honest w passed) (c.in_err-collect_block.ensures.stops (i.acts.honest_is ∙ honest) k.truth ne))
 
 -- ---- what a fault of the die leaves
 
@@ -146,4 +147,5 @@ returns-in_err-collect_block-clause-cut g c =
     rw (p.1, p.2) (λ honest w passed is.
     let i = c.rounds.invariant in
     let k = i.makes.truth honest w passed in
-    cut_after (ram c.args.self.now) (ram c.rounds.self) _ _ _ _ _ (record { geometry = i.makes.goes.geometry; capacity = i.makes.keys.limits.capacity; share = i.makes.keys.limits.share }) k.array (i.stops honest w passed) (c.in_err-collect_block.ensures.cut (i.acts.honest_is ∙ honest) k.truth is))
+    let sized : IsSized (ram c.args.self.now) (ram c.rounds.self) = record { geometry = i.makes.goes.geometry; capacity = i.makes.keys.limits.capacity; share = i.makes.keys.limits.share } in
+    cut_after (ram c.args.self.now) (ram c.rounds.self) _ _ _ _ _ sized k.array (i.stops honest w passed) (c.in_err-collect_block.ensures.cut (i.acts.honest_is ∙ honest) k.truth is))

@@ -5,21 +5,18 @@ use Rattle.collection.specs.declared.fault.EngineFault.TheVariants.{Damaged}
 use Rattle.collection.specs.Safe.{ram}
 use Rattle.page_layout.specs.Key.{key_of}
 use Rattle.page_layout.specs.Live.{IsKeyOf}
-use Rattle.collection.specs.Collect.{IsRenewed}
+use Rattle.collection.specs.Collect.{IsRenewed, IsFollowedBy, waiting}
 use Rattle.collection.proofs.Acts.{acts_then, acts_ok, acts_err, acts_same, acts_end, looked}
 use Rattle.collection.proofs.Looks.{none_from, ok_not_bus}
-use Rattle.collection.proofs.Memory.{goes_then}
+use Rattle.collection.proofs.Memory.{goes_then, moved_places}
 use Rattle.collection.proofs.Puts.{refused_then}
 use Rattle.collection.proofs.Renews.{due_known, renewed_as, renewed_at, none_renewed}
 use Rattle.collection.proofs.Rescues.{rescued_beside, goes_from, rescued_cost, uncopied_cost, unfollowed_cost, unread_rescue, unread_refused}
-use Rattle.collection.specs.Collect.{IsFollowedBy}
 use Rattle.promises.proofs.StopLemmas.{leaves_nothing}
-use Rattle.collection.proofs.Stops.{same_left, leaves_still, stops_looked, stops_then, fault_not_bus, IsSized}
+use Rattle.collection.proofs.Stops.{same_left, leaves_still, stops_looked, stops_then, fault_not_bus, IsSized, sized_after}
 use Rattle.collection.proofs.Costs.{not_bus}
 use Rattle.collection.proofs.Cuts.{cut_read, cut_looking, cut_after}
 use Rattle.collection.proofs.Steps.{err_same}
-use Rattle.collection.specs.Collect.{waiting}
-use Rattle.collection.proofs.Memory.{moved_places}
 use Rattle.collection.proofs.engine.Engine.renew.Goals as goal
 
 -- ---- the copy
@@ -184,7 +181,7 @@ returns-in_err-follow_moved-clause-stops g c =
     let y = (g.N.PageSource.view.flash c.copy_page.new.self.nand).image in
     let copied = stops_looked a b _ _ _ _ _ _ looks.memory still (looks.told honest (ok_not_bus _)) (c.in_ok-copy_page.ensures.stops now known.0 known.1 (ok_not_bus _)) in
     let m = renewed_as a b _ _ c.args.row c.in-Some.found _ c.in_ok-due.due looks.memory (ap (λ f. f.image) still) w finds c.in-Some.is (λ r i. IsRenewed (key_of c.in-Some.found) r i n y) (c.in_ok-copy_page.ensures.renews now) in
-    let sized : IsSized a n = record { geometry = c.copy_page.ensures.goes.geometry ∙ ap (λ r. r.geometry) looks.memory; capacity = c.copy_page.ensures.keys.limits.capacity ∙ ap (λ r. r.mapping.capacity) looks.memory; share = c.copy_page.ensures.keys.limits.share ∙ ap (λ r. r.mapping.share) looks.memory } in
+    let sized : IsSized a n = sized_after a _ n looks.memory c.copy_page.ensures.goes c.copy_page.ensures.keys in
     stops_then a n _ _ _ _ _ _ sized m.same.array copied (c.in_err-follow_moved.ensures.stops (c.copy_page.ensures.acts.honest_is ∙ now) m.same.truth (not_bus _ ne)))
 
 pub returns-clause-stops : goal.returns-clause-stops
@@ -200,7 +197,7 @@ returns-clause-stops g c = λ honest w ne.
     let y = (g.N.PageSource.view.flash c.copy_page.new.self.nand).image in
     let copied = stops_looked a b _ _ _ _ _ _ looks.memory still (looks.told honest (ok_not_bus _)) (c.in_ok-copy_page.ensures.stops now known.0 known.1 (ok_not_bus _)) in
     let m = renewed_as a b _ _ c.args.row c.in-Some.found _ c.in_ok-due.due looks.memory (ap (λ f. f.image) still) w finds c.in-Some.is (λ r i. IsRenewed (key_of c.in-Some.found) r i n y) (c.in_ok-copy_page.ensures.renews now) in
-    let sized : IsSized a n = record { geometry = c.copy_page.ensures.goes.geometry ∙ ap (λ r. r.geometry) looks.memory; capacity = c.copy_page.ensures.keys.limits.capacity ∙ ap (λ r. r.mapping.capacity) looks.memory; share = c.copy_page.ensures.keys.limits.share ∙ ap (λ r. r.mapping.share) looks.memory } in
+    let sized : IsSized a n = sized_after a _ n looks.memory c.copy_page.ensures.goes c.copy_page.ensures.keys in
     stops_then a n _ _ _ _ _ _ sized m.same.array copied (c.in_ok-follow_moved.ensures.stops (c.copy_page.ensures.acts.honest_is ∙ now) m.same.truth (ok_not_bus _))
 
 pub returns-then-not-has_place-clause-stops : goal.returns-then-not-has_place-clause-stops
@@ -244,5 +241,5 @@ returns-in_err-follow_moved-clause-cut g c =
     let y = (g.N.PageSource.view.flash c.copy_page.new.self.nand).image in
     let copied = stops_looked a b _ _ _ _ _ _ looks.memory still (looks.told honest (ok_not_bus _)) (c.in_ok-copy_page.ensures.stops now known.0 known.1 (ok_not_bus _)) in
     let m = renewed_as a b _ _ c.args.row c.in-Some.found _ c.in_ok-due.due looks.memory (ap (λ f. f.image) still) w finds c.in-Some.is (λ r i. IsRenewed (key_of c.in-Some.found) r i n y) (c.in_ok-copy_page.ensures.renews now) in
-    let sized : IsSized a n = record { geometry = c.copy_page.ensures.goes.geometry ∙ ap (λ r. r.geometry) looks.memory; capacity = c.copy_page.ensures.keys.limits.capacity ∙ ap (λ r. r.mapping.capacity) looks.memory; share = c.copy_page.ensures.keys.limits.share ∙ ap (λ r. r.mapping.share) looks.memory } in
+    let sized : IsSized a n = sized_after a _ n looks.memory c.copy_page.ensures.goes c.copy_page.ensures.keys in
     cut_after a n _ _ _ _ _ sized m.same.array copied (c.in_err-follow_moved.ensures.cut (c.copy_page.ensures.acts.honest_is ∙ now) m.same.truth (err_same _ _ is)))

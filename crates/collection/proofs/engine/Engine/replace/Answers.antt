@@ -1,9 +1,8 @@
-use Rattle.std.proofs.Common.{ap, ℕ, List, Option}
+use Rattle.std.proofs.Common.{ap, ℕ, List, Option, sym, ◌∙◌, subst, rules}
 use Rattle.page_layout.specs.declared.geometry.Geometry.{Geometry}
 use Rattle.collection.specs.Settle.{SetsDirectory}
 use Rattle.page_layout.specs.Key.{key_from}
-use Rattle.collection.proofs.Settles.{settled_cost, replaced_by}
-use Rattle.std.proofs.Common.{sym, ◌∙◌, subst}
+use Rattle.collection.proofs.Settles.{settled_cost, replaced_by, settled_goes}
 use Rattle.std.proofs.lemmas.Result.{err_from_is_err_and}
 use Rattle.collection.proofs.Stops.{put_left, refused_same, sets_capacity, fault_not_bus}
 use Rattle.collection.proofs.HalfPuts.{put_cut}
@@ -65,3 +64,96 @@ returns-in_err-row-clause-cut g c =
     let p = err_from_is_err_and c.from_residual.result c.from_residual.ensures.1 in
     rw (p.1, p.2) (λ honest may e.
     put_cut c.args.kind c.args.number c.args.old_row _ (ram c.args.self.now) _ _ _ c.requires.safe.memory may c.requires.key c.requires.place (c.in_err-row.ensures.cut honest may (err_same _ _ e)))
+
+pub returns-clause-scratch : goal.returns-clause-scratch
+returns-clause-scratch g c = c.settle.ensures.scratch ∙ c.put_page.ensures.scratch
+
+pub returns-clause-row : goal.returns-clause-row
+returns-clause-row g c = c.in_ok-row.ensures.row
+
+pub returns-clause-cut : goal.returns-clause-cut
+returns-clause-cut g c = λ _ _ h2. cc
+
+pub returns-in_err-row-clause-acts : goal.returns-in_err-row-clause-acts
+returns-in_err-row-clause-acts g c =
+    let p = err_from_is_err_and c.from_residual.result c.from_residual.ensures.1 in
+    rw (p.1, p.2) (c.in_err-row.ensures.acts)
+
+pub returns-in_err-row-clause-page : goal.returns-in_err-row-clause-page
+returns-in_err-row-clause-page g c = c.put_page.ensures.page
+
+pub returns-in_err-row-clause-scratch : goal.returns-in_err-row-clause-scratch
+returns-in_err-row-clause-scratch g c = c.put_page.ensures.scratch
+
+pub returns-in_err-row-clause-only_programs : goal.returns-in_err-row-clause-only_programs
+returns-in_err-row-clause-only_programs g c = c.put_page.ensures.only_programs
+
+pub returns-in_err-row-clause-cost : goal.returns-in_err-row-clause-cost
+returns-in_err-row-clause-cost g c =
+    let p = err_from_is_err_and c.from_residual.result c.from_residual.ensures.1 in
+    rw (p.1, p.2) (c.in_err-row.ensures.cost)
+
+pub returns-in_err-row-clause-truth : goal.returns-in_err-row-clause-truth
+returns-in_err-row-clause-truth g c =
+    let p = err_from_is_err_and c.from_residual.result c.from_residual.ensures.1 in
+    rw (p.1, p.2) (c.in_err-row.ensures.truth)
+
+pub returns-clause-acts : goal.returns-clause-acts
+returns-clause-acts g c = search rules
+
+pub returns-clause-page : goal.returns-clause-page
+returns-clause-page g c = search rules
+
+pub returns-clause-only_programs : goal.returns-clause-only_programs
+returns-clause-only_programs g c = search rules
+
+pub returns-clause-pin : goal.returns-clause-pin
+returns-clause-pin g c = search rules
+
+pub returns-clause-table : goal.returns-clause-table
+returns-clause-table g c = search rules
+
+pub returns-clause-mapping : goal.returns-clause-mapping
+returns-clause-mapping g c = search rules
+
+pub returns-clause-programmed : goal.returns-clause-programmed
+returns-clause-programmed g c = search rules
+
+pub returns-in_err-row-clause-goes : goal.returns-in_err-row-clause-goes
+returns-in_err-row-clause-goes g c = search rules
+
+pub returns-in_err-row-clause-pin : goal.returns-in_err-row-clause-pin
+returns-in_err-row-clause-pin g c = search rules
+
+pub returns-in_err-row-clause-row : goal.returns-in_err-row-clause-row
+returns-in_err-row-clause-row g c =
+    let p = err_from_is_err_and c.from_residual.result c.from_residual.ensures.1 in
+    rw p.1 (tt)
+
+pub returns-in_err-row-clause-table : goal.returns-in_err-row-clause-table
+returns-in_err-row-clause-table g c = search rules
+
+pub returns-in_err-row-clause-mapping : goal.returns-in_err-row-clause-mapping
+returns-in_err-row-clause-mapping g c = search rules
+
+pub returns-in_err-row-clause-directory : goal.returns-in_err-row-clause-directory
+returns-in_err-row-clause-directory g c =
+    let p = err_from_is_err_and c.from_residual.result c.from_residual.ensures.1 in
+    rw p.1 (tt)
+
+pub returns-in_err-row-clause-programmed : goal.returns-in_err-row-clause-programmed
+returns-in_err-row-clause-programmed g c =
+    let p = err_from_is_err_and c.from_residual.result c.from_residual.ensures.1 in
+    rw p.1 (tt)
+
+pub returns-clause-goes : goal.returns-clause-goes
+returns-clause-goes g c = settled_goes _ _ _ (key_from c.args.kind c.args.number) c.in_ok-row.row c.put_page.ensures.goes.goes c.settle.ensures.settles
+
+pub settle-requires-clause-key : goal.settle-requires-clause-key
+settle-requires-clause-key g c = rw c.put_page.ensures.goes.goes.geometry c.requires.key
+
+pub settle-requires-clause-place : goal.settle-requires-clause-place
+settle-requires-clause-place g c = rw c.put_page.ensures.goes.mapping c.requires.place
+
+pub settle-requires-clause-row : goal.settle-requires-clause-row
+settle-requires-clause-row g c = rw c.put_page.ensures.goes.goes.geometry c.in_ok-row.ensures.row.within

@@ -1,24 +1,22 @@
-use Rattle.std.proofs.Common.{◌∙◌, ◌<◌, ◌+◌, length, refl, ap, sym, subst, arith}
+use Rattle.std.proofs.Common.{◌∙◌, ◌<◌, ◌+◌, length, refl, ap, sym, subst, arith, rules}
 use Rattle.std.proofs.lemmas.Result.{err_from_is_err_and}
 use Rattle.std.specs.Map.{keys_of}
 use Rattle.collection.specs.Safe.{ram}
 use Rattle.page_layout.specs.Key.{key_of}
 use Rattle.page_layout.specs.Live.{IsKeyOf}
-use Rattle.collection.specs.Collect.{IsMovedOut}
+use Rattle.collection.specs.Collect.{IsMovedOut, IsFollowedBy, waiting}
 use Rattle.collection.proofs.Acts.{acts_then, acts_ok, acts_err, looked, acts_same, acts_end}
 use Rattle.collection.proofs.Looks.{none_from, ok_not_bus}
-use Rattle.collection.proofs.Memory.{goes_then}
+use Rattle.collection.proofs.Memory.{goes_then, moved_places, goes_same}
 use Rattle.collection.proofs.Puts.{refused_then}
 use Rattle.collection.proofs.Rescues.{ailing_known, copied_as, rescued, rescued_beside, none_rescued, goes_from, rescued_cost, uncopied_cost, unfollowed_cost, unread_rescue, unread_refused}
-use Rattle.collection.specs.Collect.{IsFollowedBy}
 use Rattle.promises.proofs.StopLemmas.{leaves_nothing}
-use Rattle.collection.proofs.Stops.{same_left, leaves_still, stops_looked, stops_then, fault_not_bus, IsSized}
+use Rattle.collection.proofs.Stops.{same_left, leaves_still, stops_looked, stops_then, fault_not_bus, IsSized, sized_after}
 use Rattle.collection.proofs.Costs.{not_bus}
 use Rattle.collection.specs.declared.fault.EngineFault.TheVariants.{Damaged}
 use Rattle.collection.proofs.Cuts.{cut_read, cut_looking, cut_after}
 use Rattle.collection.proofs.Steps.{err_same}
-use Rattle.collection.specs.Collect.{waiting}
-use Rattle.collection.proofs.Memory.{moved_places}
+use Rattle.collection.proofs.Copies.{keys_same}
 use Rattle.collection.proofs.engine.Engine.rescue.Goals as goal
 
 -- ---- the copy
@@ -188,7 +186,7 @@ returns-in_err-follow_moved-clause-stops g c =
     let y = (g.N.PageSource.view.flash c.copy_page.new.self.nand).image in
     let copied = stops_looked a b _ _ _ _ _ _ looks.memory still (looks.told honest (ok_not_bus _)) (c.in_ok-copy_page.ensures.stops now known.0 known.1 (ok_not_bus _)) in
     let m = copied_as a b _ _ c.in-Some.row c.in-Some.found _ c.in_ok-ailing.ailing c.requires.safe.memory looks.memory (ap (λ f. f.image) still) w finds c.in-Some.is (λ r i. IsMovedOut c.in-Some.row r i n y) (c.in_ok-copy_page.ensures.truth now) in
-    let sized : IsSized a n = record { geometry = c.copy_page.ensures.goes.geometry ∙ ap (λ r. r.geometry) looks.memory; capacity = c.copy_page.ensures.keys.limits.capacity ∙ ap (λ r. r.mapping.capacity) looks.memory; share = c.copy_page.ensures.keys.limits.share ∙ ap (λ r. r.mapping.share) looks.memory } in
+    let sized : IsSized a n = sized_after a _ n looks.memory c.copy_page.ensures.goes c.copy_page.ensures.keys in
     stops_then a n _ _ _ _ _ _ sized m.same.array copied (c.in_err-follow_moved.ensures.stops (c.copy_page.ensures.acts.honest_is ∙ now) m.same.truth (not_bus _ ne)))
 
 pub returns-clause-stops : goal.returns-clause-stops
@@ -204,7 +202,7 @@ returns-clause-stops g c = λ honest w ne.
     let y = (g.N.PageSource.view.flash c.copy_page.new.self.nand).image in
     let copied = stops_looked a b _ _ _ _ _ _ looks.memory still (looks.told honest (ok_not_bus _)) (c.in_ok-copy_page.ensures.stops now known.0 known.1 (ok_not_bus _)) in
     let m = copied_as a b _ _ c.in-Some.row c.in-Some.found _ c.in_ok-ailing.ailing c.requires.safe.memory looks.memory (ap (λ f. f.image) still) w finds c.in-Some.is (λ r i. IsMovedOut c.in-Some.row r i n y) (c.in_ok-copy_page.ensures.truth now) in
-    let sized : IsSized a n = record { geometry = c.copy_page.ensures.goes.geometry ∙ ap (λ r. r.geometry) looks.memory; capacity = c.copy_page.ensures.keys.limits.capacity ∙ ap (λ r. r.mapping.capacity) looks.memory; share = c.copy_page.ensures.keys.limits.share ∙ ap (λ r. r.mapping.share) looks.memory } in
+    let sized : IsSized a n = sized_after a _ n looks.memory c.copy_page.ensures.goes c.copy_page.ensures.keys in
     stops_then a n _ _ _ _ _ _ sized m.same.array copied (c.in_ok-follow_moved.ensures.stops (c.copy_page.ensures.acts.honest_is ∙ now) m.same.truth (ok_not_bus _))
 
 pub returns-then-not-has_place-clause-stops : goal.returns-then-not-has_place-clause-stops
@@ -248,5 +246,146 @@ returns-in_err-follow_moved-clause-cut g c =
     let y = (g.N.PageSource.view.flash c.copy_page.new.self.nand).image in
     let copied = stops_looked a b _ _ _ _ _ _ looks.memory still (looks.told honest (ok_not_bus _)) (c.in_ok-copy_page.ensures.stops now known.0 known.1 (ok_not_bus _)) in
     let m = copied_as a b _ _ c.in-Some.row c.in-Some.found _ c.in_ok-ailing.ailing c.requires.safe.memory looks.memory (ap (λ f. f.image) still) w finds c.in-Some.is (λ r i. IsMovedOut c.in-Some.row r i n y) (c.in_ok-copy_page.ensures.truth now) in
-    let sized : IsSized a n = record { geometry = c.copy_page.ensures.goes.geometry ∙ ap (λ r. r.geometry) looks.memory; capacity = c.copy_page.ensures.keys.limits.capacity ∙ ap (λ r. r.mapping.capacity) looks.memory; share = c.copy_page.ensures.keys.limits.share ∙ ap (λ r. r.mapping.share) looks.memory } in
+    let sized : IsSized a n = sized_after a _ n looks.memory c.copy_page.ensures.goes c.copy_page.ensures.keys in
     cut_after a n _ _ _ _ _ sized m.same.array copied (c.in_err-follow_moved.ensures.cut (c.copy_page.ensures.acts.honest_is ∙ now) m.same.truth (err_same _ _ is)))
+
+pub returns-clause-cut : goal.returns-clause-cut
+returns-clause-cut g c = λ _ _ h2. cc
+
+pub returns-in_default-clause-cut : goal.returns-in_default-clause-cut
+returns-in_default-clause-cut g c = λ _ _ h2. cc
+
+pub returns-clause-erases : goal.returns-clause-erases
+returns-clause-erases g c = search rules
+
+pub returns-clause-keys : goal.returns-clause-keys
+returns-clause-keys g c = search rules
+
+pub returns-clause-pin : goal.returns-clause-pin
+returns-clause-pin g c = search rules
+
+pub returns-clause-full : goal.returns-clause-full
+returns-clause-full g c = search rules
+
+pub returns-in_default-clause-goes : goal.returns-in_default-clause-goes
+returns-in_default-clause-goes g c = search rules
+
+pub returns-in_default-clause-erases : goal.returns-in_default-clause-erases
+returns-in_default-clause-erases g c = search rules
+
+pub returns-in_default-clause-keys : goal.returns-in_default-clause-keys
+returns-in_default-clause-keys g c = search rules
+
+pub returns-in_default-clause-beside : goal.returns-in_default-clause-beside
+returns-in_default-clause-beside g c = search rules
+
+pub returns-in_default-clause-pin : goal.returns-in_default-clause-pin
+returns-in_default-clause-pin g c = search rules
+
+pub returns-in_default-clause-one_more : goal.returns-in_default-clause-one_more
+returns-in_default-clause-one_more g c = search rules
+
+pub returns-in_default-clause-full : goal.returns-in_default-clause-full
+returns-in_default-clause-full g c = search rules
+
+pub returns-in_default-clause-cost : goal.returns-in_default-clause-cost
+returns-in_default-clause-cost g c = search rules
+
+pub returns-in_err-ailing-clause-goes : goal.returns-in_err-ailing-clause-goes
+returns-in_err-ailing-clause-goes g c = search rules
+
+pub returns-in_err-ailing-clause-erases : goal.returns-in_err-ailing-clause-erases
+returns-in_err-ailing-clause-erases g c = search rules
+
+pub returns-in_err-ailing-clause-keys : goal.returns-in_err-ailing-clause-keys
+returns-in_err-ailing-clause-keys g c = search rules
+
+pub returns-in_err-ailing-clause-beside : goal.returns-in_err-ailing-clause-beside
+returns-in_err-ailing-clause-beside g c =
+    let p = err_from_is_err_and c.from_residual.result c.from_residual.ensures.1 in
+    rw p.1 (tt)
+
+pub returns-in_err-ailing-clause-pin : goal.returns-in_err-ailing-clause-pin
+returns-in_err-ailing-clause-pin g c = search rules
+
+pub returns-in_err-ailing-clause-one_more : goal.returns-in_err-ailing-clause-one_more
+returns-in_err-ailing-clause-one_more g c = search rules
+
+pub returns-in_err-ailing-clause-full : goal.returns-in_err-ailing-clause-full
+returns-in_err-ailing-clause-full g c = search rules
+
+pub returns-in_err-copy_page-clause-goes : goal.returns-in_err-copy_page-clause-goes
+returns-in_err-copy_page-clause-goes g c = search rules
+
+pub returns-in_err-copy_page-clause-erases : goal.returns-in_err-copy_page-clause-erases
+returns-in_err-copy_page-clause-erases g c = search rules
+
+pub returns-in_err-copy_page-clause-keys : goal.returns-in_err-copy_page-clause-keys
+returns-in_err-copy_page-clause-keys g c = search rules
+
+pub returns-in_err-copy_page-clause-beside : goal.returns-in_err-copy_page-clause-beside
+returns-in_err-copy_page-clause-beside g c =
+    let p = err_from_is_err_and c.from_residual-in_err-copy_page.result c.from_residual-in_err-copy_page.ensures.1 in
+    rw p.1 (tt)
+
+pub returns-in_err-copy_page-clause-pin : goal.returns-in_err-copy_page-clause-pin
+returns-in_err-copy_page-clause-pin g c = search rules
+
+pub returns-in_err-copy_page-clause-one_more : goal.returns-in_err-copy_page-clause-one_more
+returns-in_err-copy_page-clause-one_more g c = search rules
+
+pub returns-in_err-copy_page-clause-full : goal.returns-in_err-copy_page-clause-full
+returns-in_err-copy_page-clause-full g c = search rules
+
+pub returns-in_err-copy_page-clause-truth : goal.returns-in_err-copy_page-clause-truth
+returns-in_err-copy_page-clause-truth g c = search rules
+
+pub returns-in_err-follow_moved-clause-erases : goal.returns-in_err-follow_moved-clause-erases
+returns-in_err-follow_moved-clause-erases g c = search rules
+
+pub returns-in_err-follow_moved-clause-keys : goal.returns-in_err-follow_moved-clause-keys
+returns-in_err-follow_moved-clause-keys g c = search rules
+
+pub returns-in_err-follow_moved-clause-beside : goal.returns-in_err-follow_moved-clause-beside
+returns-in_err-follow_moved-clause-beside g c =
+    let p = err_from_is_err_and c.from_residual-in_err-follow_moved.result c.from_residual-in_err-follow_moved.ensures.1 in
+    rw p.1 (tt)
+
+pub returns-in_err-follow_moved-clause-pin : goal.returns-in_err-follow_moved-clause-pin
+returns-in_err-follow_moved-clause-pin g c = search rules
+
+pub returns-in_err-follow_moved-clause-one_more : goal.returns-in_err-follow_moved-clause-one_more
+returns-in_err-follow_moved-clause-one_more g c = search rules
+
+pub returns-in_err-follow_moved-clause-full : goal.returns-in_err-follow_moved-clause-full
+returns-in_err-follow_moved-clause-full g c = search rules
+
+pub returns-then-not-has_place-clause-goes : goal.returns-then-not-has_place-clause-goes
+returns-then-not-has_place-clause-goes g c = goes_same _
+
+pub returns-then-not-has_place-clause-erases : goal.returns-then-not-has_place-clause-erases
+returns-then-not-has_place-clause-erases g c = refl
+
+pub returns-then-not-has_place-clause-keys : goal.returns-then-not-has_place-clause-keys
+returns-then-not-has_place-clause-keys g c = keys_same _ _ refl
+
+pub returns-then-not-has_place-clause-pin : goal.returns-then-not-has_place-clause-pin
+returns-then-not-has_place-clause-pin g c = refl
+
+pub returns-then-not-has_place-clause-cut : goal.returns-then-not-has_place-clause-cut
+returns-then-not-has_place-clause-cut g c = λ _ _ h2. cc
+
+pub returns-then-not-has_place-clause-beside : goal.returns-then-not-has_place-clause-beside
+returns-then-not-has_place-clause-beside g c = search rules
+
+pub returns-then-not-has_place-clause-one_more : goal.returns-then-not-has_place-clause-one_more
+returns-then-not-has_place-clause-one_more g c = search rules
+
+pub returns-then-not-has_place-clause-full : goal.returns-then-not-has_place-clause-full
+returns-then-not-has_place-clause-full g c = search rules
+
+pub returns-then-not-has_place-clause-cost : goal.returns-then-not-has_place-clause-cost
+returns-then-not-has_place-clause-cost g c = search rules
+
+pub returns-then-not-has_place-clause-truth : goal.returns-then-not-has_place-clause-truth
+returns-then-not-has_place-clause-truth g c = search rules

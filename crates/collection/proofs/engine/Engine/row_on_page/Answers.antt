@@ -1,4 +1,4 @@
-use Rattle.std.proofs.Common.{Some, None}
+use Rattle.std.proofs.Common.{Some, None, rules, refl}
 use Rattle.std.proofs.lemmas.Result.{err_from_is_err_and}
 use Rattle.page_layout.specs.Page.{page}
 use Rattle.collection.proofs.Acts.{looks_same, looks_ok}
@@ -33,3 +33,58 @@ returns-clause-truth g c = λ honest w.
 
 pub returns-in_default-clause-looks : goal.returns-in_default-clause-looks
 returns-in_default-clause-looks g c = looks_ok _ _ tt _ (looks_same c.args.self.now c.requires.safe)
+
+pub returns-in_default-clause-page : goal.returns-in_default-clause-page
+returns-in_default-clause-page g c = refl
+
+pub returns-clause-looks : goal.returns-clause-looks
+returns-clause-looks g c = search rules
+
+pub returns-clause-page : goal.returns-clause-page
+returns-clause-page g c = search rules
+
+pub returns-clause-reads : goal.returns-clause-reads
+returns-clause-reads g c = search rules
+
+pub returns-clause-row : goal.returns-clause-row
+returns-clause-row g c = search rules
+
+pub returns-clause-unmapped : goal.returns-clause-unmapped
+returns-clause-unmapped g c = search rules
+
+pub returns-clause-checked : goal.returns-clause-checked
+returns-clause-checked g c = search rules
+
+pub returns-in_default-clause-reads : goal.returns-in_default-clause-reads
+returns-in_default-clause-reads g c = search rules
+
+pub returns-in_default-clause-row : goal.returns-in_default-clause-row
+returns-in_default-clause-row g c = search rules
+
+pub returns-in_default-clause-unmapped : goal.returns-in_default-clause-unmapped
+returns-in_default-clause-unmapped g c = search rules
+
+pub returns-in_default-clause-checked : goal.returns-in_default-clause-checked
+returns-in_default-clause-checked g c = search rules
+
+pub returns-in_err-read_of-clause-looks : goal.returns-in_err-read_of-clause-looks
+returns-in_err-read_of-clause-looks g c = search rules
+
+pub returns-in_err-read_of-clause-page : goal.returns-in_err-read_of-clause-page
+returns-in_err-read_of-clause-page g c = search rules
+
+pub returns-in_err-read_of-clause-reads : goal.returns-in_err-read_of-clause-reads
+returns-in_err-read_of-clause-reads g c = search rules
+
+pub returns-in_err-read_of-clause-row : goal.returns-in_err-read_of-clause-row
+returns-in_err-read_of-clause-row g c =
+    let p = err_from_is_err_and c.from_residual.result c.from_residual.ensures.1 in
+    rw p.1 (tt)
+
+pub returns-in_err-read_of-clause-unmapped : goal.returns-in_err-read_of-clause-unmapped
+returns-in_err-read_of-clause-unmapped g c = search rules
+
+pub returns-in_err-read_of-clause-checked : goal.returns-in_err-read_of-clause-checked
+returns-in_err-read_of-clause-checked g c =
+    let p = err_from_is_err_and c.from_residual.result c.from_residual.ensures.1 in
+    rw p.1 (tt)

@@ -1,5 +1,4 @@
-use Rattle.std.proofs.Common.{◌≡◌, ◌∙◌, ap, sym}
-use Rattle.collection.specs.declared.engine.collect_steps.Progress.TheVariants as step
+use Rattle.std.proofs.Common.{◌≡◌, ◌∙◌, ap, sym, rules}
 use Rattle.collection.specs.Safe.{ram}
 use Rattle.collection.specs.Left.{pin_after}
 use Rattle.collection.proofs.Turns.{cost_pinned, page_pinned, touches_pinned, refreshes_pinned, half_on, half_pinned}
@@ -7,6 +6,7 @@ use Rattle.std.proofs.lemmas.Result.{err_from_is_err_and}
 use Rattle.collection.proofs.Looks.{ok_not_bus}
 use Rattle.collection.proofs.Costs.{not_bus}
 use Rattle.collection.proofs.Steps.{err_same}
+use Rattle.collection.specs.declared.engine.collect_steps.Progress.TheVariants as step
 use Rattle.collection.proofs.engine.Engine.step_on.Goals as goal
 
 pub returns-clause-refreshes : goal.returns-clause-refreshes
@@ -45,3 +45,123 @@ pub returns-in_err-progress-clause-cut : goal.returns-in_err-progress-clause-cut
 returns-in_err-progress-clause-cut g c =
     let p = err_from_is_err_and c.from_residual.result c.from_residual.ensures.1 in
     rw (p.1, p.2) (λ honest w passed is. c.in_err-progress.ensures.cut honest w passed (err_same _ _ is))
+
+pub returns-clause-keys : goal.returns-clause-keys
+returns-clause-keys g c = c.collect_step.ensures.keys
+
+pub returns-clause-unmoved : goal.returns-clause-unmoved
+returns-clause-unmoved g c = tt
+
+pub returns-clause-unmarked : goal.returns-clause-unmarked
+returns-clause-unmarked g c = c.in_ok-progress.ensures.unmarked
+
+pub returns-clause-released : goal.returns-clause-released
+returns-clause-released g c = c.in_ok-progress.ensures.released
+
+pub returns-clause-reads : goal.returns-clause-reads
+returns-clause-reads g c = c.collect_step.ensures.reads
+
+pub returns-clause-copied_reads : goal.returns-clause-copied_reads
+returns-clause-copied_reads g c = c.in_ok-progress.ensures.copied_reads
+
+pub returns-clause-erases : goal.returns-clause-erases
+returns-clause-erases g c = c.in_ok-progress.ensures.erases
+
+pub returns-clause-owed : goal.returns-clause-owed
+returns-clause-owed g c = λ h0. cc
+
+pub returns-clause-cut : goal.returns-clause-cut
+returns-clause-cut g c = λ _ _ _ h3. cc
+
+pub returns-in_err-progress-clause-acts : goal.returns-in_err-progress-clause-acts
+returns-in_err-progress-clause-acts g c =
+    let p = err_from_is_err_and c.from_residual.result c.from_residual.ensures.1 in
+    rw (p.1, p.2) (c.in_err-progress.ensures.acts)
+
+pub returns-in_err-progress-clause-goes : goal.returns-in_err-progress-clause-goes
+returns-in_err-progress-clause-goes g c = c.collect_step.ensures.goes
+
+pub returns-in_err-progress-clause-goes_still : goal.returns-in_err-progress-clause-goes_still
+returns-in_err-progress-clause-goes_still g c =
+    let p = err_from_is_err_and c.from_residual.result c.from_residual.ensures.1 in
+    rw (p.1, p.2) (c.in_err-progress.ensures.goes_still)
+
+pub returns-in_err-progress-clause-keys : goal.returns-in_err-progress-clause-keys
+returns-in_err-progress-clause-keys g c = c.collect_step.ensures.keys
+
+pub returns-in_err-progress-clause-refreshes : goal.returns-in_err-progress-clause-refreshes
+returns-in_err-progress-clause-refreshes g c = c.collect_step.ensures.refreshes
+
+pub returns-in_err-progress-clause-idle : goal.returns-in_err-progress-clause-idle
+returns-in_err-progress-clause-idle g c =
+    let p = err_from_is_err_and c.from_residual.result c.from_residual.ensures.1 in
+    rw (p.1, p.2) (λ h0. cc)
+
+pub returns-in_err-progress-clause-released : goal.returns-in_err-progress-clause-released
+returns-in_err-progress-clause-released g c =
+    let p = err_from_is_err_and c.from_residual.result c.from_residual.ensures.1 in
+    rw (p.1, p.2) (λ h0. cc)
+
+pub returns-in_err-progress-clause-reads : goal.returns-in_err-progress-clause-reads
+returns-in_err-progress-clause-reads g c = c.collect_step.ensures.reads
+
+pub returns-in_err-progress-clause-copied_reads : goal.returns-in_err-progress-clause-copied_reads
+returns-in_err-progress-clause-copied_reads g c =
+    let p = err_from_is_err_and c.from_residual.result c.from_residual.ensures.1 in
+    rw (p.1, p.2) (λ _ h1. cc)
+
+pub returns-in_err-progress-clause-owed : goal.returns-in_err-progress-clause-owed
+returns-in_err-progress-clause-owed g c =
+    let p = err_from_is_err_and c.from_residual.result c.from_residual.ensures.1 in
+    rw (p.1, p.2) (c.in_err-progress.ensures.owed)
+
+pub returns-in_err-progress-clause-cost : goal.returns-in_err-progress-clause-cost
+returns-in_err-progress-clause-cost g c =
+    let p = err_from_is_err_and c.from_residual.result c.from_residual.ensures.1 in
+    rw (p.1, p.2) (c.in_err-progress.ensures.cost)
+
+pub returns-in_err-progress-clause-truth : goal.returns-in_err-progress-clause-truth
+returns-in_err-progress-clause-truth g c =
+    let p = err_from_is_err_and c.from_residual.result c.from_residual.ensures.1 in
+    rw (p.1, p.2) (c.in_err-progress.ensures.truth)
+
+pub returns-in_err-progress-clause-touched : goal.returns-in_err-progress-clause-touched
+returns-in_err-progress-clause-touched g c =
+    let p = err_from_is_err_and c.from_residual.result c.from_residual.ensures.1 in
+    rw (p.1, p.2) (λ _ _ _ h3. cc)
+
+pub returns-clause-acts : goal.returns-clause-acts
+returns-clause-acts g c = search rules
+
+pub returns-clause-goes : goal.returns-clause-goes
+returns-clause-goes g c = search rules
+
+pub returns-clause-next : goal.returns-clause-next
+returns-clause-next g c = search rules
+
+pub returns-clause-idle : goal.returns-clause-idle
+returns-clause-idle g c = search rules
+
+pub returns-clause-truth : goal.returns-clause-truth
+returns-clause-truth g c = search rules
+
+pub returns-in_err-progress-clause-next : goal.returns-in_err-progress-clause-next
+returns-in_err-progress-clause-next g c = search rules
+
+pub returns-in_err-progress-clause-unmoved : goal.returns-in_err-progress-clause-unmoved
+returns-in_err-progress-clause-unmoved g c = search rules
+
+pub returns-in_err-progress-clause-unmarked : goal.returns-in_err-progress-clause-unmarked
+returns-in_err-progress-clause-unmarked g c =
+    let p = err_from_is_err_and c.from_residual.result c.from_residual.ensures.1 in
+    rw p.1 (λ _ _. tt)
+
+pub returns-in_err-progress-clause-half_done : goal.returns-in_err-progress-clause-half_done
+returns-in_err-progress-clause-half_done g c =
+    let p = err_from_is_err_and c.from_residual.result c.from_residual.ensures.1 in
+    rw p.1 (tt)
+
+pub returns-in_err-progress-clause-erases : goal.returns-in_err-progress-clause-erases
+returns-in_err-progress-clause-erases g c =
+    let p = err_from_is_err_and c.from_residual.result c.from_residual.ensures.1 in
+    rw p.1 (tt)

@@ -1,4 +1,4 @@
-use Rattle.std.proofs.Common.{◌≡◌, ◌∙◌, ap, length, replicate}
+use Rattle.std.proofs.Common.{◌≡◌, ◌∙◌, ap, length, replicate, arith, rules, refl}
 use Rattle.std.proofs.lemmas.List.{with_items_is}
 use Rattle.std.proofs.lemmas.Result.{err_from_is_err_and}
 use Rattle.page_layout.specs.declared.record.Kind.TheVariants.{Trim}
@@ -6,6 +6,10 @@ use Rattle.collection.specs.Safe.{ram, image_in}
 use Rattle.collection.specs.Stops.{IsPutByStop}
 use Rattle.collection.proofs.HalfPuts.{cut_bytes}
 use Rattle.collection.proofs.Acts.{stands_still, is_standing, acts_noted, not_standing, acts_filled}
+use Rattle.std.proofs.lemmas.Grind.{common_steps}
+use Rattle.collection.proofs.Gates.{goes_noted}
+use Rattle.collection.proofs.Standing.{standing_none}
+use Rattle.collection.proofs.Memory.{goes_same}
 use Rattle.collection.proofs.engine.Engine.trim_sector.Goals as goal
 
 -- ---- what a stop leaves
@@ -31,3 +35,89 @@ returns-in_err-standing-clause-stands g c =
 
 pub returns-clause-stands : goal.returns-clause-stands
 returns-clause-stands g c = rw (c.noted.ensures.same, c.noted.ensures.noted) (acts_noted _ _ _ (not_standing _ _ c.in_ok-standing.ensures) (acts_filled _ _ _ _ c.append-answer.ensures.acts))
+
+pub returns-clause-only_programs : goal.returns-clause-only_programs
+returns-clause-only_programs g c = rw c.noted.ensures.noted c.append-answer.ensures.only_programs
+
+pub returns-clause-pin : goal.returns-clause-pin
+returns-clause-pin g c = rw c.noted.ensures.noted c.append-answer.ensures.pin
+
+pub returns-clause-keys : goal.returns-clause-keys
+returns-clause-keys g c = rw c.noted.ensures.noted c.append-answer.ensures.keys
+
+pub returns-clause-no_more : goal.returns-clause-no_more
+returns-clause-no_more g c = rw c.noted.ensures.noted c.append-answer.ensures.no_more
+
+pub returns-clause-moved : goal.returns-clause-moved
+returns-clause-moved g c = rw c.noted.ensures.noted c.append-answer.ensures.moved
+
+pub returns-clause-scratch : goal.returns-clause-scratch
+returns-clause-scratch g c = rw c.noted.ensures.noted c.append-answer.ensures.scratch
+
+pub returns-in_err-standing-clause-goes : goal.returns-in_err-standing-clause-goes
+returns-in_err-standing-clause-goes g c = goes_same _
+
+pub returns-in_err-standing-clause-pin : goal.returns-in_err-standing-clause-pin
+returns-in_err-standing-clause-pin g c = refl
+
+pub returns-in_err-standing-clause-keys : goal.returns-in_err-standing-clause-keys
+returns-in_err-standing-clause-keys g c = refl
+
+pub returns-in_err-standing-clause-moved : goal.returns-in_err-standing-clause-moved
+returns-in_err-standing-clause-moved g c = refl
+
+pub returns-in_err-standing-clause-page : goal.returns-in_err-standing-clause-page
+returns-in_err-standing-clause-page g c = λ none. absurd (standing_none _ _ c.in_err-standing.ensures none)
+
+pub returns-in_err-standing-clause-scratch : goal.returns-in_err-standing-clause-scratch
+returns-in_err-standing-clause-scratch g c = refl
+
+pub returns-in_err-standing-clause-cost : goal.returns-in_err-standing-clause-cost
+returns-in_err-standing-clause-cost g c = λ none. absurd (standing_none _ _ c.in_err-standing.ensures none)
+
+pub returns-in_err-standing-clause-truth : goal.returns-in_err-standing-clause-truth
+returns-in_err-standing-clause-truth g c = λ _ none. absurd (standing_none _ _ c.in_err-standing.ensures none)
+
+pub returns-in_err-standing-clause-stops : goal.returns-in_err-standing-clause-stops
+returns-in_err-standing-clause-stops g c = λ _ none. absurd (standing_none _ _ c.in_err-standing.ensures none)
+
+pub returns-in_err-standing-clause-cut : goal.returns-in_err-standing-clause-cut
+returns-in_err-standing-clause-cut g c = λ _ none. absurd (standing_none _ _ c.in_err-standing.ensures none)
+
+pub returns-clause-goes : goal.returns-clause-goes
+returns-clause-goes g c = rw c.noted.ensures.noted (goes_noted _ _ _ c.append-answer.ensures.goes)
+
+pub returns-clause-settled : goal.returns-clause-settled
+returns-clause-settled g c = search rules
+
+pub returns-clause-programmed : goal.returns-clause-programmed
+returns-clause-programmed g c = search rules
+
+pub returns-clause-cost : goal.returns-clause-cost
+returns-clause-cost g c = search rules
+
+pub returns-in_err-standing-clause-only_programs : goal.returns-in_err-standing-clause-only_programs
+returns-in_err-standing-clause-only_programs g c = search rules
+
+pub returns-in_err-standing-clause-no_more : goal.returns-in_err-standing-clause-no_more
+returns-in_err-standing-clause-no_more g c = search rules
+
+pub returns-in_err-standing-clause-settled : goal.returns-in_err-standing-clause-settled
+returns-in_err-standing-clause-settled g c =
+    let p = err_from_is_err_and c.from_residual.result c.from_residual.ensures.1 in
+    rw p.1 (tt)
+
+pub returns-in_err-standing-clause-programmed : goal.returns-in_err-standing-clause-programmed
+returns-in_err-standing-clause-programmed g c =
+    let p = err_from_is_err_and c.from_residual.result c.from_residual.ensures.1 in
+    rw p.1 (tt)
+
+pub returns-clause-page : goal.returns-clause-page
+returns-clause-page g c =
+    λ none.
+    let items = with_items_is c.args.self.now.page.body c.clear.new.out (c.clear.auto.out ∙ c.deref_mut.ensures.len) in
+    let size : length c.deref_mut.result.now ≡ c.args.self.now.geometry.data_bytes = c.deref_mut.ensures.len ∙ (c.args.self.now.page.body.ok.0 ∙ c.requires.safe.page.body) in
+    rw c.noted.ensures.noted (ap (λ b. b.items) c.append-answer.ensures.page ∙ (items ∙ (c.clear.ensures ∙ ap (λ k. replicate k 0) size)))
+
+pub returns-clause-truth : goal.returns-clause-truth
+returns-clause-truth g c = grind (arith, common_steps)

@@ -1,14 +1,17 @@
-use Rattle.std.proofs.Common.{◌∙◌, set, false, ap, arith}
+use Rattle.std.proofs.Common.{◌∙◌, set, false, ap, arith, rules, refl}
 use Rattle.collection.specs.Safe.{ram}
 use Rattle.collection.proofs.Dues.{written_refreshes}
-use Rattle.collection.proofs.Lowest.{due_some, owes_lowest, excess_lowest, written_cost, same_pinned}
+use Rattle.collection.proofs.Lowest.{due_some, owes_lowest, excess_lowest, written_cost, same_pinned, due_positive}
 use Rattle.std.proofs.lemmas.Result.{err_from_is_err_and}
 use Rattle.promises.proofs.StopLemmas.{leaves_nothing}
 use Rattle.collection.proofs.Stops.{same_left}
 use Rattle.collection.proofs.Looks.{ok_not_bus}
 use Rattle.collection.proofs.Costs.{not_bus}
-use Rattle.collection.proofs.Acts.{acts_same, acts_ok}
+use Rattle.collection.proofs.Acts.{acts_same, acts_ok, acts_err}
 use Rattle.collection.proofs.Steps.{err_same}
+use Rattle.std.proofs.lemmas.Grind.{common_steps}
+use Rattle.collection.proofs.Memory.{goes_same}
+use Rattle.collection.proofs.Copies.{keys_same}
 use Rattle.collection.proofs.engine.Engine.write_back_lowest.Goals as goal
 
 pub returns-in_err-write_page_back-clause-owed : goal.returns-in_err-write_page_back-clause-owed
@@ -69,3 +72,107 @@ pub returns-in_err-write_page_back-clause-cut : goal.returns-in_err-write_page_b
 returns-in_err-write_page_back-clause-cut g c =
     let p = err_from_is_err_and c.from_residual.result c.from_residual.ensures.1 in
     rw (p.1, p.2) (λ honest w is. c.in_err-write_page_back.ensures.cut honest w (err_same _ _ is))
+
+pub returns-clause-erases : goal.returns-clause-erases
+returns-clause-erases g c = c.write_page_back.ensures.erases
+
+pub returns-clause-unmoved : goal.returns-clause-unmoved
+returns-clause-unmoved g c = tt
+
+pub returns-clause-owed : goal.returns-clause-owed
+returns-clause-owed g c = λ h0. cc
+
+pub returns-clause-cut : goal.returns-clause-cut
+returns-clause-cut g c = λ _ _ h2. cc
+
+pub returns-in_default-clause-goes : goal.returns-in_default-clause-goes
+returns-in_default-clause-goes g c = goes_same _
+
+pub returns-in_default-clause-erases : goal.returns-in_default-clause-erases
+returns-in_default-clause-erases g c = refl
+
+pub returns-in_default-clause-keys : goal.returns-in_default-clause-keys
+returns-in_default-clause-keys g c = keys_same _ _ refl
+
+pub returns-in_default-clause-pin : goal.returns-in_default-clause-pin
+returns-in_default-clause-pin g c = refl
+
+pub returns-in_default-clause-unmoved : goal.returns-in_default-clause-unmoved
+returns-in_default-clause-unmoved g c = tt
+
+pub returns-in_default-clause-owed : goal.returns-in_default-clause-owed
+returns-in_default-clause-owed g c = λ h0. cc
+
+pub returns-in_default-clause-cut : goal.returns-in_default-clause-cut
+returns-in_default-clause-cut g c = λ _ _ h2. cc
+
+pub returns-in_err-write_page_back-clause-goes : goal.returns-in_err-write_page_back-clause-goes
+returns-in_err-write_page_back-clause-goes g c = c.write_page_back.ensures.goes
+
+pub returns-in_err-write_page_back-clause-erases : goal.returns-in_err-write_page_back-clause-erases
+returns-in_err-write_page_back-clause-erases g c = c.write_page_back.ensures.erases
+
+pub returns-in_err-write_page_back-clause-none : goal.returns-in_err-write_page_back-clause-none
+returns-in_err-write_page_back-clause-none g c =
+    let p = err_from_is_err_and c.from_residual.result c.from_residual.ensures.1 in
+    rw (p.1, p.2) (λ h0. cc)
+
+pub returns-in_err-write_page_back-clause-truth : goal.returns-in_err-write_page_back-clause-truth
+returns-in_err-write_page_back-clause-truth g c =
+    let p = err_from_is_err_and c.from_residual.result c.from_residual.ensures.1 in
+    rw (p.1, p.2) (c.in_err-write_page_back.ensures.truth)
+
+pub returns-clause-goes : goal.returns-clause-goes
+returns-clause-goes g c = search rules
+
+pub returns-clause-keys : goal.returns-clause-keys
+returns-clause-keys g c = search rules
+
+pub returns-clause-none : goal.returns-clause-none
+returns-clause-none g c = search rules
+
+pub returns-clause-pin : goal.returns-clause-pin
+returns-clause-pin g c = search rules
+
+pub returns-in_default-clause-reads : goal.returns-in_default-clause-reads
+returns-in_default-clause-reads g c = search rules
+
+pub returns-in_default-clause-refreshes : goal.returns-in_default-clause-refreshes
+returns-in_default-clause-refreshes g c = search rules
+
+pub returns-in_default-clause-none : goal.returns-in_default-clause-none
+returns-in_default-clause-none g c = search rules
+
+pub returns-in_default-clause-unmarked : goal.returns-in_default-clause-unmarked
+returns-in_default-clause-unmarked g c = search rules
+
+pub returns-in_default-clause-cost : goal.returns-in_default-clause-cost
+returns-in_default-clause-cost g c = search rules
+
+pub returns-in_default-clause-truth : goal.returns-in_default-clause-truth
+returns-in_default-clause-truth g c = search rules
+
+pub returns-in_err-write_page_back-clause-acts : goal.returns-in_err-write_page_back-clause-acts
+returns-in_err-write_page_back-clause-acts g c =
+    let p = err_from_is_err_and c.from_residual.result c.from_residual.ensures.1 in
+    rw (p.1, p.2) (acts_err _ _ _ c.in_err-write_page_back.ensures.acts)
+
+pub returns-in_err-write_page_back-clause-keys : goal.returns-in_err-write_page_back-clause-keys
+returns-in_err-write_page_back-clause-keys g c = search rules
+
+pub returns-in_err-write_page_back-clause-pin : goal.returns-in_err-write_page_back-clause-pin
+returns-in_err-write_page_back-clause-pin g c = search rules
+
+pub returns-in_err-write_page_back-clause-unmoved : goal.returns-in_err-write_page_back-clause-unmoved
+returns-in_err-write_page_back-clause-unmoved g c = search rules
+
+pub returns-in_err-write_page_back-clause-unmarked : goal.returns-in_err-write_page_back-clause-unmarked
+returns-in_err-write_page_back-clause-unmarked g c =
+    let p = err_from_is_err_and c.from_residual.result c.from_residual.ensures.1 in
+    rw p.1 (λ _. tt)
+
+pub returns-in_err-write_page_back-clause-cost : goal.returns-in_err-write_page_back-clause-cost
+returns-in_err-write_page_back-clause-cost g c = search rules
+
+pub returns-clause-unmarked : goal.returns-clause-unmarked
+returns-clause-unmarked g c = grind (arith, common_steps)

@@ -1,4 +1,4 @@
-use Rattle.std.proofs.Common.{is_some, ap, sym, ◌∙◌}
+use Rattle.std.proofs.Common.{is_some, ap, sym, ◌∙◌, length, refl}
 use Rattle.std.proofs.lemmas.List.{with_items_is}
 use Rattle.page_layout.specs.Page.{page}
 use Rattle.page_layout.proofs.AskedLemmas.{asks_one}
@@ -35,3 +35,145 @@ returns-in-Ok-Some-clause-asked g c = asks_one g.N.PageSource.view.called c.args
 
 pub returns-in-Ok-Some-2-clause-asked : goal.returns-in-Ok-Some-2-clause-asked
 returns-in-Ok-Some-2-clause-asked g c = asks_one g.N.PageSource.view.called c.args.nand.now c.read_sound.new.nand _ c.read_sound.ensures.called
+
+pub returns-in-Err-clause-only_reads : goal.returns-in-Err-clause-only_reads
+returns-in-Err-clause-only_reads g c = c.read_sound.ensures.only_reads
+
+pub returns-in-Err-clause-reads : goal.returns-in-Err-clause-reads
+returns-in-Err-clause-reads g c = c.read_sound.ensures.reads
+
+pub returns-in-Err-clause-faults : goal.returns-in-Err-clause-faults
+returns-in-Err-clause-faults g c = tt
+
+pub returns-in-Ok-None-clause-only_reads : goal.returns-in-Ok-None-clause-only_reads
+returns-in-Ok-None-clause-only_reads g c = c.read_sound.ensures.only_reads
+
+pub returns-in-Ok-None-clause-reads : goal.returns-in-Ok-None-clause-reads
+returns-in-Ok-None-clause-reads g c = c.read_sound.ensures.reads
+
+pub returns-in-Ok-None-clause-faults : goal.returns-in-Ok-None-clause-faults
+returns-in-Ok-None-clause-faults g c = tt
+
+pub returns-in-Ok-None-clause-rose : goal.returns-in-Ok-None-clause-rose
+returns-in-Ok-None-clause-rose g c = λ h0. cc
+
+pub returns-in-Ok-None-clause-cut : goal.returns-in-Ok-None-clause-cut
+returns-in-Ok-None-clause-cut g c = λ _ h1. cc
+
+pub returns-in-Ok-Some-clause-only_reads : goal.returns-in-Ok-Some-clause-only_reads
+returns-in-Ok-Some-clause-only_reads g c = c.read_sound.ensures.only_reads
+
+pub returns-in-Ok-Some-clause-reads : goal.returns-in-Ok-Some-clause-reads
+returns-in-Ok-Some-clause-reads g c = c.read_sound.ensures.reads
+
+pub returns-in-Ok-Some-clause-faults : goal.returns-in-Ok-Some-clause-faults
+returns-in-Ok-Some-clause-faults g c = tt
+
+pub returns-in-Ok-Some-clause-rose : goal.returns-in-Ok-Some-clause-rose
+returns-in-Ok-Some-clause-rose g c = λ h0. cc
+
+pub returns-in-Ok-Some-clause-cut : goal.returns-in-Ok-Some-clause-cut
+returns-in-Ok-Some-clause-cut g c = λ _ h1. cc
+
+pub returns-in-Ok-Some-2-clause-only_reads : goal.returns-in-Ok-Some-2-clause-only_reads
+returns-in-Ok-Some-2-clause-only_reads g c = c.read_sound.ensures.only_reads
+
+pub returns-in-Ok-Some-2-clause-reads : goal.returns-in-Ok-Some-2-clause-reads
+returns-in-Ok-Some-2-clause-reads g c = c.read_sound.ensures.reads
+
+pub returns-in-Ok-Some-2-clause-faults : goal.returns-in-Ok-Some-2-clause-faults
+returns-in-Ok-Some-2-clause-faults g c = tt
+
+pub returns-in-Ok-Some-2-clause-rose : goal.returns-in-Ok-Some-2-clause-rose
+returns-in-Ok-Some-2-clause-rose g c = λ h0. cc
+
+pub returns-in-Ok-Some-2-clause-cut : goal.returns-in-Ok-Some-2-clause-cut
+returns-in-Ok-Some-2-clause-cut g c = λ _ h1. cc
+
+pub returns-in-Ok-Some-2-clause-undamaged : goal.returns-in-Ok-Some-2-clause-undamaged
+returns-in-Ok-Some-2-clause-undamaged g c = λ _ _. tt
+
+pub returns-in-Err-clause-buffer : goal.returns-in-Err-clause-buffer
+returns-in-Err-clause-buffer g c =
+    record {
+      body = ap length (with_items_is c.args.buffer.now.body c.read_sound.new.body (c.read_sound.auto.body ∙ c.deref_mut.ensures.len)) ∙ (c.read_sound.auto.body ∙ (c.deref_mut.ensures.len ∙ (c.args.buffer.now.body.ok.0 ∙ c.requires.buffer.body)));
+      spare = ap length (with_items_is c.args.buffer.now.spare c.read_sound.new.spare (c.read_sound.auto.spare ∙ c.deref_mut-2.ensures.len)) ∙ (c.read_sound.auto.spare ∙ (c.deref_mut-2.ensures.len ∙ (c.args.buffer.now.spare.ok.0 ∙ c.requires.buffer.spare)));
+    }
+
+pub returns-in-Err-clause-rose : goal.returns-in-Err-clause-rose
+returns-in-Err-clause-rose g c = λ _. c.in-Err.ensures.rose
+
+pub returns-in-Err-clause-checked : goal.returns-in-Err-clause-checked
+returns-in-Err-clause-checked g c = tt
+
+pub returns-in-Err-clause-same : goal.returns-in-Err-clause-same
+returns-in-Err-clause-same g c = λ _ ne. absurd (ne refl)
+
+pub returns-in-Err-clause-told : goal.returns-in-Err-clause-told
+returns-in-Err-clause-told g c = λ _ ne. absurd (ne refl)
+
+pub returns-in-Err-clause-cut : goal.returns-in-Err-clause-cut
+returns-in-Err-clause-cut g c = λ honest _. c.in-Err.ensures.cut honest
+
+pub returns-in-Err-clause-page : goal.returns-in-Err-clause-page
+returns-in-Err-clause-page g c = λ _. tt
+
+pub returns-in-Err-clause-undamaged : goal.returns-in-Err-clause-undamaged
+returns-in-Err-clause-undamaged g c = λ _ _. refl
+
+pub returns-in-Ok-None-clause-buffer : goal.returns-in-Ok-None-clause-buffer
+returns-in-Ok-None-clause-buffer g c =
+    record {
+      body = ap length (with_items_is c.args.buffer.now.body c.read_sound.new.body (c.read_sound.auto.body ∙ c.deref_mut.ensures.len)) ∙ (c.read_sound.auto.body ∙ (c.deref_mut.ensures.len ∙ (c.args.buffer.now.body.ok.0 ∙ c.requires.buffer.body)));
+      spare = ap length (with_items_is c.args.buffer.now.spare c.read_sound.new.spare (c.read_sound.auto.spare ∙ c.deref_mut-2.ensures.len)) ∙ (c.read_sound.auto.spare ∙ (c.deref_mut-2.ensures.len ∙ (c.args.buffer.now.spare.ok.0 ∙ c.requires.buffer.spare)));
+    }
+
+pub returns-in-Ok-None-clause-same : goal.returns-in-Ok-None-clause-same
+returns-in-Ok-None-clause-same g c = λ honest _. c.in-Ok-None.ensures.same honest
+
+pub returns-in-Ok-None-clause-told : goal.returns-in-Ok-None-clause-told
+returns-in-Ok-None-clause-told g c = λ honest _. c.in-Ok-None.ensures.told honest
+
+pub returns-in-Ok-None-clause-page : goal.returns-in-Ok-None-clause-page
+returns-in-Ok-None-clause-page g c = λ _. tt
+
+pub returns-in-Ok-None-clause-checked : goal.returns-in-Ok-None-clause-checked
+returns-in-Ok-None-clause-checked g c = tt
+
+pub returns-in-Ok-Some-clause-buffer : goal.returns-in-Ok-Some-clause-buffer
+returns-in-Ok-Some-clause-buffer g c =
+    record {
+      body = ap length (with_items_is c.args.buffer.now.body c.read_sound.new.body (c.read_sound.auto.body ∙ c.deref_mut.ensures.len)) ∙ (c.read_sound.auto.body ∙ (c.deref_mut.ensures.len ∙ (c.args.buffer.now.body.ok.0 ∙ c.requires.buffer.body)));
+      spare = ap length (with_items_is c.args.buffer.now.spare c.read_sound.new.spare (c.read_sound.auto.spare ∙ c.deref_mut-2.ensures.len)) ∙ (c.read_sound.auto.spare ∙ (c.deref_mut-2.ensures.len ∙ (c.args.buffer.now.spare.ok.0 ∙ c.requires.buffer.spare)));
+    }
+
+pub returns-in-Ok-Some-clause-same : goal.returns-in-Ok-Some-clause-same
+returns-in-Ok-Some-clause-same g c = λ honest _. c.in-Ok-Some.ensures.same honest
+
+pub returns-in-Ok-Some-clause-told : goal.returns-in-Ok-Some-clause-told
+returns-in-Ok-Some-clause-told g c = λ honest _. c.in-Ok-Some.ensures.told honest
+
+pub returns-in-Ok-Some-clause-page : goal.returns-in-Ok-Some-clause-page
+returns-in-Ok-Some-clause-page g c = λ _. tt
+
+pub returns-in-Ok-Some-clause-checked : goal.returns-in-Ok-Some-clause-checked
+returns-in-Ok-Some-clause-checked g c = tt
+
+pub returns-in-Ok-Some-2-clause-buffer : goal.returns-in-Ok-Some-2-clause-buffer
+returns-in-Ok-Some-2-clause-buffer g c =
+    record {
+      body = ap length (with_items_is c.args.buffer.now.body c.read_sound.new.body (c.read_sound.auto.body ∙ c.deref_mut.ensures.len)) ∙ (c.read_sound.auto.body ∙ (c.deref_mut.ensures.len ∙ (c.args.buffer.now.body.ok.0 ∙ c.requires.buffer.body)));
+      spare = ap length (with_items_is c.args.buffer.now.spare c.read_sound.new.spare (c.read_sound.auto.spare ∙ c.deref_mut-2.ensures.len)) ∙ (c.read_sound.auto.spare ∙ (c.deref_mut-2.ensures.len ∙ (c.args.buffer.now.spare.ok.0 ∙ c.requires.buffer.spare)));
+    }
+
+pub returns-in-Ok-Some-2-clause-same : goal.returns-in-Ok-Some-2-clause-same
+returns-in-Ok-Some-2-clause-same g c = λ honest _. c.in-Ok-Some.ensures.same honest
+
+pub returns-in-Ok-Some-2-clause-told : goal.returns-in-Ok-Some-2-clause-told
+returns-in-Ok-Some-2-clause-told g c = λ honest _. c.in-Ok-Some.ensures.told honest
+
+pub returns-in-Ok-Some-2-clause-page : goal.returns-in-Ok-Some-2-clause-page
+returns-in-Ok-Some-2-clause-page g c = λ honest.
+    let body = with_items_is c.args.buffer.now.body c.read_sound.new.body (c.read_sound.auto.body ∙ c.deref_mut.ensures.len) in
+    let spare = with_items_is c.args.buffer.now.spare c.read_sound.new.spare (c.read_sound.auto.spare ∙ c.deref_mut-2.ensures.len) in
+    rw (body, spare) (c.in-Ok-Some.ensures.page honest)

@@ -1,5 +1,6 @@
 use Rattle.collection.proofs.Stops.{program_stops}
 use Rattle.collection.proofs.Programs.{means_by, program_cut}
+use Rattle.std.proofs.Common.{rules}
 use Rattle.collection.proofs.engine.operations.program_record.Goals as goal
 
 pub returns-clause-means : goal.returns-clause-means
@@ -10,3 +11,36 @@ returns-clause-stops g c = λ honest can. program_stops c.args.geometry.now c.ar
 
 pub returns-clause-cut : goal.returns-clause-cut
 returns-clause-cut g c = λ honest can. program_cut c.args.geometry.now c.args.row c.args.written.now c.args.body.now _ _ _ _ _ c.program.result c.requires.same_geometry c.requires.row_in can c.write_record.ensures.is c.write_record.ensures.of_version c.program.ensures.cut honest
+
+pub returns-clause-geometry : goal.returns-clause-geometry
+returns-clause-geometry g c = c.program.ensures.geometry
+
+pub returns-clause-honest : goal.returns-clause-honest
+returns-clause-honest g c = c.program.ensures.honest
+
+pub returns-clause-calm : goal.returns-clause-calm
+returns-clause-calm g c = c.program.ensures.calm
+
+pub returns-clause-reads : goal.returns-clause-reads
+returns-clause-reads g c = c.program.ensures.reads
+
+pub returns-clause-erases : goal.returns-clause-erases
+returns-clause-erases g c = c.program.ensures.erases
+
+pub returns-clause-failed : goal.returns-clause-failed
+returns-clause-failed g c = c.program.ensures.failed
+
+pub returns-clause-rose : goal.returns-clause-rose
+returns-clause-rose g c = search rules
+
+pub returns-clause-called : goal.returns-clause-called
+returns-clause-called g c = c.program.ensures.called
+
+pub returns-clause-spare : goal.returns-clause-spare
+returns-clause-spare g c = search rules
+
+pub returns-clause-step : goal.returns-clause-step
+returns-clause-step g c = search rules
+
+pub returns-clause-image : goal.returns-clause-image
+returns-clause-image g c = search rules

@@ -51,3 +51,18 @@ returns-clause-ok c = λ image whole h.
     let passes : HasPassed (marks image) (row_count g) claim.sectors c.deref.result.now = subst (λ xs. HasPassed (marks image) (row_count g) claim.sectors xs) (sym c.deref.ensures.value) h.claims in
     let holds : HoldBetween g claim.capacity image claim 1 11 = c.in_ok-judge.ensures.ok claim.capacity image (surveys_from g image c.args.self.survey whole h.survey) passes in
     finish_accepted g claim.capacity image claim x ys c.new.result c.requires.asked whole holds h.noted (omega arith) (omega arith) c.sort_unstable.ensures.permutation order c.new.ensures.claim c.new.ensures.stale
+
+pub returns-in_err-judge-clause-ok : goal.returns-in_err-judge-clause-ok
+returns-in_err-judge-clause-ok c =
+    let p = err_from_is_err_and c.from_residual.result c.from_residual.ensures.1 in
+    rw p.1 (tt)
+
+pub returns-in_err-judge-clause-claim : goal.returns-in_err-judge-clause-claim
+returns-in_err-judge-clause-claim c =
+    let p = err_from_is_err_and c.from_residual.result c.from_residual.ensures.1 in
+    rw p.1 (tt)
+
+pub returns-in_err-judge-clause-named : goal.returns-in_err-judge-clause-named
+returns-in_err-judge-clause-named c =
+    let p = err_from_is_err_and c.from_residual.result c.from_residual.ensures.1 in
+    rw (p.1, p.2) c.in_err-judge.ensures.named
