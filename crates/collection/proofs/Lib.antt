@@ -43,3 +43,6 @@ pub mod HalfPuts
 pub mod PageReads
 pub mod Cuts
 pub mod Standing
+pub mod Exits
+pub mod Ends
+pub mod Afters

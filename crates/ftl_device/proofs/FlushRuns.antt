@@ -57,6 +57,23 @@ module _ {N : Type 0} (view : View N) (a b c : Engine N) (first : Passes view a 
       let before = first.keeps is_honest k in
       keeps_refused a.geometry (ram b) (ram c) (image_in view.flash a) (image_in view.flash b) (image_in view.flash c) fault first.leaves.geometry before (next (first.leaves.honest_is ∙ is_honest) before.truth)
 
+-- one, two and three of them, by what their calls say
+module _ {N : Type 0} (view : View N) where
+  pub passed_1 : (a b : Engine N) → EngineLeaves {A = Unit {0}} view a (Ok tt) b → HasLimitsOf a.mapping b.mapping → KeepsOn view a b → Passes view a b
+  passed_1 a b leaves limits keeps = record { leaves = leaves; limits = limits; keeps = keeps }
+
+  pub passed_more : (a b c : Engine N) → Passes view a b → EngineLeaves {A = Unit {0}} view b (Ok tt) c → HasLimitsOf b.mapping c.mapping → KeepsOn view b c → Passes view a c
+  passed_more a b c first leaves limits keeps = passes_then view a b c first (passed_1 b c leaves limits keeps)
+
+  pub passed_2 : (a b c : Engine N) → EngineLeaves {A = Unit {0}} view a (Ok tt) b → HasLimitsOf a.mapping b.mapping → KeepsOn view a b
+      → EngineLeaves {A = Unit {0}} view b (Ok tt) c → HasLimitsOf b.mapping c.mapping → KeepsOn view b c → Passes view a c
+  passed_2 a b c leaves limits keeps next size on = passed_more a b c (passed_1 a b leaves limits keeps) next size on
+
+  pub passed_3 : (a b c d : Engine N) → EngineLeaves {A = Unit {0}} view a (Ok tt) b → HasLimitsOf a.mapping b.mapping → KeepsOn view a b
+      → EngineLeaves {A = Unit {0}} view b (Ok tt) c → HasLimitsOf b.mapping c.mapping → KeepsOn view b c
+      → EngineLeaves {A = Unit {0}} view c (Ok tt) d → HasLimitsOf c.mapping d.mapping → KeepsOn view c d → Passes view a d
+  passed_3 a b c d leaves limits keeps next size on last sized more = passed_more a c d (passed_2 a b c leaves limits keeps next size on) last sized more
+
 -- ---- free blocks
 
 -- from the memory as a flush begins to that after its begin

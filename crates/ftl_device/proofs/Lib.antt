@@ -35,3 +35,5 @@ pub mod UpkeepLemmas
 pub mod CursorLemmas
 pub mod StoppedLemmas
 pub mod BringLemmas
+pub mod ReadRefusals
+pub mod AnswerLemmas

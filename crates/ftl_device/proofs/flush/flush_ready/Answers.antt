@@ -6,66 +6,61 @@ use Rattle.ftl_device.specs.Flush.{IsClean, HasNewTables}
 use Rattle.ftl_device.specs.FlushSteps.{FlushesPages}
 use Rattle.ftl_device.proofs.FlushLoops.{limits_then, clean_then, flushed_by}
 use Rattle.ftl_device.proofs.FlushRooms.{begin_refused, tables_done, tables_stuck}
-use Rattle.ftl_device.proofs.FlushRuns.{Passes, passes_then, refused_then, array_then, pages_end, room_end, table_ready}
+use Rattle.ftl_device.proofs.FlushRuns.{passed_1, passed_2, passed_3, passed_more, refused_then, array_then, pages_end, room_end, table_ready}
 use Rattle.ftl_device.proofs.SpentLemmas.{flush_tables}
 use Rattle.ftl_device.proofs.LeaveLemmas.{leaves_cut, leaves_ends, leaves_stuck, limits_same}
 use Rattle.collection.proofs.Lefts.{calm_law}
+use Rattle.std.specs.Map.{keys_of}
+use Rattle.ftl_device.proofs.AnswerLemmas.{no_err, no_memory}
 use Rattle.ftl_device.proofs.flush.flush_ready.Goals as goal
 
 -- ---- it is done
 
 pub returns-clause-flushed : goal.returns-clause-flushed
 returns-clause-flushed g c = λ honest w.
-    let begun : Passes g.N.PageSource.view c.args.engine.now c.begin_flush.new.engine = record { leaves = c.in_ok-begin_flush.ensures.leaves; limits = c.begin_flush.ensures.keys.limits; keeps = λ honest k. c.in_ok-begin_flush.ensures.truth honest k } in
-    let paged : Passes g.N.PageSource.view c.args.engine.now c.flush_translations.new.engine = passes_then g.N.PageSource.view c.args.engine.now c.begin_flush.new.engine c.flush_translations.new.engine
-    begun (record { leaves = c.in_ok-flush_translations.ensures.leaves; limits = c.flush_translations.ensures.limits; keeps = λ honest k. c.in_ok-flush_translations.ensures.truth honest k }) in
-    let roomed : Passes g.N.PageSource.view c.args.engine.now c.make_flush_room.new.engine = passes_then g.N.PageSource.view c.args.engine.now c.flush_translations.new.engine c.make_flush_room.new.engine
-    paged (record { leaves = c.in_ok-make_flush_room.ensures.leaves; limits = c.make_flush_room.ensures.keys.limits; keeps = λ honest k. c.in_ok-make_flush_room.ensures.truth honest k }) in
+    let roomed = passed_3 g.N.PageSource.view c.args.engine.now c.begin_flush.new.engine c.flush_translations.new.engine c.make_flush_room.new.engine
+    c.in_ok-begin_flush.ensures.leaves c.begin_flush.ensures.keys.limits c.in_ok-begin_flush.ensures.truth
+    c.in_ok-flush_translations.ensures.leaves c.flush_translations.ensures.limits c.in_ok-flush_translations.ensures.truth
+    c.in_ok-make_flush_room.ensures.leaves c.make_flush_room.ensures.keys.limits c.in_ok-make_flush_room.ensures.truth in
     let spells = c.in_ok-write_tables.ensures.truth (roomed.leaves.honest_is ∙ honest) (roomed.keeps honest w).truth in
     let begun_size = c.begin_flush.ensures.leaves.geometry in
     flushed_by c.args.engine.now.geometry c.make_flush_room.new.engine.geometry c.make_flush_room.new.engine.mapping (ram c.write_tables.new.engine) _ _ (c.write_tables.ensures.leaves.geometry ∙ roomed.leaves.geometry) roomed.leaves.geometry
-    (clean_then c.args.engine.now.geometry c.flush_translations.new.engine.geometry c.flush_translations.new.engine.mapping c.make_flush_room.new.engine.mapping paged.leaves.geometry
+    (clean_then c.args.engine.now.geometry c.flush_translations.new.engine.geometry c.flush_translations.new.engine.mapping c.make_flush_room.new.engine.mapping (c.flush_translations.ensures.leaves.geometry ∙ c.begin_flush.ensures.leaves.geometry)
     (let P : _ → Type 0 = λ h. (t : _) → t < translation_pages h → IsClean h t c.flush_translations.new.engine.mapping in subst P begun_size c.in_ok-flush_translations.ensures.clean) c.in_ok-make_flush_room.ensures.cleans)
     c.write_tables.ensures.mapping spells
 
 pub returns-clause-renewed : goal.returns-clause-renewed
 returns-clause-renewed g c = λ honest w.
-    let begun : Passes g.N.PageSource.view c.args.engine.now c.begin_flush.new.engine = record { leaves = c.in_ok-begin_flush.ensures.leaves; limits = c.begin_flush.ensures.keys.limits; keeps = λ honest k. c.in_ok-begin_flush.ensures.truth honest k } in
-    let paged : Passes g.N.PageSource.view c.args.engine.now c.flush_translations.new.engine = passes_then g.N.PageSource.view c.args.engine.now c.begin_flush.new.engine c.flush_translations.new.engine
-    begun (record { leaves = c.in_ok-flush_translations.ensures.leaves; limits = c.flush_translations.ensures.limits; keeps = λ honest k. c.in_ok-flush_translations.ensures.truth honest k }) in
-    let roomed : Passes g.N.PageSource.view c.args.engine.now c.make_flush_room.new.engine = passes_then g.N.PageSource.view c.args.engine.now c.flush_translations.new.engine c.make_flush_room.new.engine
-    paged (record { leaves = c.in_ok-make_flush_room.ensures.leaves; limits = c.make_flush_room.ensures.keys.limits; keeps = λ honest k. c.in_ok-make_flush_room.ensures.truth honest k }) in
+    let roomed = passed_3 g.N.PageSource.view c.args.engine.now c.begin_flush.new.engine c.flush_translations.new.engine c.make_flush_room.new.engine
+    c.in_ok-begin_flush.ensures.leaves c.begin_flush.ensures.keys.limits c.in_ok-begin_flush.ensures.truth
+    c.in_ok-flush_translations.ensures.leaves c.flush_translations.ensures.limits c.in_ok-flush_translations.ensures.truth
+    c.in_ok-make_flush_room.ensures.leaves c.make_flush_room.ensures.keys.limits c.in_ok-make_flush_room.ensures.truth in
     let spells = c.in_ok-write_tables.ensures.truth (roomed.leaves.honest_is ∙ honest) (roomed.keeps honest w).truth in
     subst (λ h. HasNewTables (table_pages h) h (image_in g.N.PageSource.view.flash c.write_tables.new.engine)) roomed.leaves.geometry spells.renewed
 
 pub returns-clause-ends : goal.returns-clause-ends
 returns-clause-ends g c =
-    let begun : Passes g.N.PageSource.view c.args.engine.now c.begin_flush.new.engine = record { leaves = c.in_ok-begin_flush.ensures.leaves; limits = c.begin_flush.ensures.keys.limits; keeps = λ honest k. c.in_ok-begin_flush.ensures.truth honest k } in
-    let paged : Passes g.N.PageSource.view c.args.engine.now c.flush_translations.new.engine = passes_then g.N.PageSource.view c.args.engine.now c.begin_flush.new.engine c.flush_translations.new.engine
-    begun (record { leaves = c.in_ok-flush_translations.ensures.leaves; limits = c.flush_translations.ensures.limits; keeps = λ honest k. c.in_ok-flush_translations.ensures.truth honest k }) in
-    let roomed : Passes g.N.PageSource.view c.args.engine.now c.make_flush_room.new.engine = passes_then g.N.PageSource.view c.args.engine.now c.flush_translations.new.engine c.make_flush_room.new.engine
-    paged (record { leaves = c.in_ok-make_flush_room.ensures.leaves; limits = c.make_flush_room.ensures.keys.limits; keeps = λ honest k. c.in_ok-make_flush_room.ensures.truth honest k }) in
-    let tabled : Passes g.N.PageSource.view c.args.engine.now c.write_tables.new.engine = passes_then g.N.PageSource.view c.args.engine.now c.make_flush_room.new.engine c.write_tables.new.engine
-    roomed (record { leaves = c.in_ok-write_tables.ensures.leaves; limits = limits_same _ _ c.write_tables.ensures.mapping; keeps = λ honest k. (c.in_ok-write_tables.ensures.truth honest k).keeps }) in
+    let roomed = passed_3 g.N.PageSource.view c.args.engine.now c.begin_flush.new.engine c.flush_translations.new.engine c.make_flush_room.new.engine
+    c.in_ok-begin_flush.ensures.leaves c.begin_flush.ensures.keys.limits c.in_ok-begin_flush.ensures.truth
+    c.in_ok-flush_translations.ensures.leaves c.flush_translations.ensures.limits c.in_ok-flush_translations.ensures.truth
+    c.in_ok-make_flush_room.ensures.leaves c.make_flush_room.ensures.keys.limits c.in_ok-make_flush_room.ensures.truth in
+    let tabled = passed_more g.N.PageSource.view c.args.engine.now c.make_flush_room.new.engine c.write_tables.new.engine roomed c.in_ok-write_tables.ensures.leaves
+    (limits_same _ _ c.write_tables.ensures.mapping) (λ honest k. (c.in_ok-write_tables.ensures.truth honest k).keeps) in
     leaves_ends g.N.PageSource.view c.args.engine.now c.write_tables.new.engine (Ok tt) tabled.leaves tabled.limits (λ none. calm_law (ram c.make_flush_room.new.engine) (ram c.write_tables.new.engine) c.write_tables.ensures.beside c.in_ok-make_flush_room.ensures.calm)
 
 pub returns-clause-truth : goal.returns-clause-truth
 returns-clause-truth g c = λ honest w.
-    let begun : Passes g.N.PageSource.view c.args.engine.now c.begin_flush.new.engine = record { leaves = c.in_ok-begin_flush.ensures.leaves; limits = c.begin_flush.ensures.keys.limits; keeps = λ honest k. c.in_ok-begin_flush.ensures.truth honest k } in
-    let paged : Passes g.N.PageSource.view c.args.engine.now c.flush_translations.new.engine = passes_then g.N.PageSource.view c.args.engine.now c.begin_flush.new.engine c.flush_translations.new.engine
-    begun (record { leaves = c.in_ok-flush_translations.ensures.leaves; limits = c.flush_translations.ensures.limits; keeps = λ honest k. c.in_ok-flush_translations.ensures.truth honest k }) in
-    let roomed : Passes g.N.PageSource.view c.args.engine.now c.make_flush_room.new.engine = passes_then g.N.PageSource.view c.args.engine.now c.flush_translations.new.engine c.make_flush_room.new.engine
-    paged (record { leaves = c.in_ok-make_flush_room.ensures.leaves; limits = c.make_flush_room.ensures.keys.limits; keeps = λ honest k. c.in_ok-make_flush_room.ensures.truth honest k }) in
-    let tabled : Passes g.N.PageSource.view c.args.engine.now c.write_tables.new.engine = passes_then g.N.PageSource.view c.args.engine.now c.make_flush_room.new.engine c.write_tables.new.engine
-    roomed (record { leaves = c.in_ok-write_tables.ensures.leaves; limits = limits_same _ _ c.write_tables.ensures.mapping; keeps = λ honest k. (c.in_ok-write_tables.ensures.truth honest k).keeps }) in
+    let roomed = passed_3 g.N.PageSource.view c.args.engine.now c.begin_flush.new.engine c.flush_translations.new.engine c.make_flush_room.new.engine
+    c.in_ok-begin_flush.ensures.leaves c.begin_flush.ensures.keys.limits c.in_ok-begin_flush.ensures.truth
+    c.in_ok-flush_translations.ensures.leaves c.flush_translations.ensures.limits c.in_ok-flush_translations.ensures.truth
+    c.in_ok-make_flush_room.ensures.leaves c.make_flush_room.ensures.keys.limits c.in_ok-make_flush_room.ensures.truth in
+    let tabled = passed_more g.N.PageSource.view c.args.engine.now c.make_flush_room.new.engine c.write_tables.new.engine roomed c.in_ok-write_tables.ensures.leaves
+    (limits_same _ _ c.write_tables.ensures.mapping) (λ honest k. (c.in_ok-write_tables.ensures.truth honest k).keeps) in
     tabled.keeps honest w
 
 pub returns-clause-clean : goal.returns-clause-clean
 returns-clause-clean g c =
-    let begun : Passes g.N.PageSource.view c.args.engine.now c.begin_flush.new.engine = record { leaves = c.in_ok-begin_flush.ensures.leaves; limits = c.begin_flush.ensures.keys.limits; keeps = λ honest k. c.in_ok-begin_flush.ensures.truth honest k } in
-    let paged : Passes g.N.PageSource.view c.args.engine.now c.flush_translations.new.engine = passes_then g.N.PageSource.view c.args.engine.now c.begin_flush.new.engine c.flush_translations.new.engine
-    begun (record { leaves = c.in_ok-flush_translations.ensures.leaves; limits = c.flush_translations.ensures.limits; keeps = λ honest k. c.in_ok-flush_translations.ensures.truth honest k }) in
-    let now = clean_then c.args.engine.now.geometry c.flush_translations.new.engine.geometry c.flush_translations.new.engine.mapping c.make_flush_room.new.engine.mapping paged.leaves.geometry
+    let now = clean_then c.args.engine.now.geometry c.flush_translations.new.engine.geometry c.flush_translations.new.engine.mapping c.make_flush_room.new.engine.mapping (c.flush_translations.ensures.leaves.geometry ∙ c.begin_flush.ensures.leaves.geometry)
     (let P : _ → Type 0 = λ h. (t : _) → t < translation_pages h → IsClean h t c.flush_translations.new.engine.mapping in subst P c.begin_flush.ensures.leaves.geometry c.in_ok-flush_translations.ensures.clean) c.in_ok-make_flush_room.ensures.cleans in
     λ t lt. subst (λ m. IsClean c.args.engine.now.geometry t m) (sym c.write_tables.ensures.mapping) (now t lt)
 
@@ -87,9 +82,10 @@ returns-clause-programs g c = record {
 
 pub returns-clause-count : goal.returns-clause-count
 returns-clause-count g c = λ known.
-    let begun : Passes g.N.PageSource.view c.args.engine.now c.begin_flush.new.engine = record { leaves = c.in_ok-begin_flush.ensures.leaves; limits = c.begin_flush.ensures.keys.limits; keeps = λ honest k. c.in_ok-begin_flush.ensures.truth honest k } in
-    let paged : Passes g.N.PageSource.view c.args.engine.now c.flush_translations.new.engine = passes_then g.N.PageSource.view c.args.engine.now c.begin_flush.new.engine c.flush_translations.new.engine
-    begun (record { leaves = c.in_ok-flush_translations.ensures.leaves; limits = c.flush_translations.ensures.limits; keeps = λ honest k. c.in_ok-flush_translations.ensures.truth honest k }) in
+    let begun = passed_1 g.N.PageSource.view c.args.engine.now c.begin_flush.new.engine c.in_ok-begin_flush.ensures.leaves c.begin_flush.ensures.keys.limits c.in_ok-begin_flush.ensures.truth in
+    let paged = passed_2 g.N.PageSource.view c.args.engine.now c.begin_flush.new.engine c.flush_translations.new.engine
+    c.in_ok-begin_flush.ensures.leaves c.begin_flush.ensures.keys.limits c.in_ok-begin_flush.ensures.truth
+    c.in_ok-flush_translations.ensures.leaves c.flush_translations.ensures.limits c.in_ok-flush_translations.ensures.truth in
     let ready = table_ready (ram c.args.engine.now) (ram c.begin_flush.new.engine) c.begin_flush.ensures.leaves.safe.memory c.begin_flush.ensures.leaves.geometry
     c.begin_flush.ensures.keys.limits.share known.2 (λ none. ap (λ e. ram e) (c.in_ok-begin_flush.ensures.begins.still none)) (λ some. c.in_ok-begin_flush.ensures.count some known.0 known.1 0 known.2)
     (ram c.flush_translations.new.engine) (ram c.make_flush_room.new.engine) c.flush_translations.ensures.leaves.geometry c.flush_translations.ensures.limits.share
@@ -107,7 +103,7 @@ pub returns-in_err-flush_translations-clause-count : goal.returns-in_err-flush_t
 returns-in_err-flush_translations-clause-count g c =
     let p = err_from_is_err_and c.from_residual-in_err-flush_translations.result c.from_residual-in_err-flush_translations.ensures.1 in
     rw (p.1, p.2) (λ known.
-    let begun : Passes g.N.PageSource.view c.args.engine.now c.begin_flush.new.engine = record { leaves = c.in_ok-begin_flush.ensures.leaves; limits = c.begin_flush.ensures.keys.limits; keeps = λ honest k. c.in_ok-begin_flush.ensures.truth honest k } in
+    let begun = passed_1 g.N.PageSource.view c.args.engine.now c.begin_flush.new.engine c.in_ok-begin_flush.ensures.leaves c.begin_flush.ensures.keys.limits c.in_ok-begin_flush.ensures.truth in
     pages_end (ram c.args.engine.now) (ram c.begin_flush.new.engine) c.begin_flush.ensures.leaves.safe.memory c.begin_flush.ensures.leaves.geometry c.begin_flush.ensures.keys.limits.share known.2
     (λ none. ap (λ e. ram e) (c.in_ok-begin_flush.ensures.begins.still none)) (λ some. c.in_ok-begin_flush.ensures.count some known.0 known.1 0 known.2) _ (ram c.flush_translations.new.engine)
     (λ none. c.in_err-flush_translations.ensures.count none (begun.leaves.honest_is ∙ known.0) (begun.keeps known.0 known.1).truth) c.in_err-flush_translations.ensures.spends)
@@ -116,9 +112,10 @@ pub returns-in_err-make_flush_room-clause-count : goal.returns-in_err-make_flush
 returns-in_err-make_flush_room-clause-count g c =
     let p = err_from_is_err_and c.from_residual-in_err-make_flush_room.result c.from_residual-in_err-make_flush_room.ensures.1 in
     rw (p.1, p.2) (λ known.
-    let begun : Passes g.N.PageSource.view c.args.engine.now c.begin_flush.new.engine = record { leaves = c.in_ok-begin_flush.ensures.leaves; limits = c.begin_flush.ensures.keys.limits; keeps = λ honest k. c.in_ok-begin_flush.ensures.truth honest k } in
-    let paged : Passes g.N.PageSource.view c.args.engine.now c.flush_translations.new.engine = passes_then g.N.PageSource.view c.args.engine.now c.begin_flush.new.engine c.flush_translations.new.engine
-    begun (record { leaves = c.in_ok-flush_translations.ensures.leaves; limits = c.flush_translations.ensures.limits; keeps = λ honest k. c.in_ok-flush_translations.ensures.truth honest k }) in
+    let begun = passed_1 g.N.PageSource.view c.args.engine.now c.begin_flush.new.engine c.in_ok-begin_flush.ensures.leaves c.begin_flush.ensures.keys.limits c.in_ok-begin_flush.ensures.truth in
+    let paged = passed_2 g.N.PageSource.view c.args.engine.now c.begin_flush.new.engine c.flush_translations.new.engine
+    c.in_ok-begin_flush.ensures.leaves c.begin_flush.ensures.keys.limits c.in_ok-begin_flush.ensures.truth
+    c.in_ok-flush_translations.ensures.leaves c.flush_translations.ensures.limits c.in_ok-flush_translations.ensures.truth in
     room_end (ram c.args.engine.now) (ram c.begin_flush.new.engine) c.begin_flush.ensures.leaves.safe.memory c.begin_flush.ensures.leaves.geometry c.begin_flush.ensures.keys.limits.share
     known.2 (λ none. ap (λ e. ram e) (c.in_ok-begin_flush.ensures.begins.still none)) (λ some. c.in_ok-begin_flush.ensures.count some known.0 known.1 0 known.2)
     (ram c.flush_translations.new.engine) (ram c.make_flush_room.new.engine) c.flush_translations.ensures.leaves.geometry c.flush_translations.ensures.limits.share
@@ -129,9 +126,10 @@ pub returns-in_err-write_tables-clause-count : goal.returns-in_err-write_tables-
 returns-in_err-write_tables-clause-count g c =
     let p = err_from_is_err_and c.from_residual-in_err-write_tables.result c.from_residual-in_err-write_tables.ensures.1 in
     rw (p.1, p.2) (λ known.
-    let begun : Passes g.N.PageSource.view c.args.engine.now c.begin_flush.new.engine = record { leaves = c.in_ok-begin_flush.ensures.leaves; limits = c.begin_flush.ensures.keys.limits; keeps = λ honest k. c.in_ok-begin_flush.ensures.truth honest k } in
-    let paged : Passes g.N.PageSource.view c.args.engine.now c.flush_translations.new.engine = passes_then g.N.PageSource.view c.args.engine.now c.begin_flush.new.engine c.flush_translations.new.engine
-    begun (record { leaves = c.in_ok-flush_translations.ensures.leaves; limits = c.flush_translations.ensures.limits; keeps = λ honest k. c.in_ok-flush_translations.ensures.truth honest k }) in
+    let begun = passed_1 g.N.PageSource.view c.args.engine.now c.begin_flush.new.engine c.in_ok-begin_flush.ensures.leaves c.begin_flush.ensures.keys.limits c.in_ok-begin_flush.ensures.truth in
+    let paged = passed_2 g.N.PageSource.view c.args.engine.now c.begin_flush.new.engine c.flush_translations.new.engine
+    c.in_ok-begin_flush.ensures.leaves c.begin_flush.ensures.keys.limits c.in_ok-begin_flush.ensures.truth
+    c.in_ok-flush_translations.ensures.leaves c.flush_translations.ensures.limits c.in_ok-flush_translations.ensures.truth in
     let ready = table_ready (ram c.args.engine.now) (ram c.begin_flush.new.engine) c.begin_flush.ensures.leaves.safe.memory c.begin_flush.ensures.leaves.geometry
     c.begin_flush.ensures.keys.limits.share known.2 (λ none. ap (λ e. ram e) (c.in_ok-begin_flush.ensures.begins.still none)) (λ some. c.in_ok-begin_flush.ensures.count some known.0 known.1 0 known.2)
     (ram c.flush_translations.new.engine) (ram c.make_flush_room.new.engine) c.flush_translations.ensures.leaves.geometry c.flush_translations.ensures.limits.share
@@ -160,74 +158,251 @@ returns-in_err-begin_flush-clause-truth g c =
 pub returns-in_err-flush_translations-clause-ends : goal.returns-in_err-flush_translations-clause-ends
 returns-in_err-flush_translations-clause-ends g c =
     let p = err_from_is_err_and c.from_residual-in_err-flush_translations.result c.from_residual-in_err-flush_translations.ensures.1 in
-    let begun : Passes g.N.PageSource.view c.args.engine.now c.begin_flush.new.engine = record { leaves = c.in_ok-begin_flush.ensures.leaves; limits = c.begin_flush.ensures.keys.limits; keeps = λ honest k. c.in_ok-begin_flush.ensures.truth honest k } in
+    let begun = passed_1 g.N.PageSource.view c.args.engine.now c.begin_flush.new.engine c.in_ok-begin_flush.ensures.leaves c.begin_flush.ensures.keys.limits c.in_ok-begin_flush.ensures.truth in
     rw (p.1, p.2) (leaves_stuck g.N.PageSource.view c.args.engine.now c.flush_translations.new.engine _
     (refused_then g.N.PageSource.view c.args.engine.now c.begin_flush.new.engine c.flush_translations.new.engine begun _ c.in_err-flush_translations.ensures.leaves) (limits_then _ _ _ begun.limits c.flush_translations.ensures.limits))
 
 pub returns-in_err-flush_translations-clause-cut : goal.returns-in_err-flush_translations-clause-cut
 returns-in_err-flush_translations-clause-cut g c =
     let p = err_from_is_err_and c.from_residual-in_err-flush_translations.result c.from_residual-in_err-flush_translations.ensures.1 in
-    let begun : Passes g.N.PageSource.view c.args.engine.now c.begin_flush.new.engine = record { leaves = c.in_ok-begin_flush.ensures.leaves; limits = c.begin_flush.ensures.keys.limits; keeps = λ honest k. c.in_ok-begin_flush.ensures.truth honest k } in
+    let begun = passed_1 g.N.PageSource.view c.args.engine.now c.begin_flush.new.engine c.in_ok-begin_flush.ensures.leaves c.begin_flush.ensures.keys.limits c.in_ok-begin_flush.ensures.truth in
     rw (p.1, p.2) (leaves_cut g.N.PageSource.view c.args.engine.now c.flush_translations.new.engine _ (refused_then g.N.PageSource.view c.args.engine.now c.begin_flush.new.engine c.flush_translations.new.engine begun _ c.in_err-flush_translations.ensures.leaves))
 
 pub returns-in_err-flush_translations-clause-truth : goal.returns-in_err-flush_translations-clause-truth
 returns-in_err-flush_translations-clause-truth g c =
     let p = err_from_is_err_and c.from_residual-in_err-flush_translations.result c.from_residual-in_err-flush_translations.ensures.1 in
-    let begun : Passes g.N.PageSource.view c.args.engine.now c.begin_flush.new.engine = record { leaves = c.in_ok-begin_flush.ensures.leaves; limits = c.begin_flush.ensures.keys.limits; keeps = λ honest k. c.in_ok-begin_flush.ensures.truth honest k } in
+    let begun = passed_1 g.N.PageSource.view c.args.engine.now c.begin_flush.new.engine c.in_ok-begin_flush.ensures.leaves c.begin_flush.ensures.keys.limits c.in_ok-begin_flush.ensures.truth in
     rw (p.1, p.2) (array_then g.N.PageSource.view c.args.engine.now c.begin_flush.new.engine c.flush_translations.new.engine begun _ c.in_err-flush_translations.ensures.truth)
 
 pub returns-in_err-make_flush_room-clause-ends : goal.returns-in_err-make_flush_room-clause-ends
 returns-in_err-make_flush_room-clause-ends g c =
     let p = err_from_is_err_and c.from_residual-in_err-make_flush_room.result c.from_residual-in_err-make_flush_room.ensures.1 in
-    let begun : Passes g.N.PageSource.view c.args.engine.now c.begin_flush.new.engine = record { leaves = c.in_ok-begin_flush.ensures.leaves; limits = c.begin_flush.ensures.keys.limits; keeps = λ honest k. c.in_ok-begin_flush.ensures.truth honest k } in
-    let paged : Passes g.N.PageSource.view c.args.engine.now c.flush_translations.new.engine = passes_then g.N.PageSource.view c.args.engine.now c.begin_flush.new.engine c.flush_translations.new.engine
-    begun (record { leaves = c.in_ok-flush_translations.ensures.leaves; limits = c.flush_translations.ensures.limits; keeps = λ honest k. c.in_ok-flush_translations.ensures.truth honest k }) in
+    let paged = passed_2 g.N.PageSource.view c.args.engine.now c.begin_flush.new.engine c.flush_translations.new.engine
+    c.in_ok-begin_flush.ensures.leaves c.begin_flush.ensures.keys.limits c.in_ok-begin_flush.ensures.truth
+    c.in_ok-flush_translations.ensures.leaves c.flush_translations.ensures.limits c.in_ok-flush_translations.ensures.truth in
     rw (p.1, p.2) (leaves_stuck g.N.PageSource.view c.args.engine.now c.make_flush_room.new.engine _ (refused_then g.N.PageSource.view c.args.engine.now c.flush_translations.new.engine c.make_flush_room.new.engine paged _ c.in_err-make_flush_room.ensures.leaves)
     (limits_then _ _ _ paged.limits c.make_flush_room.ensures.keys.limits))
 
 pub returns-in_err-make_flush_room-clause-cut : goal.returns-in_err-make_flush_room-clause-cut
 returns-in_err-make_flush_room-clause-cut g c =
     let p = err_from_is_err_and c.from_residual-in_err-make_flush_room.result c.from_residual-in_err-make_flush_room.ensures.1 in
-    let begun : Passes g.N.PageSource.view c.args.engine.now c.begin_flush.new.engine = record { leaves = c.in_ok-begin_flush.ensures.leaves; limits = c.begin_flush.ensures.keys.limits; keeps = λ honest k. c.in_ok-begin_flush.ensures.truth honest k } in
-    let paged : Passes g.N.PageSource.view c.args.engine.now c.flush_translations.new.engine = passes_then g.N.PageSource.view c.args.engine.now c.begin_flush.new.engine c.flush_translations.new.engine
-    begun (record { leaves = c.in_ok-flush_translations.ensures.leaves; limits = c.flush_translations.ensures.limits; keeps = λ honest k. c.in_ok-flush_translations.ensures.truth honest k }) in
+    let paged = passed_2 g.N.PageSource.view c.args.engine.now c.begin_flush.new.engine c.flush_translations.new.engine
+    c.in_ok-begin_flush.ensures.leaves c.begin_flush.ensures.keys.limits c.in_ok-begin_flush.ensures.truth
+    c.in_ok-flush_translations.ensures.leaves c.flush_translations.ensures.limits c.in_ok-flush_translations.ensures.truth in
     rw (p.1, p.2) (leaves_cut g.N.PageSource.view c.args.engine.now c.make_flush_room.new.engine _ (refused_then g.N.PageSource.view c.args.engine.now c.flush_translations.new.engine c.make_flush_room.new.engine paged _ c.in_err-make_flush_room.ensures.leaves))
 
 pub returns-in_err-make_flush_room-clause-truth : goal.returns-in_err-make_flush_room-clause-truth
 returns-in_err-make_flush_room-clause-truth g c =
     let p = err_from_is_err_and c.from_residual-in_err-make_flush_room.result c.from_residual-in_err-make_flush_room.ensures.1 in
-    let begun : Passes g.N.PageSource.view c.args.engine.now c.begin_flush.new.engine = record { leaves = c.in_ok-begin_flush.ensures.leaves; limits = c.begin_flush.ensures.keys.limits; keeps = λ honest k. c.in_ok-begin_flush.ensures.truth honest k } in
-    let paged : Passes g.N.PageSource.view c.args.engine.now c.flush_translations.new.engine = passes_then g.N.PageSource.view c.args.engine.now c.begin_flush.new.engine c.flush_translations.new.engine
-    begun (record { leaves = c.in_ok-flush_translations.ensures.leaves; limits = c.flush_translations.ensures.limits; keeps = λ honest k. c.in_ok-flush_translations.ensures.truth honest k }) in
+    let paged = passed_2 g.N.PageSource.view c.args.engine.now c.begin_flush.new.engine c.flush_translations.new.engine
+    c.in_ok-begin_flush.ensures.leaves c.begin_flush.ensures.keys.limits c.in_ok-begin_flush.ensures.truth
+    c.in_ok-flush_translations.ensures.leaves c.flush_translations.ensures.limits c.in_ok-flush_translations.ensures.truth in
     rw (p.1, p.2) (array_then g.N.PageSource.view c.args.engine.now c.flush_translations.new.engine c.make_flush_room.new.engine paged _ c.in_err-make_flush_room.ensures.truth)
 
 pub returns-in_err-write_tables-clause-ends : goal.returns-in_err-write_tables-clause-ends
 returns-in_err-write_tables-clause-ends g c =
     let p = err_from_is_err_and c.from_residual-in_err-write_tables.result c.from_residual-in_err-write_tables.ensures.1 in
-    let begun : Passes g.N.PageSource.view c.args.engine.now c.begin_flush.new.engine = record { leaves = c.in_ok-begin_flush.ensures.leaves; limits = c.begin_flush.ensures.keys.limits; keeps = λ honest k. c.in_ok-begin_flush.ensures.truth honest k } in
-    let paged : Passes g.N.PageSource.view c.args.engine.now c.flush_translations.new.engine = passes_then g.N.PageSource.view c.args.engine.now c.begin_flush.new.engine c.flush_translations.new.engine
-    begun (record { leaves = c.in_ok-flush_translations.ensures.leaves; limits = c.flush_translations.ensures.limits; keeps = λ honest k. c.in_ok-flush_translations.ensures.truth honest k }) in
-    let roomed : Passes g.N.PageSource.view c.args.engine.now c.make_flush_room.new.engine = passes_then g.N.PageSource.view c.args.engine.now c.flush_translations.new.engine c.make_flush_room.new.engine
-    paged (record { leaves = c.in_ok-make_flush_room.ensures.leaves; limits = c.make_flush_room.ensures.keys.limits; keeps = λ honest k. c.in_ok-make_flush_room.ensures.truth honest k }) in
+    let roomed = passed_3 g.N.PageSource.view c.args.engine.now c.begin_flush.new.engine c.flush_translations.new.engine c.make_flush_room.new.engine
+    c.in_ok-begin_flush.ensures.leaves c.begin_flush.ensures.keys.limits c.in_ok-begin_flush.ensures.truth
+    c.in_ok-flush_translations.ensures.leaves c.flush_translations.ensures.limits c.in_ok-flush_translations.ensures.truth
+    c.in_ok-make_flush_room.ensures.leaves c.make_flush_room.ensures.keys.limits c.in_ok-make_flush_room.ensures.truth in
     rw (p.1, p.2) (leaves_stuck g.N.PageSource.view c.args.engine.now c.write_tables.new.engine _ (refused_then g.N.PageSource.view c.args.engine.now c.make_flush_room.new.engine c.write_tables.new.engine roomed _ c.in_err-write_tables.ensures.leaves)
     (limits_then _ _ _ roomed.limits (limits_same _ _ c.write_tables.ensures.mapping)))
 
 pub returns-in_err-write_tables-clause-cut : goal.returns-in_err-write_tables-clause-cut
 returns-in_err-write_tables-clause-cut g c =
     let p = err_from_is_err_and c.from_residual-in_err-write_tables.result c.from_residual-in_err-write_tables.ensures.1 in
-    let begun : Passes g.N.PageSource.view c.args.engine.now c.begin_flush.new.engine = record { leaves = c.in_ok-begin_flush.ensures.leaves; limits = c.begin_flush.ensures.keys.limits; keeps = λ honest k. c.in_ok-begin_flush.ensures.truth honest k } in
-    let paged : Passes g.N.PageSource.view c.args.engine.now c.flush_translations.new.engine = passes_then g.N.PageSource.view c.args.engine.now c.begin_flush.new.engine c.flush_translations.new.engine
-    begun (record { leaves = c.in_ok-flush_translations.ensures.leaves; limits = c.flush_translations.ensures.limits; keeps = λ honest k. c.in_ok-flush_translations.ensures.truth honest k }) in
-    let roomed : Passes g.N.PageSource.view c.args.engine.now c.make_flush_room.new.engine = passes_then g.N.PageSource.view c.args.engine.now c.flush_translations.new.engine c.make_flush_room.new.engine
-    paged (record { leaves = c.in_ok-make_flush_room.ensures.leaves; limits = c.make_flush_room.ensures.keys.limits; keeps = λ honest k. c.in_ok-make_flush_room.ensures.truth honest k }) in
+    let roomed = passed_3 g.N.PageSource.view c.args.engine.now c.begin_flush.new.engine c.flush_translations.new.engine c.make_flush_room.new.engine
+    c.in_ok-begin_flush.ensures.leaves c.begin_flush.ensures.keys.limits c.in_ok-begin_flush.ensures.truth
+    c.in_ok-flush_translations.ensures.leaves c.flush_translations.ensures.limits c.in_ok-flush_translations.ensures.truth
+    c.in_ok-make_flush_room.ensures.leaves c.make_flush_room.ensures.keys.limits c.in_ok-make_flush_room.ensures.truth in
     rw (p.1, p.2) (leaves_cut g.N.PageSource.view c.args.engine.now c.write_tables.new.engine _ (refused_then g.N.PageSource.view c.args.engine.now c.make_flush_room.new.engine c.write_tables.new.engine roomed _ c.in_err-write_tables.ensures.leaves))
 
 pub returns-in_err-write_tables-clause-truth : goal.returns-in_err-write_tables-clause-truth
 returns-in_err-write_tables-clause-truth g c =
     let p = err_from_is_err_and c.from_residual-in_err-write_tables.result c.from_residual-in_err-write_tables.ensures.1 in
-    let begun : Passes g.N.PageSource.view c.args.engine.now c.begin_flush.new.engine = record { leaves = c.in_ok-begin_flush.ensures.leaves; limits = c.begin_flush.ensures.keys.limits; keeps = λ honest k. c.in_ok-begin_flush.ensures.truth honest k } in
-    let paged : Passes g.N.PageSource.view c.args.engine.now c.flush_translations.new.engine = passes_then g.N.PageSource.view c.args.engine.now c.begin_flush.new.engine c.flush_translations.new.engine
-    begun (record { leaves = c.in_ok-flush_translations.ensures.leaves; limits = c.flush_translations.ensures.limits; keeps = λ honest k. c.in_ok-flush_translations.ensures.truth honest k }) in
-    let roomed : Passes g.N.PageSource.view c.args.engine.now c.make_flush_room.new.engine = passes_then g.N.PageSource.view c.args.engine.now c.flush_translations.new.engine c.make_flush_room.new.engine
-    paged (record { leaves = c.in_ok-make_flush_room.ensures.leaves; limits = c.make_flush_room.ensures.keys.limits; keeps = λ honest k. c.in_ok-make_flush_room.ensures.truth honest k }) in
+    let roomed = passed_3 g.N.PageSource.view c.args.engine.now c.begin_flush.new.engine c.flush_translations.new.engine c.make_flush_room.new.engine
+    c.in_ok-begin_flush.ensures.leaves c.begin_flush.ensures.keys.limits c.in_ok-begin_flush.ensures.truth
+    c.in_ok-flush_translations.ensures.leaves c.flush_translations.ensures.limits c.in_ok-flush_translations.ensures.truth
+    c.in_ok-make_flush_room.ensures.leaves c.make_flush_room.ensures.keys.limits c.in_ok-make_flush_room.ensures.truth in
     rw (p.1, p.2) (array_then g.N.PageSource.view c.args.engine.now c.make_flush_room.new.engine c.write_tables.new.engine roomed _ c.in_err-write_tables.ensures.truth)
+
+-- ---- nothing more is said of a refusal
+
+pub returns-in_err-begin_flush-clause-memory : goal.returns-in_err-begin_flush-clause-memory
+returns-in_err-begin_flush-clause-memory g c =
+    let p = err_from_is_err_and c.from_residual.result c.from_residual.ensures.1 in
+    no_memory _ _ (p.1 ∙ ap Err p.2)
+
+pub returns-in_err-begin_flush-clause-keys : goal.returns-in_err-begin_flush-clause-keys
+returns-in_err-begin_flush-clause-keys g c = c.begin_flush.ensures.keys.keys
+
+pub returns-in_err-begin_flush-clause-pins : goal.returns-in_err-begin_flush-clause-pins
+returns-in_err-begin_flush-clause-pins g c =
+    let p = err_from_is_err_and c.from_residual.result c.from_residual.ensures.1 in
+    rw p.1 tt
+
+pub returns-in_err-begin_flush-clause-clean : goal.returns-in_err-begin_flush-clause-clean
+returns-in_err-begin_flush-clause-clean g c =
+    let p = err_from_is_err_and c.from_residual.result c.from_residual.ensures.1 in
+    rw p.1 tt
+
+pub returns-in_err-begin_flush-clause-programs : goal.returns-in_err-begin_flush-clause-programs
+returns-in_err-begin_flush-clause-programs g c =
+    let p = err_from_is_err_and c.from_residual.result c.from_residual.ensures.1 in
+    rw p.1 tt
+
+pub returns-in_err-begin_flush-clause-flushed : goal.returns-in_err-begin_flush-clause-flushed
+returns-in_err-begin_flush-clause-flushed g c =
+    let p = err_from_is_err_and c.from_residual.result c.from_residual.ensures.1 in
+    rw p.1 (λ honest w. tt)
+
+pub returns-in_err-begin_flush-clause-renewed : goal.returns-in_err-begin_flush-clause-renewed
+returns-in_err-begin_flush-clause-renewed g c =
+    let p = err_from_is_err_and c.from_residual.result c.from_residual.ensures.1 in
+    rw p.1 (λ honest w. tt)
+
+pub returns-in_err-flush_translations-clause-memory : goal.returns-in_err-flush_translations-clause-memory
+returns-in_err-flush_translations-clause-memory g c =
+    let p = err_from_is_err_and c.from_residual-in_err-flush_translations.result c.from_residual-in_err-flush_translations.ensures.1 in
+    no_memory _ _ (p.1 ∙ ap Err p.2)
+
+pub returns-in_err-flush_translations-clause-keys : goal.returns-in_err-flush_translations-clause-keys
+returns-in_err-flush_translations-clause-keys g c = c.flush_translations.ensures.keys ∙ c.begin_flush.ensures.keys.keys
+
+pub returns-in_err-flush_translations-clause-pins : goal.returns-in_err-flush_translations-clause-pins
+returns-in_err-flush_translations-clause-pins g c =
+    let p = err_from_is_err_and c.from_residual-in_err-flush_translations.result c.from_residual-in_err-flush_translations.ensures.1 in
+    rw p.1 tt
+
+pub returns-in_err-flush_translations-clause-clean : goal.returns-in_err-flush_translations-clause-clean
+returns-in_err-flush_translations-clause-clean g c =
+    let p = err_from_is_err_and c.from_residual-in_err-flush_translations.result c.from_residual-in_err-flush_translations.ensures.1 in
+    rw p.1 tt
+
+pub returns-in_err-flush_translations-clause-programs : goal.returns-in_err-flush_translations-clause-programs
+returns-in_err-flush_translations-clause-programs g c =
+    let p = err_from_is_err_and c.from_residual-in_err-flush_translations.result c.from_residual-in_err-flush_translations.ensures.1 in
+    rw p.1 tt
+
+pub returns-in_err-flush_translations-clause-flushed : goal.returns-in_err-flush_translations-clause-flushed
+returns-in_err-flush_translations-clause-flushed g c =
+    let p = err_from_is_err_and c.from_residual-in_err-flush_translations.result c.from_residual-in_err-flush_translations.ensures.1 in
+    rw p.1 (λ honest w. tt)
+
+pub returns-in_err-flush_translations-clause-renewed : goal.returns-in_err-flush_translations-clause-renewed
+returns-in_err-flush_translations-clause-renewed g c =
+    let p = err_from_is_err_and c.from_residual-in_err-flush_translations.result c.from_residual-in_err-flush_translations.ensures.1 in
+    rw p.1 (λ honest w. tt)
+
+pub returns-in_err-make_flush_room-clause-memory : goal.returns-in_err-make_flush_room-clause-memory
+returns-in_err-make_flush_room-clause-memory g c =
+    let p = err_from_is_err_and c.from_residual-in_err-make_flush_room.result c.from_residual-in_err-make_flush_room.ensures.1 in
+    no_memory _ _ (p.1 ∙ ap Err p.2)
+
+pub returns-in_err-make_flush_room-clause-keys : goal.returns-in_err-make_flush_room-clause-keys
+returns-in_err-make_flush_room-clause-keys g c = c.make_flush_room.ensures.keys.keys ∙ (c.flush_translations.ensures.keys ∙ c.begin_flush.ensures.keys.keys)
+
+pub returns-in_err-make_flush_room-clause-pins : goal.returns-in_err-make_flush_room-clause-pins
+returns-in_err-make_flush_room-clause-pins g c =
+    let p = err_from_is_err_and c.from_residual-in_err-make_flush_room.result c.from_residual-in_err-make_flush_room.ensures.1 in
+    rw p.1 tt
+
+pub returns-in_err-make_flush_room-clause-clean : goal.returns-in_err-make_flush_room-clause-clean
+returns-in_err-make_flush_room-clause-clean g c =
+    let p = err_from_is_err_and c.from_residual-in_err-make_flush_room.result c.from_residual-in_err-make_flush_room.ensures.1 in
+    rw p.1 tt
+
+pub returns-in_err-make_flush_room-clause-programs : goal.returns-in_err-make_flush_room-clause-programs
+returns-in_err-make_flush_room-clause-programs g c =
+    let p = err_from_is_err_and c.from_residual-in_err-make_flush_room.result c.from_residual-in_err-make_flush_room.ensures.1 in
+    rw p.1 tt
+
+pub returns-in_err-make_flush_room-clause-flushed : goal.returns-in_err-make_flush_room-clause-flushed
+returns-in_err-make_flush_room-clause-flushed g c =
+    let p = err_from_is_err_and c.from_residual-in_err-make_flush_room.result c.from_residual-in_err-make_flush_room.ensures.1 in
+    rw p.1 (λ honest w. tt)
+
+pub returns-in_err-make_flush_room-clause-renewed : goal.returns-in_err-make_flush_room-clause-renewed
+returns-in_err-make_flush_room-clause-renewed g c =
+    let p = err_from_is_err_and c.from_residual-in_err-make_flush_room.result c.from_residual-in_err-make_flush_room.ensures.1 in
+    rw p.1 (λ honest w. tt)
+
+pub returns-in_err-write_tables-clause-memory : goal.returns-in_err-write_tables-clause-memory
+returns-in_err-write_tables-clause-memory g c =
+    let p = err_from_is_err_and c.from_residual-in_err-write_tables.result c.from_residual-in_err-write_tables.ensures.1 in
+    no_memory _ _ (p.1 ∙ ap Err p.2)
+
+pub returns-in_err-write_tables-clause-keys : goal.returns-in_err-write_tables-clause-keys
+returns-in_err-write_tables-clause-keys g c = ap (λ m. keys_of m.cached) c.write_tables.ensures.mapping ∙ (c.make_flush_room.ensures.keys.keys ∙ (c.flush_translations.ensures.keys ∙ c.begin_flush.ensures.keys.keys))
+
+pub returns-in_err-write_tables-clause-pins : goal.returns-in_err-write_tables-clause-pins
+returns-in_err-write_tables-clause-pins g c =
+    let p = err_from_is_err_and c.from_residual-in_err-write_tables.result c.from_residual-in_err-write_tables.ensures.1 in
+    rw p.1 tt
+
+pub returns-in_err-write_tables-clause-clean : goal.returns-in_err-write_tables-clause-clean
+returns-in_err-write_tables-clause-clean g c =
+    let p = err_from_is_err_and c.from_residual-in_err-write_tables.result c.from_residual-in_err-write_tables.ensures.1 in
+    rw p.1 tt
+
+pub returns-in_err-write_tables-clause-programs : goal.returns-in_err-write_tables-clause-programs
+returns-in_err-write_tables-clause-programs g c =
+    let p = err_from_is_err_and c.from_residual-in_err-write_tables.result c.from_residual-in_err-write_tables.ensures.1 in
+    rw p.1 tt
+
+pub returns-in_err-write_tables-clause-flushed : goal.returns-in_err-write_tables-clause-flushed
+returns-in_err-write_tables-clause-flushed g c =
+    let p = err_from_is_err_and c.from_residual-in_err-write_tables.result c.from_residual-in_err-write_tables.ensures.1 in
+    rw p.1 (λ honest w. tt)
+
+pub returns-in_err-write_tables-clause-renewed : goal.returns-in_err-write_tables-clause-renewed
+returns-in_err-write_tables-clause-renewed g c =
+    let p = err_from_is_err_and c.from_residual-in_err-write_tables.result c.from_residual-in_err-write_tables.ensures.1 in
+    rw p.1 (λ honest w. tt)
+
+-- ---- it was done
+
+pub returns-clause-cut : goal.returns-clause-cut
+returns-clause-cut g c = λ honest w bus. absurd (no_err _ _ _ refl bus)
+
+pub returns-clause-memory : goal.returns-clause-memory
+returns-clause-memory g c = λ bad. no_err _ _ _ refl bad
+
+pub returns-clause-keys : goal.returns-clause-keys
+returns-clause-keys g c = ap (λ m. keys_of m.cached) c.write_tables.ensures.mapping ∙ (c.make_flush_room.ensures.keys.keys ∙ (c.flush_translations.ensures.keys ∙ c.begin_flush.ensures.keys.keys))
+
+-- ---- what the calls want
+
+pub flush_translations-requires-clause-safe : goal.flush_translations-requires-clause-safe
+flush_translations-requires-clause-safe g c = c.begin_flush.ensures.leaves.safe
+
+pub flush_translations-requires-clause-going : goal.flush_translations-requires-clause-going
+flush_translations-requires-clause-going g c = c.in_ok-begin_flush.ensures.leaves.fault
+
+pub flush_translations-requires-clause-calm : goal.flush_translations-requires-clause-calm
+flush_translations-requires-clause-calm g c = c.in_ok-begin_flush.ensures.calm
+
+pub make_flush_room-requires-clause-safe : goal.make_flush_room-requires-clause-safe
+make_flush_room-requires-clause-safe g c = c.flush_translations.ensures.leaves.safe
+
+pub make_flush_room-requires-clause-going : goal.make_flush_room-requires-clause-going
+make_flush_room-requires-clause-going g c = c.in_ok-flush_translations.ensures.leaves.fault
+
+pub make_flush_room-requires-clause-calm : goal.make_flush_room-requires-clause-calm
+make_flush_room-requires-clause-calm g c = c.flush_translations.ensures.calm c.in_ok-flush_translations.ensures.leaves.fault
+
+pub write_tables-requires-clause-safe : goal.write_tables-requires-clause-safe
+write_tables-requires-clause-safe g c = c.make_flush_room.ensures.leaves.safe
+
+pub write_tables-requires-clause-going : goal.write_tables-requires-clause-going
+write_tables-requires-clause-going g c = c.in_ok-make_flush_room.ensures.leaves.fault
+
+pub begin_flush-requires-clause-safe : goal.begin_flush-requires-clause-safe
+begin_flush-requires-clause-safe g c = c.requires.safe
+
+pub begin_flush-requires-clause-going : goal.begin_flush-requires-clause-going
+begin_flush-requires-clause-going g c = c.requires.going
+
+pub begin_flush-requires-clause-calm : goal.begin_flush-requires-clause-calm
+begin_flush-requires-clause-calm g c = c.requires.calm

@@ -1,14 +1,18 @@
-use Rattle.std.proofs.Common.{◌∙◌, Err, refl, ap, arith}
+use Rattle.std.proofs.Common.{◌<◌, ◌∙◌, Err, refl, ap, sym, subst}
+use Rattle.page_layout.specs.declared.geometry.Geometry.{Geometry}
+use Rattle.page_layout.specs.Geometry.{translation_pages}
 use Rattle.std.proofs.lemmas.Result.{err_from_is_err_and}
 use Rattle.collection.specs.Safe.{ram}
 use Rattle.collection.proofs.Lefts.{calm_law}
 use Rattle.ftl_device.proofs.PinLemmas.{beside_back}
 use Rattle.ftl_device.proofs.RoomLemmas.{ok_any}
 use Rattle.ftl_device.proofs.FlushRooms.{adds_none, spends_then, spends_most, spends_back}
-use Rattle.ftl_device.proofs.FlushLoops.{keeps_cleaned, keeps_same, back_after}
+use Rattle.ftl_device.proofs.FlushLoops.{keeps_cleaned, keeps_same, back_after, limits_then}
+use Rattle.ftl_device.proofs.ReadRefusals.{not_both}
+use Rattle.ftl_device.proofs.AnswerLemmas.{from_0, cleaned_by}
 use Rattle.ftl_device.proofs.SpentLemmas.{funded_here, written_counts, unroomed_counts}
 use Rattle.ftl_device.proofs.FlushStepLemmas.{clean_by, lacks_by, page_clean, written_back, page_flushed}
-use Rattle.ftl_device.proofs.LeaveLemmas.{leaves_by, leaves_same, leaves_then, back_told}
+use Rattle.ftl_device.proofs.LeaveLemmas.{leaves_by, leaves_same, leaves_then, limits_same, back_told}
 use Rattle.ftl_device.proofs.flush.flush_translation.Goals as goal
 
 pub returns-clause-calm : goal.returns-clause-calm
@@ -55,7 +59,7 @@ returns-then-not-lacks-clause-spends g c = λ some. adds_none 1 (ram c.args.engi
 pub returns-in_err-make_flush_room-clause-spends : goal.returns-in_err-make_flush_room-clause-spends
 returns-in_err-make_flush_room-clause-spends g c =
     let p = err_from_is_err_and c.from_residual.result c.from_residual.ensures.1 in
-    rw (p.1, p.2) (λ some. spends_most 0 1 (Err _) (ram c.args.engine.now) (ram c.make_flush_room.new.engine) (omega arith) (c.in_err-make_flush_room.ensures.spends some))
+    rw (p.1, p.2) (λ some. spends_most 0 1 (Err _) (ram c.args.engine.now) (ram c.make_flush_room.new.engine) (from_0 1) (c.in_err-make_flush_room.ensures.spends some))
 
 pub returns-clause-spends : goal.returns-clause-spends
 returns-clause-spends g c = λ some. spends_then 0 1 c.write_back.result (ram c.args.engine.now) (ram c.make_flush_room.new.engine) (ram c.write_back.new.self) c.make_flush_room.ensures.leaves.geometry
@@ -100,3 +104,82 @@ returns-clause-page g c =
     (c.write_back.ensures.cost c.in_ok-make_flush_room.ensures.leaves.fault) (λ honest true_of. c.write_back.ensures.truth honest c.in_ok-make_flush_room.ensures.leaves.fault true_of) in
     page_flushed g.N.PageSource.view c.args.t c.args.engine.now c.make_flush_room.new.engine c.write_back.new.self c.write_back.result
     (lacks_by c.args.engine.now.geometry c.args.t c.args.engine.now.mapping c.requires.safe.memory.mapping_of (c.lacks.ensures.some c.if-not-lacks.false)) c.in_ok-make_flush_room.ensures.cleared back
+
+-- ---- it lacks no row
+
+pub returns-then-not-lacks-clause-pins : goal.returns-then-not-lacks-clause-pins
+returns-then-not-lacks-clause-pins g c = λ none. none
+
+pub returns-then-not-lacks-clause-keys : goal.returns-then-not-lacks-clause-keys
+returns-then-not-lacks-clause-keys g c = refl
+
+pub returns-then-not-lacks-clause-limits : goal.returns-then-not-lacks-clause-limits
+returns-then-not-lacks-clause-limits g c = limits_same _ _ refl
+
+pub returns-then-not-lacks-clause-calm : goal.returns-then-not-lacks-clause-calm
+returns-then-not-lacks-clause-calm g c = λ none. c.requires.calm
+
+pub returns-then-not-lacks-clause-clean : goal.returns-then-not-lacks-clause-clean
+returns-then-not-lacks-clause-clean g c = clean_by c.args.engine.now.geometry c.args.t c.args.engine.now.mapping c.requires.safe.memory.mapping_of (c.lacks.ensures.none c.if-not-lacks.true)
+
+pub returns-then-not-lacks-clause-cleans : goal.returns-then-not-lacks-clause-cleans
+returns-then-not-lacks-clause-cleans g c = record { still = λ t within was. was }
+
+-- ---- there was no room
+
+pub returns-in_err-make_flush_room-clause-pins : goal.returns-in_err-make_flush_room-clause-pins
+returns-in_err-make_flush_room-clause-pins g c =
+    let p = err_from_is_err_and c.from_residual.result c.from_residual.ensures.1 in
+    rw p.1 tt
+
+pub returns-in_err-make_flush_room-clause-clean : goal.returns-in_err-make_flush_room-clause-clean
+returns-in_err-make_flush_room-clause-clean g c =
+    let p = err_from_is_err_and c.from_residual.result c.from_residual.ensures.1 in
+    rw p.1 tt
+
+pub returns-in_err-make_flush_room-clause-cleans : goal.returns-in_err-make_flush_room-clause-cleans
+returns-in_err-make_flush_room-clause-cleans g c =
+    let p = err_from_is_err_and c.from_residual.result c.from_residual.ensures.1 in
+    rw p.1 tt
+
+pub returns-in_err-make_flush_room-clause-page : goal.returns-in_err-make_flush_room-clause-page
+returns-in_err-make_flush_room-clause-page g c =
+    let p = err_from_is_err_and c.from_residual.result c.from_residual.ensures.1 in
+    rw p.1 tt
+
+pub returns-in_err-make_flush_room-clause-keys : goal.returns-in_err-make_flush_room-clause-keys
+returns-in_err-make_flush_room-clause-keys g c = c.make_flush_room.ensures.keys.keys
+
+pub returns-in_err-make_flush_room-clause-limits : goal.returns-in_err-make_flush_room-clause-limits
+returns-in_err-make_flush_room-clause-limits g c = c.make_flush_room.ensures.keys.limits
+
+pub returns-in_err-make_flush_room-clause-calm : goal.returns-in_err-make_flush_room-clause-calm
+returns-in_err-make_flush_room-clause-calm g c = λ none. absurd (not_both _ _ c.in_err-make_flush_room.ensures.leaves.fault none)
+
+-- ---- it was written back
+
+pub returns-clause-keys : goal.returns-clause-keys
+returns-clause-keys g c = c.write_back.ensures.keys ∙ c.make_flush_room.ensures.keys.keys
+
+pub returns-clause-limits : goal.returns-clause-limits
+returns-clause-limits g c = limits_then _ _ _ c.make_flush_room.ensures.keys.limits c.write_back.ensures.no_more.limits
+
+pub returns-clause-clean : goal.returns-clause-clean
+returns-clause-clean g c = cleaned_by c.write_back.result c.args.engine.now.geometry c.args.t c.make_flush_room.new.engine.mapping c.write_back.new.self.mapping (c.make_flush_room.ensures.leaves.safe.memory.mapping_of ∙ c.make_flush_room.ensures.leaves.geometry) c.write_back.ensures.cleans
+
+pub write_back-requires-clause-safe : goal.write_back-requires-clause-safe
+write_back-requires-clause-safe g c = c.make_flush_room.ensures.leaves.safe
+
+pub write_back-requires-clause-page : goal.write_back-requires-clause-page
+write_back-requires-clause-page g c = subst (λ (geometry : Geometry). c.args.t < translation_pages geometry) (sym c.make_flush_room.ensures.leaves.geometry) c.requires.page
+
+-- ---- what the calls want
+
+pub make_flush_room-requires-clause-safe : goal.make_flush_room-requires-clause-safe
+make_flush_room-requires-clause-safe g c = c.requires.safe
+
+pub make_flush_room-requires-clause-going : goal.make_flush_room-requires-clause-going
+make_flush_room-requires-clause-going g c = c.requires.going
+
+pub make_flush_room-requires-clause-calm : goal.make_flush_room-requires-clause-calm
+make_flush_room-requires-clause-calm g c = c.requires.calm

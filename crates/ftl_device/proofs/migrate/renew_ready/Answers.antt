@@ -1,7 +1,10 @@
-use Rattle.std.proofs.Common.{◌∙◌, Ok, Err}
+use Rattle.std.proofs.Common.{◌∙◌, ◌<◌, Ok, Err, refl, ap, sym, subst}
+use Rattle.page_layout.specs.declared.geometry.Geometry.{Geometry}
+use Rattle.page_layout.specs.Geometry.{row_count}
 use Rattle.std.proofs.lemmas.Result.{err_from_is_err_and}
 use Rattle.collection.specs.Safe.{ram}
 use Rattle.collection.proofs.Lefts.{calm_law}
+use Rattle.collection.proofs.Looks.{ok_not_bus}
 use Rattle.ftl_device.proofs.FlushLoops.{limits_then, engine_keeps, keeps_refused}
 use Rattle.ftl_device.proofs.RoomLemmas.{rescue_told, keeps_room, refused_room}
 use Rattle.ftl_device.proofs.SpentLemmas.{rescue_short, rescue_stuck, unroomed_short}
@@ -10,6 +13,7 @@ use Rattle.ftl_device.proofs.StoppedLemmas.{cuts_on}
 use Rattle.ftl_device.proofs.StepLemmas.{moved_less, rescue_refused}
 use Rattle.ftl_device.proofs.MigrateLemmas.{renews_by, renewed_same}
 use Rattle.ftl_device.proofs.BringLemmas.{brought_by, brings_by, made_room}
+use Rattle.ftl_device.proofs.AnswerLemmas.{no_true, no_err, no_memory, engine_bus}
 use Rattle.ftl_device.proofs.migrate.renew_ready.Goals as goal
 
 pub returns-in_err-make_room-clause-truth : goal.returns-in_err-make_room-clause-truth
@@ -59,8 +63,8 @@ returns-in_err-renew_at-clause-cut g c =
     rw (p.1, p.2) (λ honest k bus.
     let knows = c.in_ok-make_room.ensures.pinned honest k in
     cuts_on g.N.PageSource.view c.args.engine.now c.make_room.new.engine c.renew_at.new.self c.make_room.ensures.leaves.geometry c.make_room.ensures.keys.limits (c.in_ok-make_room.ensures.truth honest k).array
-    (c.in_ok-make_room.ensures.leaves.stops honest k (λ e. (let no : ⊥ = cc in no)))
-    (c.in_err-renew_at.ensures.cut (c.make_room.ensures.leaves.honest_is ∙ honest) c.in_ok-make_room.ensures.leaves.fault knows.truth (cc)))
+    (c.in_ok-make_room.ensures.leaves.stops honest k (ok_not_bus _))
+    (c.in_err-renew_at.ensures.cut (c.make_room.ensures.leaves.honest_is ∙ honest) c.in_ok-make_room.ensures.leaves.fault knows.truth (engine_bus _ _ _ refl refl bus)))
 
 pub returns-in_err-renew_at-clause-ends : goal.returns-in_err-renew_at-clause-ends
 returns-in_err-renew_at-clause-ends g c =
@@ -106,7 +110,7 @@ returns-clause-ends g c = leaves_ends g.N.PageSource.view
     (leaves_by g.N.PageSource.view c.make_room.new.engine c.renew_at.new.self (Ok _) c.in_ok-make_room.ensures.leaves.fault c.in_ok-renew_at.ensures.stands c.renew_at.ensures.goes.geometry
     (rescue_told (Ok _) (ram c.make_room.new.engine) (ram c.renew_at.new.self) c.make_room.ensures.leaves.safe.memory c.renew_at.ensures.stands.safe.memory c.renew_at.ensures.goes (c.in_ok-renew_at.ensures.cost c.in_ok-make_room.ensures.leaves.fault))
     (λ honest k ne. c.in_ok-renew_at.ensures.stops honest c.in_ok-make_room.ensures.leaves.fault k.truth ne)
-    (λ honest k bus. (let no : ⊥ = cc in absurd no)))))
+    (λ honest k bus. absurd (ok_not_bus _ bus)))))
     (limits_then _ _ _ c.make_room.ensures.keys.limits c.renew_at.ensures.keys.limits) (λ none. calm_law (ram c.make_room.new.engine) (ram c.renew_at.new.self) c.in_ok-renew_at.ensures.beside c.in_ok-make_room.ensures.made.calm)
 
 pub returns-clause-renews : goal.returns-clause-renews
@@ -124,7 +128,77 @@ returns-clause-brings g c = λ honest w.
     let room = c.in_ok-make_room.ensures.truth honest w in
     let knows = c.in_ok-make_room.ensures.pinned honest w in
     let one = c.in_ok-renew_at.ensures.truth (c.make_room.ensures.leaves.honest_is ∙ honest) c.in_ok-make_room.ensures.leaves.fault room.truth (moved_less (ram c.make_room.new.engine) _ knows) in
-    let made = made_room g.N.PageSource.view c.args.engine.now c.make_room.new.engine c.in_ok-make_room.ensures.made (λ nine. (c.make_room.ensures.rests nine).1) room (c.in_ok-make_room.ensures.leaves.went honest (λ bus. (let no : ⊥ = cc in no))) in
+    let made = made_room g.N.PageSource.view c.args.engine.now c.make_room.new.engine c.in_ok-make_room.ensures.made (λ nine. (c.make_room.ensures.rests nine).1) room (c.in_ok-make_room.ensures.leaves.went honest (ok_not_bus _)) in
     brings_by g.N.PageSource.view c.args.row c.args.engine.now c.make_room.new.engine c.renew_at.new.self
     c.in_ok-renew_at.field-0 made c.renew_at.ensures.goes c.renew_at.ensures.keys
     (c.in_ok-renew_at.ensures.cost c.in_ok-make_room.ensures.leaves.fault) one
+
+-- ---- nothing more is said of a refusal
+
+pub returns-in_err-make_room-clause-memory : goal.returns-in_err-make_room-clause-memory
+returns-in_err-make_room-clause-memory g c =
+    let p = err_from_is_err_and c.from_residual.result c.from_residual.ensures.1 in
+    no_memory _ _ (p.1 ∙ ap Err p.2)
+
+pub returns-in_err-make_room-clause-brought : goal.returns-in_err-make_room-clause-brought
+returns-in_err-make_room-clause-brought g c =
+    let p = err_from_is_err_and c.from_residual.result c.from_residual.ensures.1 in
+    rw p.1 tt
+
+pub returns-in_err-make_room-clause-renews : goal.returns-in_err-make_room-clause-renews
+returns-in_err-make_room-clause-renews g c =
+    let p = err_from_is_err_and c.from_residual.result c.from_residual.ensures.1 in
+    rw p.1 (λ honest w. tt)
+
+pub returns-in_err-make_room-clause-brings : goal.returns-in_err-make_room-clause-brings
+returns-in_err-make_room-clause-brings g c =
+    let p = err_from_is_err_and c.from_residual.result c.from_residual.ensures.1 in
+    rw p.1 (λ honest w. tt)
+
+pub returns-in_err-renew_at-clause-memory : goal.returns-in_err-renew_at-clause-memory
+returns-in_err-renew_at-clause-memory g c =
+    let p = err_from_is_err_and c.from_residual-in_err-renew_at.result c.from_residual-in_err-renew_at.ensures.1 in
+    no_memory _ _ (p.1 ∙ ap Err p.2)
+
+pub returns-in_err-renew_at-clause-brought : goal.returns-in_err-renew_at-clause-brought
+returns-in_err-renew_at-clause-brought g c =
+    let p = err_from_is_err_and c.from_residual-in_err-renew_at.result c.from_residual-in_err-renew_at.ensures.1 in
+    rw p.1 tt
+
+pub returns-in_err-renew_at-clause-renews : goal.returns-in_err-renew_at-clause-renews
+returns-in_err-renew_at-clause-renews g c =
+    let p = err_from_is_err_and c.from_residual-in_err-renew_at.result c.from_residual-in_err-renew_at.ensures.1 in
+    rw p.1 (λ honest w. tt)
+
+pub returns-in_err-renew_at-clause-brings : goal.returns-in_err-renew_at-clause-brings
+returns-in_err-renew_at-clause-brings g c =
+    let p = err_from_is_err_and c.from_residual-in_err-renew_at.result c.from_residual-in_err-renew_at.ensures.1 in
+    rw p.1 (λ honest w. tt)
+
+-- ---- it was done
+
+pub returns-clause-cut : goal.returns-clause-cut
+returns-clause-cut g c = λ honest w bus. absurd (no_err _ _ _ refl bus)
+
+pub returns-clause-memory : goal.returns-clause-memory
+returns-clause-memory g c = λ bad. no_err _ _ _ refl bad
+
+-- ---- what the calls want
+
+pub make_room-requires-clause-flushes : goal.make_room-requires-clause-flushes
+make_room-requires-clause-flushes g c = λ e. absurd (no_true e)
+
+pub renew_at-requires-clause-safe : goal.renew_at-requires-clause-safe
+renew_at-requires-clause-safe g c = c.make_room.ensures.leaves.safe
+
+pub renew_at-requires-clause-row : goal.renew_at-requires-clause-row
+renew_at-requires-clause-row g c = subst (λ (geometry : Geometry). c.args.row < row_count geometry) (sym c.make_room.ensures.leaves.geometry) c.requires.row
+
+pub make_room-requires-clause-safe : goal.make_room-requires-clause-safe
+make_room-requires-clause-safe g c = c.requires.safe
+
+pub make_room-requires-clause-going : goal.make_room-requires-clause-going
+make_room-requires-clause-going g c = c.requires.going
+
+pub make_room-requires-clause-calm : goal.make_room-requires-clause-calm
+make_room-requires-clause-calm g c = c.requires.calm

@@ -1,4 +1,5 @@
-use Rattle.std.proofs.Common.{◌∙◌, ◌<◌, Err, ap, sym, subst}
+use Rattle.std.proofs.Common.{◌∙◌, ◌<◌, Err, refl, ap, sym, subst}
+use Rattle.collection.proofs.Looks.{ok_not_bus}
 use Rattle.std.specs.Option.{ForSome}
 use Rattle.std.specs.Map.{keys_of}
 use Rattle.std.proofs.lemmas.Result.{err_from_is_err_and}
@@ -13,6 +14,7 @@ use Rattle.ftl_device.specs.Calls.{KeepsArray}
 use Rattle.ftl_device.specs.Shortage.{HasFunds}
 use Rattle.ftl_device.proofs.PrepareLemmas.{keeps_loaded}
 use Rattle.ftl_device.proofs.SpentLemmas.{room_kept, room_to_call}
+use Rattle.ftl_device.proofs.AnswerLemmas.{no_true, no_err, no_memory, err_same}
 use Rattle.ftl_device.proofs.ready.make_ready.Goals as goal
 
 -- ---- it was not prepared
@@ -24,7 +26,7 @@ returns-in_err-row-clause-ends g c =
     (ends_refused g.N.PageSource.view c.args.engine.now
     c.prepare.new.engine _ c.prepare.ensures.leaves.safe c.in_err-row.ensures.leaves.fault c.prepare.ensures.leaves.geometry
     c.prepare.ensures.leaves.honest_is c.prepare.ensures.leaves.calm_is c.prepare.ensures.leaves.asked c.prepare.ensures.leaves.failed_is
-    (λ is. c.in_err-row.ensures.leaves.rose (ap Err is)) c.prepare.ensures.limits c.in_err-row.ensures.leaves.tells (λ honest ne. c.in_err-row.ensures.leaves.went honest (λ e. ne (cc))) (λ honest k ne. c.in_err-row.ensures.leaves.stops honest k (λ e. ne (cc))))
+    (λ is. c.in_err-row.ensures.leaves.rose (ap Err is)) c.prepare.ensures.limits c.in_err-row.ensures.leaves.tells (λ honest ne. c.in_err-row.ensures.leaves.went honest (λ e. ne (err_same _ _ _ refl e))) (λ honest k ne. c.in_err-row.ensures.leaves.stops honest k (λ e. ne (err_same _ _ _ refl e))))
 
 pub returns-in_err-row-clause-cut : goal.returns-in_err-row-clause-cut
 returns-in_err-row-clause-cut g c =
@@ -37,9 +39,9 @@ returns-in_err-row-clause-readies g c =
     rw (p.1, p.2) (record {
       recent = tt;
       keys = tt;
-      unwritten = λ e. (let no : ⊥ = cc in absurd no);
-      same_keys = λ e. (let no : ⊥ = cc in absurd no);
-      cached = λ some e. (let no : ⊥ = cc in absurd no);
+      unwritten = λ e. absurd (no_memory _ _ refl e);
+      same_keys = λ e. absurd (no_memory _ _ refl e);
+      cached = λ some e. absurd (no_memory _ _ refl e);
       costs = room_to_call (HasFunds (g.N.PageSource.view.honest c.args.engine.now.nand) (ram c.args.engine.now) (image_in g.N.PageSource.view.flash c.args.engine.now)) _ (ram c.args.engine.now) (ram c.prepare.new.engine) c.in_err-row.ensures.costs;
       pins = tt;
     })
@@ -64,14 +66,14 @@ returns-in_err-cache_sector-clause-ends g c =
     c.prepare.new.engine c.prepare.ensures.leaves.safe c.in_ok-row.ensures.leaves.fault c.prepare.ensures.leaves.geometry
     c.prepare.ensures.leaves.honest_is c.prepare.ensures.leaves.calm_is c.prepare.ensures.leaves.asked c.prepare.ensures.leaves.failed_is
     c.prepare.ensures.limits c.in_ok-row.ensures.calm c.in_ok-row.ensures.leaves.tells
-    (λ honest. c.in_ok-row.ensures.leaves.went honest (λ e. (let no : ⊥ = cc in no)))
-    (λ honest k. c.in_ok-row.ensures.leaves.stops honest k (λ e. (let no : ⊥ = cc in no))) c.cache_sector.new.self
+    (λ honest. c.in_ok-row.ensures.leaves.went honest (ok_not_bus _))
+    (λ honest k. c.in_ok-row.ensures.leaves.stops honest k (ok_not_bus _)) c.cache_sector.new.self
     c.in_err-cache_sector.ensures.refused)
 
 pub returns-in_err-cache_sector-clause-cut : goal.returns-in_err-cache_sector-clause-cut
 returns-in_err-cache_sector-clause-cut g c =
     let p = err_from_is_err_and c.from_residual-in_err-cache_sector.result c.from_residual-in_err-cache_sector.ensures.1 in
-    rw (p.1, p.2) (λ honest k bus. (let no : ⊥ = cc in absurd no))
+    rw (p.1, p.2) (λ honest k bus. absurd (no_memory _ _ bus refl))
 
 pub returns-in_err-cache_sector-clause-readies : goal.returns-in_err-cache_sector-clause-readies
 returns-in_err-cache_sector-clause-readies g c =
@@ -83,7 +85,7 @@ returns-in_err-cache_sector-clause-readies g c =
           (ap (λ e. e.geometry) c.in_err-cache_sector.ensures.refused) (ap (λ e. (ram e).blocks) c.in_err-cache_sector.ensures.refused)
           (ap (λ e. e.next) c.in_err-cache_sector.ensures.refused) c.in_ok-row.ensures.cost;
       same_keys = λ _. ap (λ e. keys_of e.mapping.cached) c.in_err-cache_sector.ensures.refused ∙ c.prepare.ensures.keys;
-      cached = λ some _. (let done = c.in_err-cache_sector.ensures.cached (same_slots c.args.sector c.args.engine.now.mapping c.prepare.new.engine.mapping c.prepare.ensures.keys some) in let no : ⊥ = cc in no);
+      cached = λ some _. no_true (c.in_err-cache_sector.ensures.cached (same_slots c.args.sector c.args.engine.now.mapping c.prepare.new.engine.mapping c.prepare.ensures.keys some));
       costs = room_kept
           (HasFunds (g.N.PageSource.view.honest c.args.engine.now.nand) (ram c.args.engine.now) (image_in g.N.PageSource.view.flash c.args.engine.now)) 1
           (ram c.args.engine.now) (ram c.prepare.new.engine) (ram c.cache_sector.new.self)
@@ -104,17 +106,17 @@ returns-clause-ends g c =
     c.prepare.new.engine c.prepare.ensures.leaves.safe c.in_ok-row.ensures.leaves.fault c.prepare.ensures.leaves.geometry
     c.prepare.ensures.leaves.honest_is c.prepare.ensures.leaves.calm_is c.prepare.ensures.leaves.asked c.prepare.ensures.leaves.failed_is
     c.prepare.ensures.limits c.in_ok-row.ensures.calm c.in_ok-row.ensures.leaves.tells
-    (λ honest. c.in_ok-row.ensures.leaves.went honest (λ e. (let no : ⊥ = cc in no)))
-    (λ honest k. c.in_ok-row.ensures.leaves.stops honest k (λ e. (let no : ⊥ = cc in no))) c.cache_sector.new.self c.args.sector _
+    (λ honest. c.in_ok-row.ensures.leaves.went honest (ok_not_bus _))
+    (λ honest k. c.in_ok-row.ensures.leaves.stops honest k (ok_not_bus _)) c.cache_sector.new.self c.args.sector _
     c.in_ok-cache_sector.ensures.loaded c.cache_sector.ensures.safe
 
 pub returns-clause-readies : goal.returns-clause-readies
 returns-clause-readies g c = record {
   recent = most_recent c.prepare.new.engine.mapping c.cache_sector.new.self.mapping c.args.sector _ (ap (λ e. e.mapping) c.in_ok-cache_sector.ensures.loaded);
   keys = order_ready c.args.sector _ c.args.engine.now.mapping c.prepare.new.engine.mapping c.cache_sector.new.self.mapping c.prepare.ensures.keys c.prepare.ensures.limits.capacity (ap (λ e. e.mapping) c.in_ok-cache_sector.ensures.loaded);
-  unwritten = λ e. (let no : ⊥ = cc in absurd no);
-  same_keys = λ e. (let no : ⊥ = cc in absurd no);
-  cached = λ some e. (let no : ⊥ = cc in absurd no);
+  unwritten = λ e. absurd (no_err _ _ _ refl e);
+  same_keys = λ e. absurd (no_err _ _ _ refl e);
+  cached = λ some e. absurd (no_err _ _ _ refl e);
   costs = room_kept
       (HasFunds (g.N.PageSource.view.honest c.args.engine.now.nand) (ram c.args.engine.now) (image_in g.N.PageSource.view.flash c.args.engine.now)) 1
       (ram c.args.engine.now) (ram c.prepare.new.engine) (ram c.cache_sector.new.self) (ap (λ e. (ram e).blocks) c.in_ok-cache_sector.ensures.loaded)
@@ -136,3 +138,66 @@ returns-clause-truth g c = λ honest w.
     keeps_loaded c.prepare.new.engine c.cache_sector.new.self c.args.sector _ c.in_ok-cache_sector.ensures.loaded g.N.PageSource.view.flash _ _
     c.prepare.ensures.leaves.safe.memory c.cache_sector.ensures.safe.memory found.keeps
     (c.cache_sector.ensures.truth _ found.keeps.truth.truth found.row_is)
+
+-- ---- nothing more is said of a refusal
+
+pub returns-in_err-row-clause-holds : goal.returns-in_err-row-clause-holds
+returns-in_err-row-clause-holds g c =
+    let p = err_from_is_err_and c.from_residual.result c.from_residual.ensures.1 in
+    rw p.1 tt
+
+pub returns-in_err-row-clause-checked : goal.returns-in_err-row-clause-checked
+returns-in_err-row-clause-checked g c =
+    let p = err_from_is_err_and c.from_residual.result c.from_residual.ensures.1 in
+    rw p.1 tt
+
+pub returns-in_err-row-clause-cost : goal.returns-in_err-row-clause-cost
+returns-in_err-row-clause-cost g c =
+    let p = err_from_is_err_and c.from_residual.result c.from_residual.ensures.1 in
+    rw p.1 tt
+
+pub returns-in_err-cache_sector-clause-holds : goal.returns-in_err-cache_sector-clause-holds
+returns-in_err-cache_sector-clause-holds g c =
+    let p = err_from_is_err_and c.from_residual-in_err-cache_sector.result c.from_residual-in_err-cache_sector.ensures.1 in
+    rw p.1 tt
+
+pub returns-in_err-cache_sector-clause-checked : goal.returns-in_err-cache_sector-clause-checked
+returns-in_err-cache_sector-clause-checked g c =
+    let p = err_from_is_err_and c.from_residual-in_err-cache_sector.result c.from_residual-in_err-cache_sector.ensures.1 in
+    rw p.1 tt
+
+pub returns-in_err-cache_sector-clause-cost : goal.returns-in_err-cache_sector-clause-cost
+returns-in_err-cache_sector-clause-cost g c =
+    let p = err_from_is_err_and c.from_residual-in_err-cache_sector.result c.from_residual-in_err-cache_sector.ensures.1 in
+    rw p.1 tt
+
+pub returns-in_err-row-clause-truth : goal.returns-in_err-row-clause-truth
+returns-in_err-row-clause-truth g c =
+    let p = err_from_is_err_and c.from_residual.result c.from_residual.ensures.1 in
+    rw (p.1, p.2) c.in_err-row.ensures.truth
+
+pub returns-clause-cut : goal.returns-clause-cut
+returns-clause-cut g c = λ honest w bus. absurd (no_err _ _ _ refl bus)
+
+-- ---- what the calls want
+
+pub prepare-requires-clause-safe : goal.prepare-requires-clause-safe
+prepare-requires-clause-safe g c = c.requires.safe
+
+pub prepare-requires-clause-going : goal.prepare-requires-clause-going
+prepare-requires-clause-going g c = c.requires.going
+
+pub prepare-requires-clause-calm : goal.prepare-requires-clause-calm
+prepare-requires-clause-calm g c = c.requires.calm
+
+pub prepare-requires-clause-sector : goal.prepare-requires-clause-sector
+prepare-requires-clause-sector g c = c.requires.sector
+
+pub cache_sector-requires-clause-safe : goal.cache_sector-requires-clause-safe
+cache_sector-requires-clause-safe g c = c.prepare.ensures.leaves.safe
+
+pub cache_sector-requires-clause-room : goal.cache_sector-requires-clause-room
+cache_sector-requires-clause-room g c = c.in_ok-row.ensures.place
+
+pub returns-clause-holds : goal.returns-clause-holds
+returns-clause-holds g c = c.in_ok-cache_sector.ensures.holds

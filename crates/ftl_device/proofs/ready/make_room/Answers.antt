@@ -34,3 +34,17 @@ returns-clause-pinned g c = λ honest k. room_knows g.N.PageSource.view c.make_r
     c.make_room.new.self (c.make_room.ensures.makes c.requires.going).calm (c.make_room.ensures.makes c.requires.going).works
     ((c.make_room.ensures.makes c.requires.going).truth honest k.truth k.passed)
     ((c.make_room.ensures.makes c.requires.going).few honest k.truth k.passed k.few) k
+
+-- ---- what the calls want
+
+pub make_room-requires-clause-safe : goal.make_room-requires-clause-safe
+make_room-requires-clause-safe g c = c.requires.safe
+
+pub make_room-requires-clause-flushes : goal.make_room-requires-clause-flushes
+make_room-requires-clause-flushes g c = c.requires.flushes
+
+pub make_room-requires-clause-calm : goal.make_room-requires-clause-calm
+make_room-requires-clause-calm g c = λ none. c.requires.calm
+
+pub returns-clause-keys : goal.returns-clause-keys
+returns-clause-keys g c = (c.make_room.ensures.makes c.requires.going).keys

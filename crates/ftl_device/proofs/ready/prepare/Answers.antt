@@ -1,4 +1,11 @@
-use Rattle.std.proofs.Common.{◌∙◌, ap, arith}
+use Rattle.std.proofs.Common.{◌∙◌, ◌<◌, ap, sym, subst}
+use Rattle.std.specs.Prelude.{IfOk}
+use Rattle.std.specs.Option.{ForSome}
+use Rattle.std.specs.Map.{keys_of}
+use Rattle.page_layout.specs.declared.geometry.Geometry.{Geometry}
+use Rattle.page_layout.specs.Geometry.{row_count}
+use Rattle.collection.specs.State.{Ram}
+use Rattle.collection.proofs.Looks.{ok_not_bus}
 use Rattle.std.proofs.lemmas.Result.{err_from_is_err_and}
 use Rattle.page_layout.proofs.AskedLemmas.{asks_then}
 use Rattle.collection.specs.Safe.{ram, image_in}
@@ -11,7 +18,8 @@ use Rattle.ftl_device.proofs.PrepareLemmas.{tells_found, went_found, found_after
 use Rattle.ftl_device.proofs.ReadLemmas.{finds_noted, prepared_by}
 use Rattle.ftl_device.specs.Shortage.{HasFunds}
 use Rattle.ftl_device.proofs.SpentLemmas.{after_room, room_refused, place_refused, found_costs}
-use Rattle.ftl_device.proofs.LeaveLemmas.{leaves_then, leaves_refused}
+use Rattle.ftl_device.proofs.LeaveLemmas.{leaves_then, leaves_refused, limits_same}
+use Rattle.ftl_device.proofs.AnswerLemmas.{at_most, no_true}
 use Rattle.ftl_device.proofs.StoppedLemmas.{cuts_looked, cuts_on, stops_still}
 use Rattle.ftl_device.proofs.ready.prepare.Goals as goal
 
@@ -110,17 +118,17 @@ returns-clause-leaves g c = (
       honest_is = c.find_row.ensures.honest ∙ placed.honest_is;
       calm_is = c.find_row.ensures.calm ∙ placed.calm_is;
       asked = asks_then g.N.PageSource.view.called c.args.engine.now.nand c.make_place.new.engine.nand c.find_row.new.engine.nand placed.asked c.find_row.ensures.asked;
-      failed_is = omega (arith, placed.failed_is, c.find_row.ensures.failed);
+      failed_is = at_most _ _ _ placed.failed_is c.find_row.ensures.failed;
       rose = λ bus. risen_over _ _ _ placed.failed_is (c.find_row.ensures.rose bus);
       tells = tells_found c.find_row.result (ram c.args.engine.now) (ram c.make_room.new.engine) (ram c.make_place.new.engine)
           (ram c.find_row.new.engine) _ c.in_ok-make_room.ensures.leaves.tells c.in_ok-make_place.ensures.leaves.tells c.find_row.ensures.memory
           c.find_row.ensures.faults;
       went = λ honest ne. went_found (ram c.make_place.new.engine) (ram c.find_row.new.engine) _ c.find_row.ensures.memory (ram c.args.engine.now) _ _
-          _ _ _ _ (placed.went honest (λ e. (let no : ⊥ = cc in no))) (c.find_row.ensures.same (placed.honest_is ∙ honest) ne)
+          _ _ _ _ (placed.went honest (ok_not_bus _)) (c.find_row.ensures.same (placed.honest_is ∙ honest) ne)
           (c.find_row.ensures.told (placed.honest_is ∙ honest) ne);
       stops = λ honest k ne. stops_still g.N.PageSource.view c.args.engine.now c.make_place.new.engine c.find_row.new.engine
           (c.find_row.ensures.same (placed.honest_is ∙ honest) ne) (c.find_row.ensures.told (placed.honest_is ∙ honest) ne)
-          (placed.stops honest k (λ e. (let no : ⊥ = cc in no)));
+          (placed.stops honest k (ok_not_bus _));
       cut = λ honest k bus.
           let room = c.in_ok-make_room.ensures.truth honest k in
           let place = c.in_ok-make_place.ensures.truth (c.make_room.ensures.leaves.honest_is ∙ honest) room.truth in
@@ -129,7 +137,7 @@ returns-clause-leaves g c = (
           c.make_place.ensures.leaves.safe.memory c.make_place.ensures.beside
           (keeps_room (ram c.args.engine.now) (ram c.make_room.new.engine) _ _ room (c.in_ok-make_room.ensures.pinned honest k)) place in
           cuts_on g.N.PageSource.view c.args.engine.now c.make_place.new.engine c.find_row.new.engine placed.geometry
-          (limits_then _ _ _ c.make_room.ensures.keys.limits c.make_place.ensures.no_more.limits) keeps.array (placed.stops honest k (λ e. (let no : ⊥ = cc in no)))
+          (limits_then _ _ _ c.make_room.ensures.keys.limits c.make_place.ensures.no_more.limits) keeps.array (placed.stops honest k (ok_not_bus _))
           (cuts_looked g.N.PageSource.view c.make_place.new.engine c.find_row.new.engine c.make_place.ensures.leaves.safe place.truth
           (c.find_row.ensures.cut (placed.honest_is ∙ honest) bus));
     })
@@ -139,3 +147,127 @@ returns-clause-pins g c = ok_any c.find_row.result (λ none. ap (λ r. r.pin.blo
 
 pub returns-clause-prepared : goal.returns-clause-prepared
 returns-clause-prepared g c = prepared_by c.find_row.result (ram c.args.engine.now) (ram c.make_room.new.engine) (ram c.make_place.new.engine) (ram c.find_row.new.engine) _ c.in_ok-make_room.ensures.made c.in_ok-make_place.ensures.mapping c.find_row.ensures.memory
+
+-- ---- nothing more is said of a refusal
+
+pub returns-in_err-make_room-clause-place : goal.returns-in_err-make_room-clause-place
+returns-in_err-make_room-clause-place g c =
+    let p = err_from_is_err_and c.from_residual.result c.from_residual.ensures.1 in
+    rw p.1 tt
+
+pub returns-in_err-make_room-clause-row : goal.returns-in_err-make_room-clause-row
+returns-in_err-make_room-clause-row g c =
+    let p = err_from_is_err_and c.from_residual.result c.from_residual.ensures.1 in
+    rw p.1 tt
+
+pub returns-in_err-make_room-clause-checked : goal.returns-in_err-make_room-clause-checked
+returns-in_err-make_room-clause-checked g c =
+    let p = err_from_is_err_and c.from_residual.result c.from_residual.ensures.1 in
+    rw p.1 tt
+
+pub returns-in_err-make_room-clause-prepared : goal.returns-in_err-make_room-clause-prepared
+returns-in_err-make_room-clause-prepared g c =
+    let p = err_from_is_err_and c.from_residual.result c.from_residual.ensures.1 in
+    rw p.1 tt
+
+pub returns-in_err-make_room-clause-calm : goal.returns-in_err-make_room-clause-calm
+returns-in_err-make_room-clause-calm g c =
+    let p = err_from_is_err_and c.from_residual.result c.from_residual.ensures.1 in
+    rw p.1 tt
+
+pub returns-in_err-make_room-clause-pins : goal.returns-in_err-make_room-clause-pins
+returns-in_err-make_room-clause-pins g c =
+    let p = err_from_is_err_and c.from_residual.result c.from_residual.ensures.1 in
+    rw p.1 tt
+
+pub returns-in_err-make_room-clause-cost : goal.returns-in_err-make_room-clause-cost
+returns-in_err-make_room-clause-cost g c =
+    let p = err_from_is_err_and c.from_residual.result c.from_residual.ensures.1 in
+    rw p.1 tt
+
+pub returns-in_err-make_place-clause-place : goal.returns-in_err-make_place-clause-place
+returns-in_err-make_place-clause-place g c =
+    let p = err_from_is_err_and c.from_residual-in_err-make_place.result c.from_residual-in_err-make_place.ensures.1 in
+    rw p.1 tt
+
+pub returns-in_err-make_place-clause-row : goal.returns-in_err-make_place-clause-row
+returns-in_err-make_place-clause-row g c =
+    let p = err_from_is_err_and c.from_residual-in_err-make_place.result c.from_residual-in_err-make_place.ensures.1 in
+    rw p.1 tt
+
+pub returns-in_err-make_place-clause-checked : goal.returns-in_err-make_place-clause-checked
+returns-in_err-make_place-clause-checked g c =
+    let p = err_from_is_err_and c.from_residual-in_err-make_place.result c.from_residual-in_err-make_place.ensures.1 in
+    rw p.1 tt
+
+pub returns-in_err-make_place-clause-prepared : goal.returns-in_err-make_place-clause-prepared
+returns-in_err-make_place-clause-prepared g c =
+    let p = err_from_is_err_and c.from_residual-in_err-make_place.result c.from_residual-in_err-make_place.ensures.1 in
+    rw p.1 tt
+
+pub returns-in_err-make_place-clause-calm : goal.returns-in_err-make_place-clause-calm
+returns-in_err-make_place-clause-calm g c =
+    let p = err_from_is_err_and c.from_residual-in_err-make_place.result c.from_residual-in_err-make_place.ensures.1 in
+    rw p.1 tt
+
+pub returns-in_err-make_place-clause-pins : goal.returns-in_err-make_place-clause-pins
+returns-in_err-make_place-clause-pins g c =
+    let p = err_from_is_err_and c.from_residual-in_err-make_place.result c.from_residual-in_err-make_place.ensures.1 in
+    rw p.1 tt
+
+pub returns-in_err-make_place-clause-cost : goal.returns-in_err-make_place-clause-cost
+returns-in_err-make_place-clause-cost g c =
+    let p = err_from_is_err_and c.from_residual-in_err-make_place.result c.from_residual-in_err-make_place.ensures.1 in
+    rw p.1 tt
+
+-- ---- what stays
+
+pub returns-in_err-make_room-clause-keys : goal.returns-in_err-make_room-clause-keys
+returns-in_err-make_room-clause-keys g c = c.make_room.ensures.keys.keys
+
+pub returns-in_err-make_room-clause-limits : goal.returns-in_err-make_room-clause-limits
+returns-in_err-make_room-clause-limits g c = c.make_room.ensures.keys.limits
+
+pub returns-in_err-make_place-clause-keys : goal.returns-in_err-make_place-clause-keys
+returns-in_err-make_place-clause-keys g c = c.make_place.ensures.keys ∙ c.make_room.ensures.keys.keys
+
+pub returns-in_err-make_place-clause-limits : goal.returns-in_err-make_place-clause-limits
+returns-in_err-make_place-clause-limits g c = limits_then _ _ _ c.make_room.ensures.keys.limits c.make_place.ensures.no_more.limits
+
+pub returns-clause-keys : goal.returns-clause-keys
+returns-clause-keys g c = (ap (λ (r : Ram). keys_of r.mapping.cached) c.find_row.ensures.memory) ∙ (c.make_place.ensures.keys ∙ c.make_room.ensures.keys.keys)
+
+pub returns-clause-limits : goal.returns-clause-limits
+returns-clause-limits g c = limits_then _ _ _ (limits_then _ _ _ c.make_room.ensures.keys.limits c.make_place.ensures.no_more.limits) (limits_same _ _ (ap (λ (r : Ram). r.mapping) c.find_row.ensures.memory))
+
+pub returns-clause-row : goal.returns-clause-row
+returns-clause-row g c = subst (λ (geometry : Geometry). IfOk c.find_row.result (λ found. ForSome found (λ row. row < row_count geometry))) (c.make_place.ensures.leaves.geometry ∙ c.make_room.ensures.leaves.geometry) c.find_row.ensures.row
+
+-- ---- what the calls want
+
+pub make_room-requires-clause-flushes : goal.make_room-requires-clause-flushes
+make_room-requires-clause-flushes g c = λ e. absurd (no_true e)
+
+pub make_place-requires-clause-safe : goal.make_place-requires-clause-safe
+make_place-requires-clause-safe g c = c.make_room.ensures.leaves.safe
+
+pub make_place-requires-clause-going : goal.make_place-requires-clause-going
+make_place-requires-clause-going g c = c.in_ok-make_room.ensures.leaves.fault
+
+pub find_row-requires-clause-safe : goal.find_row-requires-clause-safe
+find_row-requires-clause-safe g c = c.make_place.ensures.leaves.safe
+
+pub find_row-requires-clause-going : goal.find_row-requires-clause-going
+find_row-requires-clause-going g c = c.in_ok-make_place.ensures.leaves.fault
+
+pub find_row-requires-clause-sector : goal.find_row-requires-clause-sector
+find_row-requires-clause-sector g c = subst (λ (geometry : Geometry). c.args.sector < geometry.sectors) (sym (c.make_place.ensures.leaves.geometry ∙ c.make_room.ensures.leaves.geometry)) c.requires.sector
+
+pub make_room-requires-clause-safe : goal.make_room-requires-clause-safe
+make_room-requires-clause-safe g c = c.requires.safe
+
+pub make_room-requires-clause-going : goal.make_room-requires-clause-going
+make_room-requires-clause-going g c = c.requires.going
+
+pub make_room-requires-clause-calm : goal.make_room-requires-clause-calm
+make_room-requires-clause-calm g c = c.requires.calm

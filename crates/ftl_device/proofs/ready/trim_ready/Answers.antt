@@ -1,10 +1,11 @@
-use Rattle.std.proofs.Common.{◌∙◌, Ok, Err, refl, ap, subst}
+use Rattle.std.proofs.Common.{◌∙◌, Ok, Err, refl, ap, subst, ◌<◌, sym}
 use Rattle.std.proofs.lemmas.Result.{err_from_is_err_and}
 use Rattle.page_layout.specs.declared.record.Kind.TheVariants.{Trim}
 use Rattle.page_layout.specs.Array.{zeros}
 use Rattle.collection.specs.Safe.{ram, image_in}
 use Rattle.collection.specs.Stops.{Cuts, IsPutByStop}
 use Rattle.collection.proofs.Beside.{beside_same}
+use Rattle.collection.proofs.Looks.{ok_not_bus}
 use Rattle.ftl_device.proofs.ReadyLemmas.{written_ready}
 use Rattle.ftl_device.proofs.CostLemmas.{cost_of}
 use Rattle.ftl_device.proofs.EndLemmas.{ends_page, readies_kept, readies_page, looked_up_before}
@@ -12,6 +13,8 @@ use Rattle.ftl_device.proofs.FlushLoops.{engine_refused}
 use Rattle.ftl_device.specs.Calls.{HasPage}
 use Rattle.ftl_device.proofs.FlushStepLemmas.{page_held}
 use Rattle.ftl_device.proofs.StoppedLemmas.{puts_none, puts_on}
+use Rattle.ftl_device.proofs.AnswerLemmas.{no_err, engine_bus}
+use Rattle.page_layout.specs.declared.geometry.Geometry.{Geometry}
 use Rattle.ftl_device.proofs.ready.trim_ready.Goals as goal
 
 -- ---- it was not made ready
@@ -45,17 +48,6 @@ returns-in_err-trim_sector-clause-ends g c =
     c.trim_sector.ensures.moved c.trim_sector.ensures.no_more.limits) c.trim_sector.ensures.no_more (Err _)
     c.in_err-trim_sector.ensures.stands.fault c.in_err-trim_sector.ensures.stands.rose c.in_err-trim_sector.ensures.cost
     c.in_err-trim_sector.ensures.stands.went (λ honest k. c.in_ok-make_ready.ensures.truth honest k) c.in_err-trim_sector.ensures.stops)
-
-pub returns-in_err-trim_sector-clause-cut : goal.returns-in_err-trim_sector-clause-cut
-returns-in_err-trim_sector-clause-cut g c =
-    let p = err_from_is_err_and c.from_residual-in_err-trim_sector.result c.from_residual-in_err-trim_sector.ensures.1 in
-    rw (p.1, p.2) (λ honest k bus.
-    let kept = c.in_ok-make_ready.ensures.truth honest k in
-    let put = puts_on g.N.PageSource.view c.args.engine.now c.make_ready.new.engine c.trim_sector.new.self c.in_ok-make_ready.ensures.ends.geometry c.in_ok-make_ready.ensures.ends.limits kept.array
-    (c.in_ok-make_ready.ensures.ends.stops honest k (λ e. (let no : ⊥ = cc in no))) Trim c.args.sector (zeros c.make_ready.new.engine.geometry)
-    (c.in_err-trim_sector.ensures.cut (c.in_ok-make_ready.ensures.ends.honest_is ∙ honest) c.in_ok-make_ready.ensures.ends.fault kept.truth.truth (cc)) in
-    subst (λ h. Cuts g.N.PageSource.view (IsPutByStop Trim c.args.sector (zeros h) (ram c.args.engine.now) (image_in g.N.PageSource.view.flash c.args.engine.now)) c.args.engine.now c.trim_sector.new.self)
-    c.in_ok-make_ready.ensures.ends.geometry put)
 
 pub returns-in_err-trim_sector-clause-readies : goal.returns-in_err-trim_sector-clause-readies
 returns-in_err-trim_sector-clause-readies g c =
@@ -126,3 +118,87 @@ returns-clause-truth g c = λ honest well.
     (beside_same (ram c.make_ready.new.engine) (ram c.trim_sector.new.self) c.trim_sector.ensures.pin c.trim_sector.ensures.goes
     c.trim_sector.ensures.moved c.trim_sector.ensures.no_more.limits) kept
     (c.in_ok-trim_sector.ensures.truth (c.in_ok-make_ready.ensures.ends.honest_is ∙ honest) c.in_ok-make_ready.ensures.ends.fault kept.truth.truth)
+
+-- ---- nothing more is said of a refusal
+
+pub returns-in_err-make_ready-clause-cost : goal.returns-in_err-make_ready-clause-cost
+returns-in_err-make_ready-clause-cost g c =
+    let p = err_from_is_err_and c.from_residual.result c.from_residual.ensures.1 in
+    rw p.1 tt
+
+pub returns-in_err-make_ready-clause-checked : goal.returns-in_err-make_ready-clause-checked
+returns-in_err-make_ready-clause-checked g c =
+    let p = err_from_is_err_and c.from_residual.result c.from_residual.ensures.1 in
+    rw p.1 tt
+
+pub returns-in_err-make_ready-clause-page : goal.returns-in_err-make_ready-clause-page
+returns-in_err-make_ready-clause-page g c =
+    let p = err_from_is_err_and c.from_residual.result c.from_residual.ensures.1 in
+    rw p.1 tt
+
+pub returns-in_err-make_ready-clause-newest : goal.returns-in_err-make_ready-clause-newest
+returns-in_err-make_ready-clause-newest g c =
+    let p = err_from_is_err_and c.from_residual.result c.from_residual.ensures.1 in
+    rw p.1 (λ honest w. tt)
+
+pub returns-in_err-trim_sector-clause-cost : goal.returns-in_err-trim_sector-clause-cost
+returns-in_err-trim_sector-clause-cost g c =
+    let p = err_from_is_err_and c.from_residual-in_err-trim_sector.result c.from_residual-in_err-trim_sector.ensures.1 in
+    rw p.1 tt
+
+pub returns-in_err-trim_sector-clause-checked : goal.returns-in_err-trim_sector-clause-checked
+returns-in_err-trim_sector-clause-checked g c =
+    let p = err_from_is_err_and c.from_residual-in_err-trim_sector.result c.from_residual-in_err-trim_sector.ensures.1 in
+    rw p.1 tt
+
+pub returns-in_err-trim_sector-clause-page : goal.returns-in_err-trim_sector-clause-page
+returns-in_err-trim_sector-clause-page g c =
+    let p = err_from_is_err_and c.from_residual-in_err-trim_sector.result c.from_residual-in_err-trim_sector.ensures.1 in
+    rw p.1 tt
+
+pub returns-in_err-trim_sector-clause-newest : goal.returns-in_err-trim_sector-clause-newest
+returns-in_err-trim_sector-clause-newest g c =
+    let p = err_from_is_err_and c.from_residual-in_err-trim_sector.result c.from_residual-in_err-trim_sector.ensures.1 in
+    rw p.1 (λ honest w. tt)
+
+pub returns-in_err-make_ready-clause-truth : goal.returns-in_err-make_ready-clause-truth
+returns-in_err-make_ready-clause-truth g c =
+    let p = err_from_is_err_and c.from_residual.result c.from_residual.ensures.1 in
+    rw (p.1, p.2) c.in_err-make_ready.ensures.truth
+
+pub returns-clause-cut : goal.returns-clause-cut
+returns-clause-cut g c = λ honest w bus. absurd (no_err _ _ _ refl bus)
+
+-- ---- what the calls want
+
+pub make_ready-requires-clause-safe : goal.make_ready-requires-clause-safe
+make_ready-requires-clause-safe g c = c.requires.safe
+
+pub make_ready-requires-clause-going : goal.make_ready-requires-clause-going
+make_ready-requires-clause-going g c = c.requires.going
+
+pub make_ready-requires-clause-calm : goal.make_ready-requires-clause-calm
+make_ready-requires-clause-calm g c = c.requires.calm
+
+pub make_ready-requires-clause-sector : goal.make_ready-requires-clause-sector
+make_ready-requires-clause-sector g c = c.requires.sector
+
+pub trim_sector-requires-clause-safe : goal.trim_sector-requires-clause-safe
+trim_sector-requires-clause-safe g c = c.in_ok-make_ready.ensures.ends.safe
+
+pub trim_sector-requires-clause-sector : goal.trim_sector-requires-clause-sector
+trim_sector-requires-clause-sector g c = subst (λ (geometry : Geometry). c.args.sector < geometry.sectors) (sym c.in_ok-make_ready.ensures.ends.geometry) c.requires.sector
+
+pub trim_sector-requires-clause-cached : goal.trim_sector-requires-clause-cached
+trim_sector-requires-clause-cached g c = c.in_ok-make_ready.ensures.holds
+
+pub returns-in_err-trim_sector-clause-cut : goal.returns-in_err-trim_sector-clause-cut
+returns-in_err-trim_sector-clause-cut g c =
+    let p = err_from_is_err_and c.from_residual-in_err-trim_sector.result c.from_residual-in_err-trim_sector.ensures.1 in
+    rw (p.1, p.2) (λ honest k bus.
+    let kept = c.in_ok-make_ready.ensures.truth honest k in
+    let put = puts_on g.N.PageSource.view c.args.engine.now c.make_ready.new.engine c.trim_sector.new.self c.in_ok-make_ready.ensures.ends.geometry c.in_ok-make_ready.ensures.ends.limits kept.array
+    (c.in_ok-make_ready.ensures.ends.stops honest k (λ e. (let no : ⊥ = cc in no))) Trim c.args.sector (zeros c.make_ready.new.engine.geometry)
+    (c.in_err-trim_sector.ensures.cut (c.in_ok-make_ready.ensures.ends.honest_is ∙ honest) c.in_ok-make_ready.ensures.ends.fault kept.truth.truth (cc)) in
+    subst (λ h. Cuts g.N.PageSource.view (IsPutByStop Trim c.args.sector (zeros h) (ram c.args.engine.now) (image_in g.N.PageSource.view.flash c.args.engine.now)) c.args.engine.now c.trim_sector.new.self)
+    c.in_ok-make_ready.ensures.ends.geometry put)

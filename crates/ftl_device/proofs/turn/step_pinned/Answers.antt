@@ -5,6 +5,8 @@ use Rattle.ftl_device.proofs.RoomLemmas.{good_fewer}
 use Rattle.ftl_device.proofs.LeaveLemmas.{leaves_by, leaves_done, leaves_refused}
 use Rattle.ftl_device.proofs.StepLemmas.{some_pin, pinned_half, step_goes_on, step_told, step_counted, step_stuck, risen_told, step_worked, step_less, step_keeps, step_bad, step_refused}
 use Rattle.ftl_device.proofs.TurnedLemmas.{gone_pinned}
+use Rattle.collection.proofs.Looks.{ok_not_bus}
+use Rattle.ftl_device.proofs.ReadRefusals.{not_both}
 use Rattle.ftl_device.proofs.turn.step_pinned.Goals as goal
 
 -- it was refused
@@ -26,7 +28,7 @@ returns-in_err-step-clause-collects g c =
     rw (p.1, p.2) (record {
       leaves = leaves;
       limits = a.keys.limits;
-      calm_memory = λ none. (let stands = leaves.fault in let no : ⊥ = cc in absurd no);
+      calm_memory = λ none. absurd (not_both _ _ leaves.fault none);
       goes = goes;
       counts = step_stuck old new _ a.cost;
       risen = tt;
@@ -49,7 +51,7 @@ returns-clause-collects g c =
           (leaves_by g.N.PageSource.view c.args.engine.now
           c.step.new.self (Ok _) c.requires.going t a.goes.geometry (good_fewer old new c.requires.safe.memory t.safe.memory goes)
           (λ honest k ne. c.in_ok-step.ensures.stops honest c.requires.going k.truth k.passed ne)
-          (λ honest k bus. (let no : ⊥ = cc in absurd no)));
+          (λ honest k bus. absurd (ok_not_bus _ bus)));
       limits = a.keys.limits;
       calm_memory = λ none. calm;
       goes = goes;
@@ -77,3 +79,28 @@ returns-clause-less g c = λ honest k.
     let q = some_pin c.args.engine.now.pinned c.requires.pinned in
     let a = c.in_ok-step.ensures.advances c.requires.going q.0 q.1 in
     step_less q.0 (ram c.args.engine.now) (ram c.step.new.self) _ _ _ _ _ c.requires.safe.memory k q.1 a.cost a.erases_are (a.truth honest k.truth (k.passed q.0 q.1))
+
+-- nothing more is said of it
+
+pub returns-in_err-step-clause-gone_on : goal.returns-in_err-step-clause-gone_on
+returns-in_err-step-clause-gone_on g c =
+    let p = err_from_is_err_and c.from_residual.result c.from_residual.ensures.1 in
+    rw p.1 tt
+
+pub returns-in_err-step-clause-worked : goal.returns-in_err-step-clause-worked
+returns-in_err-step-clause-worked g c =
+    let p = err_from_is_err_and c.from_residual.result c.from_residual.ensures.1 in
+    rw p.1 tt
+
+pub returns-in_err-step-clause-less : goal.returns-in_err-step-clause-less
+returns-in_err-step-clause-less g c =
+    let p = err_from_is_err_and c.from_residual.result c.from_residual.ensures.1 in
+    rw p.1 (λ honest w. tt)
+
+-- ---- what the calls want
+
+pub step-requires-clause-safe : goal.step-requires-clause-safe
+step-requires-clause-safe g c = c.requires.safe
+
+pub step-requires-clause-pinned : goal.step-requires-clause-pinned
+step-requires-clause-pinned g c = c.requires.pinned

@@ -1,7 +1,8 @@
-use Rattle.std.proofs.Common.{◌∙◌, Ok, Err, refl, arith}
+use Rattle.std.proofs.Common.{◌∙◌, Ok, Err, refl, ap}
 use Rattle.std.proofs.lemmas.Result.{err_from_is_err_and}
 use Rattle.collection.specs.Safe.{ram}
 use Rattle.collection.proofs.Lefts.{calm_law}
+use Rattle.collection.proofs.Looks.{ok_not_bus}
 use Rattle.ftl_device.proofs.FlushLoops.{limits_then, engine_keeps, keeps_then, keeps_refused}
 use Rattle.ftl_device.proofs.RoomLemmas.{rescued_by, rescue_told, keeps_room, refused_room, rescue_worked}
 use Rattle.ftl_device.proofs.SpentLemmas.{rescue_short, rescue_stuck, unroomed_short}
@@ -10,6 +11,7 @@ use Rattle.ftl_device.proofs.StoppedLemmas.{cuts_on}
 use Rattle.ftl_device.proofs.StepLemmas.{no_rescue, resting, moved_less, rescue_refused, step_short, step_short_of, quiet_then, fallen_then, none_worked, rescue_falls, collected_rescued, rescue_works}
 use Rattle.ftl_device.proofs.TurnedLemmas.{rescue_turned, collect_turned}
 use Rattle.ftl_device.proofs.BringLemmas.{made_room, lowest_by, lowest_none}
+use Rattle.ftl_device.proofs.AnswerLemmas.{no_true, no_err, no_memory, engine_bus, call_of_turn}
 use Rattle.ftl_device.proofs.turn.turn_ready.Goals as goal
 
 -- ---- no room was made
@@ -63,8 +65,8 @@ returns-in_err-rescue_one-clause-cut g c =
     rw (p.1, p.2) (λ honest k bus.
     let knows = c.in_ok-make_room.ensures.pinned honest k in
     cuts_on g.N.PageSource.view c.args.engine.now c.make_room.new.engine c.rescue_one.new.self c.make_room.ensures.leaves.geometry c.make_room.ensures.keys.limits (c.in_ok-make_room.ensures.truth honest k).array
-    (c.in_ok-make_room.ensures.leaves.stops honest k (λ e. (let no : ⊥ = cc in no)))
-    (c.in_err-rescue_one.ensures.cut (c.make_room.ensures.leaves.honest_is ∙ honest) c.in_ok-make_room.ensures.leaves.fault knows.truth (cc)))
+    (c.in_ok-make_room.ensures.leaves.stops honest k (ok_not_bus _))
+    (c.in_err-rescue_one.ensures.cut (c.make_room.ensures.leaves.honest_is ∙ honest) c.in_ok-make_room.ensures.leaves.fault knows.truth (engine_bus _ _ _ refl refl bus)))
 
 pub returns-in_err-rescue_one-clause-ends : goal.returns-in_err-rescue_one-clause-ends
 returns-in_err-rescue_one-clause-ends g c =
@@ -117,7 +119,7 @@ returns-then-needs_rescue-clause-turned g c = record {
 pub returns-then-needs_rescue-clause-lowest : goal.returns-then-needs_rescue-clause-lowest
 returns-then-needs_rescue-clause-lowest g c = λ honest w.
     let room = c.in_ok-make_room.ensures.truth honest w in
-    let made = made_room g.N.PageSource.view c.args.engine.now c.make_room.new.engine c.in_ok-make_room.ensures.made (λ nine. (c.make_room.ensures.rests nine).1) room (c.in_ok-make_room.ensures.leaves.went honest (λ bus. (let no : ⊥ = cc in no))) in
+    let made = made_room g.N.PageSource.view c.args.engine.now c.make_room.new.engine c.in_ok-make_room.ensures.made (λ nine. (c.make_room.ensures.rests nine).1) room (c.in_ok-make_room.ensures.leaves.went honest (ok_not_bus _)) in
     let one = c.in_ok-rescue_one.ensures.truth (c.make_room.ensures.leaves.honest_is ∙ honest) c.in_ok-make_room.ensures.leaves.fault room.truth (moved_less (ram c.make_room.new.engine) _ (c.in_ok-make_room.ensures.pinned honest w)) in
     lowest_by g.N.PageSource.view c.args.engine.now c.make_room.new.engine c.rescue_one.new.self c.in_ok-rescue_one.field-0 made (c.in_ok-rescue_one.ensures.cost c.in_ok-make_room.ensures.leaves.fault) one
 
@@ -150,7 +152,7 @@ returns-then-needs_rescue-clause-ends g c = leaves_ends g.N.PageSource.view c.ar
     c.rescue_one.new.self (Ok _) c.in_ok-make_room.ensures.leaves.fault c.in_ok-rescue_one.ensures.stands c.rescue_one.ensures.goes.geometry
     (rescue_told (Ok _) (ram c.make_room.new.engine) (ram c.rescue_one.new.self) c.make_room.ensures.leaves.safe.memory c.rescue_one.ensures.stands.safe.memory c.rescue_one.ensures.goes (c.in_ok-rescue_one.ensures.cost c.in_ok-make_room.ensures.leaves.fault))
     (λ honest k ne. c.in_ok-rescue_one.ensures.stops honest c.in_ok-make_room.ensures.leaves.fault k.truth ne)
-    (λ honest k bus. (let no : ⊥ = cc in absurd no)))))
+    (λ honest k bus. absurd (ok_not_bus _ bus)))))
     (limits_then _ _ _ c.make_room.ensures.keys.limits c.rescue_one.ensures.keys.limits) (λ none. calm_law (ram c.make_room.new.engine) (ram c.rescue_one.new.self) c.in_ok-rescue_one.ensures.beside c.in_ok-make_room.ensures.made.calm)
 
 -- ---- a step was refused
@@ -180,7 +182,7 @@ returns-in_err-collect_on-clause-cut g c =
     rw (p.1, p.2) (λ honest k bus.
     let knows = c.in_ok-make_room.ensures.pinned honest k in
     cuts_on g.N.PageSource.view c.args.engine.now c.make_room.new.engine c.collect_on.new.engine c.make_room.ensures.leaves.geometry c.make_room.ensures.keys.limits (c.in_ok-make_room.ensures.truth honest k).array
-    (c.in_ok-make_room.ensures.leaves.stops honest k (λ e. (let no : ⊥ = cc in no)))
+    (c.in_ok-make_room.ensures.leaves.stops honest k (ok_not_bus _))
     (leaves_cut g.N.PageSource.view c.make_room.new.engine c.collect_on.new.engine _ c.in_err-collect_on.ensures.collects.leaves (c.make_room.ensures.leaves.honest_is ∙ honest) knows bus))
 
 pub returns-in_err-collect_on-clause-ends : goal.returns-in_err-collect_on-clause-ends
@@ -222,7 +224,7 @@ returns-clause-turned g c = record {
 pub returns-clause-lowest : goal.returns-clause-lowest
 returns-clause-lowest g c = λ honest w.
     let room = c.in_ok-make_room.ensures.truth honest w in
-    let made = made_room g.N.PageSource.view c.args.engine.now c.make_room.new.engine c.in_ok-make_room.ensures.made (λ nine. (c.make_room.ensures.rests nine).1) room (c.in_ok-make_room.ensures.leaves.went honest (λ bus. (let no : ⊥ = cc in no))) in
+    let made = made_room g.N.PageSource.view c.args.engine.now c.make_room.new.engine c.in_ok-make_room.ensures.made (λ nine. (c.make_room.ensures.rests nine).1) room (c.in_ok-make_room.ensures.leaves.went honest (ok_not_bus _)) in
     lowest_none g.N.PageSource.view c.args.engine.now c.make_room.new.engine c.collect_on.new.engine made c.if-needs_rescue.ensures.none
 
 pub returns-clause-quiet : goal.returns-clause-quiet
@@ -251,21 +253,165 @@ returns-clause-ends g c = leaves_ends g.N.PageSource.view
 -- ---- nothing was to be done
 
 pub returns-in_err-make_room-clause-rests : goal.returns-in_err-make_room-clause-rests
-returns-in_err-make_room-clause-rests g c = λ none unpinned twelve. (let failed = (c.in_err-make_room.ensures.rests (omega (arith, twelve))).0 in let never : ⊥ = cc in absurd never)
+returns-in_err-make_room-clause-rests g c = λ none unpinned twelve. absurd (no_true (c.in_err-make_room.ensures.rests (call_of_turn (ram c.args.engine.now) twelve)).0)
 
 pub returns-in_err-rescue_one-clause-rests : goal.returns-in_err-rescue_one-clause-rests
-returns-in_err-rescue_one-clause-rests g c = λ none unpinned twelve. absurd (no_rescue c.args.engine.now c.make_room.new.engine (c.in_ok-make_room.ensures.rests (omega (arith, twelve))).1 none (c.if-needs_rescue.ensures.some))
+returns-in_err-rescue_one-clause-rests g c = λ none unpinned twelve. absurd (no_rescue c.args.engine.now c.make_room.new.engine (c.in_ok-make_room.ensures.rests (call_of_turn (ram c.args.engine.now) twelve)).1 none (c.if-needs_rescue.ensures.some))
 
 pub returns-then-needs_rescue-clause-rests : goal.returns-then-needs_rescue-clause-rests
-returns-then-needs_rescue-clause-rests g c = λ none unpinned twelve. absurd (no_rescue c.args.engine.now c.make_room.new.engine (c.in_ok-make_room.ensures.rests (omega (arith, twelve))).1 none (c.if-needs_rescue.ensures.some))
+returns-then-needs_rescue-clause-rests g c = λ none unpinned twelve. absurd (no_rescue c.args.engine.now c.make_room.new.engine (c.in_ok-make_room.ensures.rests (call_of_turn (ram c.args.engine.now) twelve)).1 none (c.if-needs_rescue.ensures.some))
 
 pub returns-in_err-collect_on-clause-rests : goal.returns-in_err-collect_on-clause-rests
 returns-in_err-collect_on-clause-rests g c = λ none unpinned twelve.
-    (let at = resting c.args.engine.now c.make_room.new.engine (c.in_ok-make_room.ensures.rests (omega (arith, twelve))).1 unpinned twelve in let
-    failed = (c.in_err-collect_on.ensures.rests at.0 at.1).0 in let never : ⊥ = cc in absurd never)
+    let at = resting c.args.engine.now c.make_room.new.engine (c.in_ok-make_room.ensures.rests (call_of_turn (ram c.args.engine.now) twelve)).1 unpinned twelve in
+    absurd (no_true (c.in_err-collect_on.ensures.rests at.0 at.1).0)
 
 pub returns-clause-rests : goal.returns-clause-rests
 returns-clause-rests g c = λ none unpinned twelve.
-    let still = (c.in_ok-make_room.ensures.rests (omega (arith, twelve))).1 in
+    let still = (c.in_ok-make_room.ensures.rests (call_of_turn (ram c.args.engine.now) twelve)).1 in
     let at = resting c.args.engine.now c.make_room.new.engine still unpinned twelve in
     (refl, (c.in_ok-collect_on.ensures.rests at.0 at.1).1 ∙ still)
+
+-- ---- nothing more is said of a refusal
+
+pub returns-in_err-make_room-clause-memory : goal.returns-in_err-make_room-clause-memory
+returns-in_err-make_room-clause-memory g c =
+    let p = err_from_is_err_and c.from_residual.result c.from_residual.ensures.1 in
+    no_memory _ _ (p.1 ∙ ap Err p.2)
+
+pub returns-in_err-make_room-clause-turned : goal.returns-in_err-make_room-clause-turned
+returns-in_err-make_room-clause-turned g c =
+    let p = err_from_is_err_and c.from_residual.result c.from_residual.ensures.1 in
+    rw p.1 tt
+
+pub returns-in_err-make_room-clause-quiet : goal.returns-in_err-make_room-clause-quiet
+returns-in_err-make_room-clause-quiet g c =
+    let p = err_from_is_err_and c.from_residual.result c.from_residual.ensures.1 in
+    rw p.1 (λ honest w. tt)
+
+pub returns-in_err-make_room-clause-rescued : goal.returns-in_err-make_room-clause-rescued
+returns-in_err-make_room-clause-rescued g c =
+    let p = err_from_is_err_and c.from_residual.result c.from_residual.ensures.1 in
+    rw p.1 (λ honest w. tt)
+
+pub returns-in_err-make_room-clause-lowest : goal.returns-in_err-make_room-clause-lowest
+returns-in_err-make_room-clause-lowest g c =
+    let p = err_from_is_err_and c.from_residual.result c.from_residual.ensures.1 in
+    rw p.1 (λ honest w. tt)
+
+pub returns-in_err-make_room-clause-falls : goal.returns-in_err-make_room-clause-falls
+returns-in_err-make_room-clause-falls g c =
+    let p = err_from_is_err_and c.from_residual.result c.from_residual.ensures.1 in
+    rw p.1 (λ honest w none. tt)
+
+pub returns-in_err-make_room-clause-worked : goal.returns-in_err-make_room-clause-worked
+returns-in_err-make_room-clause-worked g c =
+    let p = err_from_is_err_and c.from_residual.result c.from_residual.ensures.1 in
+    rw p.1 (λ honest w some. tt)
+
+pub returns-in_err-rescue_one-clause-memory : goal.returns-in_err-rescue_one-clause-memory
+returns-in_err-rescue_one-clause-memory g c =
+    let p = err_from_is_err_and c.from_residual-in_err-rescue_one.result c.from_residual-in_err-rescue_one.ensures.1 in
+    no_memory _ _ (p.1 ∙ ap Err p.2)
+
+pub returns-in_err-rescue_one-clause-turned : goal.returns-in_err-rescue_one-clause-turned
+returns-in_err-rescue_one-clause-turned g c =
+    let p = err_from_is_err_and c.from_residual-in_err-rescue_one.result c.from_residual-in_err-rescue_one.ensures.1 in
+    rw p.1 tt
+
+pub returns-in_err-rescue_one-clause-quiet : goal.returns-in_err-rescue_one-clause-quiet
+returns-in_err-rescue_one-clause-quiet g c =
+    let p = err_from_is_err_and c.from_residual-in_err-rescue_one.result c.from_residual-in_err-rescue_one.ensures.1 in
+    rw p.1 (λ honest w. tt)
+
+pub returns-in_err-rescue_one-clause-rescued : goal.returns-in_err-rescue_one-clause-rescued
+returns-in_err-rescue_one-clause-rescued g c =
+    let p = err_from_is_err_and c.from_residual-in_err-rescue_one.result c.from_residual-in_err-rescue_one.ensures.1 in
+    rw p.1 (λ honest w. tt)
+
+pub returns-in_err-rescue_one-clause-lowest : goal.returns-in_err-rescue_one-clause-lowest
+returns-in_err-rescue_one-clause-lowest g c =
+    let p = err_from_is_err_and c.from_residual-in_err-rescue_one.result c.from_residual-in_err-rescue_one.ensures.1 in
+    rw p.1 (λ honest w. tt)
+
+pub returns-in_err-rescue_one-clause-falls : goal.returns-in_err-rescue_one-clause-falls
+returns-in_err-rescue_one-clause-falls g c =
+    let p = err_from_is_err_and c.from_residual-in_err-rescue_one.result c.from_residual-in_err-rescue_one.ensures.1 in
+    rw p.1 (λ honest w none. tt)
+
+pub returns-in_err-rescue_one-clause-worked : goal.returns-in_err-rescue_one-clause-worked
+returns-in_err-rescue_one-clause-worked g c =
+    let p = err_from_is_err_and c.from_residual-in_err-rescue_one.result c.from_residual-in_err-rescue_one.ensures.1 in
+    rw p.1 (λ honest w some. tt)
+
+pub returns-in_err-collect_on-clause-memory : goal.returns-in_err-collect_on-clause-memory
+returns-in_err-collect_on-clause-memory g c =
+    let p = err_from_is_err_and c.from_residual-in_err-collect_on.result c.from_residual-in_err-collect_on.ensures.1 in
+    no_memory _ _ (p.1 ∙ ap Err p.2)
+
+pub returns-in_err-collect_on-clause-turned : goal.returns-in_err-collect_on-clause-turned
+returns-in_err-collect_on-clause-turned g c =
+    let p = err_from_is_err_and c.from_residual-in_err-collect_on.result c.from_residual-in_err-collect_on.ensures.1 in
+    rw p.1 tt
+
+pub returns-in_err-collect_on-clause-quiet : goal.returns-in_err-collect_on-clause-quiet
+returns-in_err-collect_on-clause-quiet g c =
+    let p = err_from_is_err_and c.from_residual-in_err-collect_on.result c.from_residual-in_err-collect_on.ensures.1 in
+    rw p.1 (λ honest w. tt)
+
+pub returns-in_err-collect_on-clause-rescued : goal.returns-in_err-collect_on-clause-rescued
+returns-in_err-collect_on-clause-rescued g c =
+    let p = err_from_is_err_and c.from_residual-in_err-collect_on.result c.from_residual-in_err-collect_on.ensures.1 in
+    rw p.1 (λ honest w. tt)
+
+pub returns-in_err-collect_on-clause-lowest : goal.returns-in_err-collect_on-clause-lowest
+returns-in_err-collect_on-clause-lowest g c =
+    let p = err_from_is_err_and c.from_residual-in_err-collect_on.result c.from_residual-in_err-collect_on.ensures.1 in
+    rw p.1 (λ honest w. tt)
+
+pub returns-in_err-collect_on-clause-falls : goal.returns-in_err-collect_on-clause-falls
+returns-in_err-collect_on-clause-falls g c =
+    let p = err_from_is_err_and c.from_residual-in_err-collect_on.result c.from_residual-in_err-collect_on.ensures.1 in
+    rw p.1 (λ honest w none. tt)
+
+pub returns-in_err-collect_on-clause-worked : goal.returns-in_err-collect_on-clause-worked
+returns-in_err-collect_on-clause-worked g c =
+    let p = err_from_is_err_and c.from_residual-in_err-collect_on.result c.from_residual-in_err-collect_on.ensures.1 in
+    rw p.1 (λ honest w some. tt)
+
+-- ---- it was done
+
+pub returns-then-needs_rescue-clause-cut : goal.returns-then-needs_rescue-clause-cut
+returns-then-needs_rescue-clause-cut g c = λ honest w bus. absurd (no_err _ _ _ refl bus)
+
+pub returns-then-needs_rescue-clause-memory : goal.returns-then-needs_rescue-clause-memory
+returns-then-needs_rescue-clause-memory g c = λ bad. no_err _ _ _ refl bad
+
+pub returns-clause-cut : goal.returns-clause-cut
+returns-clause-cut g c = λ honest w bus. absurd (no_err _ _ _ refl bus)
+
+pub returns-clause-memory : goal.returns-clause-memory
+returns-clause-memory g c = λ bad. no_err _ _ _ refl bad
+
+-- ---- what the calls want
+
+pub make_room-requires-clause-flushes : goal.make_room-requires-clause-flushes
+make_room-requires-clause-flushes g c = λ e. absurd (no_true e)
+
+pub collect_on-requires-clause-safe : goal.collect_on-requires-clause-safe
+collect_on-requires-clause-safe g c = c.make_room.ensures.leaves.safe
+
+pub collect_on-requires-clause-going : goal.collect_on-requires-clause-going
+collect_on-requires-clause-going g c = c.in_ok-make_room.ensures.leaves.fault
+
+pub collect_on-requires-clause-calm : goal.collect_on-requires-clause-calm
+collect_on-requires-clause-calm g c = c.in_ok-make_room.ensures.made.calm
+
+pub make_room-requires-clause-safe : goal.make_room-requires-clause-safe
+make_room-requires-clause-safe g c = c.requires.safe
+
+pub make_room-requires-clause-going : goal.make_room-requires-clause-going
+make_room-requires-clause-going g c = c.requires.going
+
+pub make_room-requires-clause-calm : goal.make_room-requires-clause-calm
+make_room-requires-clause-calm g c = c.requires.calm

@@ -1,4 +1,4 @@
-use Rattle.std.proofs.Common.{◌∙◌, Ok, Err, length, ap, sym, refl}
+use Rattle.std.proofs.Common.{◌∙◌, Ok, Err, ap, sym, refl}
 use Rattle.std.proofs.lemmas.Result.{err_from_is_err_and}
 use Rattle.page_layout.specs.Counter.{counted}
 use Rattle.collection.specs.Safe.{ram}
@@ -7,7 +7,8 @@ use Rattle.collection.proofs.Memory.{goes_same, goes_then}
 use Rattle.collection.proofs.Looks.{none_from, ok_not_bus}
 use Rattle.collection.proofs.Puts.{refused_then}
 use Rattle.collection.proofs.Copies.{keys_same, keys_then, refreshes_same, refreshes_then}
-use Rattle.collection.proofs.Ledgers.{begun, stepped, still_goes, still_erased, once_erased, room_next, steps_fall, but_then, ends_erased, erased_by, emptied_by, emptied_then, none_due_by, collected_cost, collected_few, less_work, counts_collected, thrifty_erased, thrifty_refused, begins_small, refused_cost, refused_counts, closed_still, released_from, undamaged}
+use Rattle.collection.proofs.Ledgers.{begun, stepped, still_goes, still_erased, once_erased, room_next, steps_fall, but_then, ends_erased, erased_by, emptied_by, emptied_then, none_due_by, collected_cost, collected_few, less_work, counts_collected, thrifty_erased, thrifty_refused}
+use Rattle.collection.proofs.Ledgers.{begins_small, refused_cost, refused_counts, closed_still, released_from, undamaged, within_by}
 use Rattle.collection.proofs.HalfDone.{due_few, due_first, pin_next, pin_erased, few_left, unpinned_few}
 use Rattle.collection.proofs.PageReads.{none_read, read_more, read_all}
 use Rattle.collection.specs.Whole.{next_of}
@@ -287,7 +288,7 @@ returns-in_err-step-clause-cut g c =
     cut_after (ram c.args.self.now) (ram c.steps.self) _ _ _ _ _ sized so.same.array before (c.in_err-step.ensures.cut now so.same.truth (let n = so.none in rw i.goes.geometry n) (err_same _ _ is)))
 
 pub returns-in_default-clause-cut : goal.returns-in_default-clause-cut
-returns-in_default-clause-cut g c = λ _ _ _ h3. cc
+returns-in_default-clause-cut g c = λ _ _ _ is. absurd (ok_not_bus _ is)
 
 pub returns-in_err-step-clause-idle : goal.returns-in_err-step-clause-idle
 returns-in_err-step-clause-idle g c =
@@ -337,3 +338,10 @@ pub returns-in_default-clause-unpinned : goal.returns-in_default-clause-unpinned
 returns-in_default-clause-unpinned g c =
     let e = ends_erased _ c.in_ok-step.step (sym c.next_page-going_on.ensures ∙ none_from c.next_page-going_on.result c.in_default.not-Some) in
     c.in_ok-step.ensures.next ∙ pin_erased c.args.pinned.block _ c.in_ok-step.step e
+
+pub step_on-requires-clause-safe : goal.step_on-requires-clause-safe
+step_on-requires-clause-safe g c = c.steps.invariant.acts.safe
+
+pub next_page-going_on-requires : goal.next_page-going_on-requires
+next_page-going_on-requires g c = within_by c.args.flushing c.args.pinned.block c.steps.first _ (ram c.steps.self) (ram c.step_on.new.self) c.in_ok-step.step
+    (c.pages-pages.ensures ∙ ap (λ x. x.pages) (sym c.steps.invariant.goes.geometry)) c.in_ok-step.ensures.cost

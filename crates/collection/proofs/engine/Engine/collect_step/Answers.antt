@@ -1,4 +1,4 @@
-use Rattle.std.proofs.Common.{◌∙◌, ◌<◌, inr, Ok, replicate, false, None, ap, sym, subst, Some, ◌≡◌, arith, refl, inl, rules}
+use Rattle.std.proofs.Common.{◌∙◌, inr, Ok, replicate, false, None, ap, sym, subst, ◌≡◌, refl, inl}
 use Rattle.std.proofs.lemmas.Result.{err_from_is_err_and}
 use Rattle.page_layout.specs.Change.{HoldsNone}
 use Rattle.page_layout.specs.Geometry.{translation_pages}
@@ -6,7 +6,7 @@ use Rattle.collection.specs.State.{Ram, Pin}
 use Rattle.collection.specs.Safe.{ram, image_in}
 use Rattle.collection.specs.Truth.{IsTrue}
 use Rattle.collection.specs.Results.{Goes, IsImageKept}
-use Rattle.collection.specs.Collect.{HasWritten, HasErased, OwesNone, OwesPage, FaultCosts, IsReleased, GoesBut, due_count}
+use Rattle.collection.specs.Collect.{HasWritten, HasErased, OwesNone, OwesPage, IsReleased, GoesBut}
 use Rattle.collection.proofs.Acts.{acts_then, acts_ok, acts_err}
 use Rattle.collection.proofs.Looks.{none_from, ok_not_bus}
 use Rattle.collection.proofs.Steps.{at_start, err_same, goes_but, found_none, none_now, emptied_written, emptied_erased, refused_written, idle_by, erased_fresh}
@@ -17,6 +17,7 @@ use Rattle.collection.proofs.Cuts.{cut_after}
 use Rattle.page_layout.specs.Counter.{counted}
 use Rattle.collection.proofs.Memory.{goes_same, goes_then}
 use Rattle.collection.proofs.Copies.{refreshes_same, refreshes_then, keys_same, keys_then}
+use Rattle.collection.proofs.Exits.{ok_not_err, err_not_ok, copied_not_erased, written_not_erased, written_not_copied, erased_not_copied, copied_same, bus_not_full, reads_less, reads_kept, reads_written, fault_from}
 use Rattle.collection.proofs.engine.Engine.collect_step.Goals as goal
 
 -- ---- a translation page could not be written
@@ -209,10 +210,10 @@ pub returns-clause-unmoved : goal.returns-clause-unmoved
 returns-clause-unmoved g c = tt
 
 pub returns-clause-owed : goal.returns-clause-owed
-returns-clause-owed g c = λ h0. cc
+returns-clause-owed g c = λ is. absurd (ok_not_err _ _ is)
 
 pub returns-clause-cut : goal.returns-clause-cut
-returns-clause-cut g c = λ _ _ _ h3. cc
+returns-clause-cut g c = λ _ _ _ is. absurd (ok_not_bus _ is)
 
 pub returns-in-Some-clause-acts : goal.returns-in-Some-clause-acts
 returns-in-Some-clause-acts g c = acts_ok _ _ _ _ c.in_ok-copied.ensures.acts
@@ -233,10 +234,10 @@ pub returns-in-Some-clause-erases : goal.returns-in-Some-clause-erases
 returns-in-Some-clause-erases g c = c.in_ok-copied.ensures.erases
 
 pub returns-in-Some-clause-owed : goal.returns-in-Some-clause-owed
-returns-in-Some-clause-owed g c = λ h0. cc
+returns-in-Some-clause-owed g c = λ is. absurd (ok_not_err _ _ is)
 
 pub returns-in-Some-clause-cut : goal.returns-in-Some-clause-cut
-returns-in-Some-clause-cut g c = λ _ _ _ h3. cc
+returns-in-Some-clause-cut g c = λ _ _ _ is. absurd (ok_not_bus _ is)
 
 pub returns-in_err-copied-clause-keys : goal.returns-in_err-copied-clause-keys
 returns-in_err-copied-clause-keys g c = c.copy_lowest.ensures.keys
@@ -250,17 +251,17 @@ returns-in_err-copied-clause-pin g c = c.copy_lowest.ensures.pin
 pub returns-in_err-copied-clause-idle : goal.returns-in_err-copied-clause-idle
 returns-in_err-copied-clause-idle g c =
     let p = err_from_is_err_and c.from_residual.result c.from_residual.ensures.1 in
-    rw (p.1, p.2) (λ h0. cc)
+    λ is. absurd (err_not_ok _ p.1 is)
 
 pub returns-in_err-copied-clause-released : goal.returns-in_err-copied-clause-released
 returns-in_err-copied-clause-released g c =
     let p = err_from_is_err_and c.from_residual.result c.from_residual.ensures.1 in
-    rw (p.1, p.2) (λ h0. cc)
+    λ is. absurd (err_not_ok _ p.1 is)
 
 pub returns-in_err-copied-clause-copied_reads : goal.returns-in_err-copied-clause-copied_reads
 returns-in_err-copied-clause-copied_reads g c =
     let p = err_from_is_err_and c.from_residual.result c.from_residual.ensures.1 in
-    rw (p.1, p.2) (λ _ h1. cc)
+    λ _ is. absurd (err_not_ok _ p.1 is)
 
 pub returns-in_err-copied-clause-cost : goal.returns-in_err-copied-clause-cost
 returns-in_err-copied-clause-cost g c =
@@ -275,27 +276,27 @@ returns-in_err-copied-clause-truth g c =
 pub returns-in_err-copied-clause-touched : goal.returns-in_err-copied-clause-touched
 returns-in_err-copied-clause-touched g c =
     let p = err_from_is_err_and c.from_residual.result c.from_residual.ensures.1 in
-    rw (p.1, p.2) (λ _ _ _ h3. cc)
+    λ _ _ _ is. absurd (err_not_ok _ p.1 is)
 
 pub returns-in_err-erase_block-clause-idle : goal.returns-in_err-erase_block-clause-idle
 returns-in_err-erase_block-clause-idle g c =
     let p = err_from_is_err_and c.from_residual-in_err-erase_block.result c.from_residual-in_err-erase_block.ensures.1 in
-    rw (p.1, p.2) (λ h0. cc)
+    λ is. absurd (err_not_ok _ p.1 is)
 
 pub returns-in_err-erase_block-clause-released : goal.returns-in_err-erase_block-clause-released
 returns-in_err-erase_block-clause-released g c =
     let p = err_from_is_err_and c.from_residual-in_err-erase_block.result c.from_residual-in_err-erase_block.ensures.1 in
-    rw (p.1, p.2) (λ h0. cc)
+    λ is. absurd (err_not_ok _ p.1 is)
 
 pub returns-in_err-erase_block-clause-copied_reads : goal.returns-in_err-erase_block-clause-copied_reads
 returns-in_err-erase_block-clause-copied_reads g c =
     let p = err_from_is_err_and c.from_residual-in_err-erase_block.result c.from_residual-in_err-erase_block.ensures.1 in
-    rw (p.1, p.2) (λ _ h1. cc)
+    λ _ is. absurd (err_not_ok _ p.1 is)
 
 pub returns-in_err-erase_block-clause-touched : goal.returns-in_err-erase_block-clause-touched
 returns-in_err-erase_block-clause-touched g c =
     let p = err_from_is_err_and c.from_residual-in_err-erase_block.result c.from_residual-in_err-erase_block.ensures.1 in
-    rw (p.1, p.2) (λ _ _ _ h3. cc)
+    λ _ _ _ is. absurd (err_not_ok _ p.1 is)
 
 pub returns-in_err-written-clause-keys : goal.returns-in_err-written-clause-keys
 returns-in_err-written-clause-keys g c = keys_then _ _ _ c.copy_lowest.ensures.keys c.write_back_lowest.ensures.keys
@@ -306,22 +307,22 @@ returns-in_err-written-clause-pin g c = c.write_back_lowest.ensures.pin ∙ c.co
 pub returns-in_err-written-clause-idle : goal.returns-in_err-written-clause-idle
 returns-in_err-written-clause-idle g c =
     let p = err_from_is_err_and c.from_residual-in_err-written.result c.from_residual-in_err-written.ensures.1 in
-    rw (p.1, p.2) (λ h0. cc)
+    λ is. absurd (err_not_ok _ p.1 is)
 
 pub returns-in_err-written-clause-released : goal.returns-in_err-written-clause-released
 returns-in_err-written-clause-released g c =
     let p = err_from_is_err_and c.from_residual-in_err-written.result c.from_residual-in_err-written.ensures.1 in
-    rw (p.1, p.2) (λ h0. cc)
+    λ is. absurd (err_not_ok _ p.1 is)
 
 pub returns-in_err-written-clause-copied_reads : goal.returns-in_err-written-clause-copied_reads
 returns-in_err-written-clause-copied_reads g c =
     let p = err_from_is_err_and c.from_residual-in_err-written.result c.from_residual-in_err-written.ensures.1 in
-    rw (p.1, p.2) (λ _ h1. cc)
+    λ _ is. absurd (err_not_ok _ p.1 is)
 
 pub returns-in_err-written-clause-touched : goal.returns-in_err-written-clause-touched
 returns-in_err-written-clause-touched g c =
     let p = err_from_is_err_and c.from_residual-in_err-written.result c.from_residual-in_err-written.ensures.1 in
-    rw (p.1, p.2) (λ _ _ _ h3. cc)
+    λ _ _ _ is. absurd (err_not_ok _ p.1 is)
 
 pub returns-then-written-clause-keys : goal.returns-then-written-clause-keys
 returns-then-written-clause-keys g c = keys_then _ _ _ c.copy_lowest.ensures.keys c.write_back_lowest.ensures.keys
@@ -333,10 +334,10 @@ pub returns-then-written-clause-unmoved : goal.returns-then-written-clause-unmov
 returns-then-written-clause-unmoved g c = tt
 
 pub returns-then-written-clause-owed : goal.returns-then-written-clause-owed
-returns-then-written-clause-owed g c = λ h0. cc
+returns-then-written-clause-owed g c = λ is. absurd (ok_not_err _ _ is)
 
 pub returns-then-written-clause-cut : goal.returns-then-written-clause-cut
-returns-then-written-clause-cut g c = λ _ _ _ h3. cc
+returns-then-written-clause-cut g c = λ _ _ _ is. absurd (ok_not_bus _ is)
 
 pub returns-in-Some-clause-goes : goal.returns-in-Some-clause-goes
 returns-in-Some-clause-goes g c = goes_but _ _ _ c.copy_lowest.ensures.goes
@@ -395,28 +396,28 @@ pub returns-in-Some-clause-goes_still : goal.returns-in-Some-clause-goes_still
 returns-in-Some-clause-goes_still g c = λ _. c.copy_lowest.ensures.goes
 
 pub returns-in-Some-clause-idle : goal.returns-in-Some-clause-idle
-returns-in-Some-clause-idle g c = λ h. cc
+returns-in-Some-clause-idle g c = λ is. absurd (copied_not_erased _ is)
 
 pub returns-in-Some-clause-released : goal.returns-in-Some-clause-released
-returns-in-Some-clause-released g c = λ h. cc
+returns-in-Some-clause-released g c = λ is. absurd (copied_not_erased _ is)
 
 pub returns-then-written-clause-idle : goal.returns-then-written-clause-idle
-returns-then-written-clause-idle g c = λ h. cc
+returns-then-written-clause-idle g c = λ is. absurd (written_not_erased is)
 
 pub returns-then-written-clause-released : goal.returns-then-written-clause-released
-returns-then-written-clause-released g c = λ h. cc
+returns-then-written-clause-released g c = λ is. absurd (written_not_erased is)
 
 pub returns-then-written-clause-copied_reads : goal.returns-then-written-clause-copied_reads
-returns-then-written-clause-copied_reads g c = λ _ h. cc
+returns-then-written-clause-copied_reads g c = λ _ is. absurd (written_not_copied _ is)
 
 pub returns-then-written-clause-touched : goal.returns-then-written-clause-touched
-returns-then-written-clause-touched g c = λ _ _ _ h. cc
+returns-then-written-clause-touched g c = λ _ _ _ is. absurd (written_not_copied _ is)
 
 pub returns-clause-copied_reads : goal.returns-clause-copied_reads
-returns-clause-copied_reads g c = λ _ h. cc
+returns-clause-copied_reads g c = λ _ is. absurd (erased_not_copied _ is)
 
 pub returns-clause-touched : goal.returns-clause-touched
-returns-clause-touched g c = λ _ _ _ h. cc
+returns-clause-touched g c = λ _ _ _ is. absurd (erased_not_copied _ is)
 
 pub returns-clause-goes_still : goal.returns-clause-goes_still
 returns-clause-goes_still g c = λ ne. absurd (ne refl)
@@ -462,9 +463,7 @@ returns-clause-unmarked g c =
 pub returns-clause-reads : goal.returns-clause-reads
 returns-clause-reads g c =
     let none = c.in_ok-written.ensures.none (ap Ok c.if-written.false) in
-    let is = c.erase_block.ensures.reads ∙ ap (λ e. g.N.PageSource.view.reads e.nand) none.1 in
-    let most = c.copy_lowest.ensures.reads in
-    omega arith
+    reads_kept _ _ _ _ _ (c.erase_block.ensures.reads ∙ ap (λ e. g.N.PageSource.view.reads e.nand) none.1) c.copy_lowest.ensures.reads
 
 pub returns-clause-erases : goal.returns-clause-erases
 returns-clause-erases g c =
@@ -482,15 +481,10 @@ pub returns-in-Some-clause-unmarked : goal.returns-in-Some-clause-unmarked
 returns-in-Some-clause-unmarked g c = λ off fresh. ap (λ (p : Pin). p.marks) (c.in_ok-copied.ensures.unmarked off) ∙ fresh
 
 pub returns-in-Some-clause-reads : goal.returns-in-Some-clause-reads
-returns-in-Some-clause-reads g c =
-    let most = c.copy_lowest.ensures.reads in
-    omega arith
+returns-in-Some-clause-reads g c = reads_less _ _ _ _ c.copy_lowest.ensures.reads
 
 pub returns-in-Some-clause-copied_reads : goal.returns-in-Some-clause-copied_reads
-returns-in-Some-clause-copied_reads g c =
-    λ page is.
-    let e : c.in-Some.page ≡ page = cc in
-    c.in_ok-copied.ensures.copied_reads page (c.in-Some.is ∙ ap Some e)
+returns-in-Some-clause-copied_reads g c = λ page is. c.in_ok-copied.ensures.copied_reads page (c.in-Some.is ∙ copied_same _ _ is)
 
 pub returns-in-Some-clause-cost : goal.returns-in-Some-clause-cost
 returns-in-Some-clause-cost g c =
@@ -504,9 +498,7 @@ pub returns-in-Some-clause-touched : goal.returns-in-Some-clause-touched
 returns-in-Some-clause-touched g c = λ honest w page is. rw c.in-Some.is at (c.in_ok-copied.ensures.touched honest w)
 
 pub returns-in_err-copied-clause-reads : goal.returns-in_err-copied-clause-reads
-returns-in_err-copied-clause-reads g c =
-    let most = c.copy_lowest.ensures.reads in
-    omega arith
+returns-in_err-copied-clause-reads g c = reads_less _ _ _ _ c.copy_lowest.ensures.reads
 
 pub returns-in_err-erase_block-clause-goes : goal.returns-in_err-erase_block-clause-goes
 returns-in_err-erase_block-clause-goes g c =
@@ -550,15 +542,12 @@ returns-in_err-erase_block-clause-unmoved g c =
 pub returns-in_err-erase_block-clause-reads : goal.returns-in_err-erase_block-clause-reads
 returns-in_err-erase_block-clause-reads g c =
     let none = c.in_ok-written.ensures.none (ap Ok c.if-written.false) in
-    let is = c.erase_block.ensures.reads ∙ ap (λ e. g.N.PageSource.view.reads e.nand) none.1 in
-    let most = c.copy_lowest.ensures.reads in
-    omega arith
+    reads_kept _ _ _ _ _ (c.erase_block.ensures.reads ∙ ap (λ e. g.N.PageSource.view.reads e.nand) none.1) c.copy_lowest.ensures.reads
 
 pub returns-in_err-erase_block-clause-owed : goal.returns-in_err-erase_block-clause-owed
 returns-in_err-erase_block-clause-owed g c =
     let p = err_from_is_err_and c.from_residual-in_err-erase_block.result c.from_residual-in_err-erase_block.ensures.1 in
-    let bus = c.in_err-erase_block.ensures.bus in
-    rw (p.1, p.2) (λ is. cc)
+    rw (p.1, p.2) (λ is. absurd (bus_not_full _ c.in_err-erase_block.ensures.bus is))
 
 pub returns-in_err-erase_block-clause-cost : goal.returns-in_err-erase_block-clause-cost
 returns-in_err-erase_block-clause-cost g c =
@@ -592,7 +581,10 @@ pub returns-then-written-clause-erases : goal.returns-then-written-clause-erases
 returns-then-written-clause-erases g c = c.write_back_lowest.ensures.erases ∙ c.copy_lowest.ensures.erases
 
 pub returns-in_err-written-clause-cost : goal.returns-in_err-written-clause-cost
-returns-in_err-written-clause-cost g c = search rules
+returns-in_err-written-clause-cost g c =
+    let same = c.in_ok-copied.ensures.none (ap Ok (none_from c.in_ok-copied.copied c.in_default.not-Some)) in
+    let p = err_from_is_err_and c.from_residual-in_err-written.result c.from_residual-in_err-written.ensures.1 in
+    rw (p.1, p.2) (fault_from (ram c.args.self.now) (ram c.copy_lowest.new.self) (ram c.write_back_lowest.new.self) _ same c.in_err-written.ensures.cost)
 
 pub returns-in_err-erase_block-clause-refreshes : goal.returns-in_err-erase_block-clause-refreshes
 returns-in_err-erase_block-clause-refreshes g c =
@@ -600,3 +592,37 @@ returns-in_err-erase_block-clause-refreshes g c =
     let none = c.in_ok-written.ensures.none (ap Ok c.if-written.false) in
     let all = c.in_err-erase_block.ensures.refused ∙ (ap (λ e. ram e) none.1 ∙ same) in
     λ on. refreshes_same _ _ (ap (λ (r : Ram). r.mapping) all) (ap (λ (r : Ram). r.pin) all)
+
+pub returns-in_err-copied-clause-brought : goal.returns-in_err-copied-clause-brought
+returns-in_err-copied-clause-brought g c =
+    let p = err_from_is_err_and c.from_residual.result c.from_residual.ensures.1 in
+    λ _ is. absurd (err_not_ok _ p.1 is)
+
+pub returns-in_err-erase_block-clause-brought : goal.returns-in_err-erase_block-clause-brought
+returns-in_err-erase_block-clause-brought g c =
+    let p = err_from_is_err_and c.from_residual-in_err-erase_block.result c.from_residual-in_err-erase_block.ensures.1 in
+    λ _ is. absurd (err_not_ok _ p.1 is)
+
+pub returns-in_err-written-clause-brought : goal.returns-in_err-written-clause-brought
+returns-in_err-written-clause-brought g c =
+    let p = err_from_is_err_and c.from_residual-in_err-written.result c.from_residual-in_err-written.ensures.1 in
+    λ _ is. absurd (err_not_ok _ p.1 is)
+
+pub returns-then-written-clause-brought : goal.returns-then-written-clause-brought
+returns-then-written-clause-brought g c = λ _ is. absurd (written_not_copied _ is)
+
+pub returns-clause-brought : goal.returns-clause-brought
+returns-clause-brought g c = λ _ is. absurd (erased_not_copied _ is)
+
+pub returns-in_err-written-clause-reads : goal.returns-in_err-written-clause-reads
+returns-in_err-written-clause-reads g c =
+    let same = c.in_ok-copied.ensures.none (ap Ok (none_from c.in_ok-copied.copied c.in_default.not-Some)) in
+    reads_written c.args.flushing (ram c.args.self.now) (ram c.copy_lowest.new.self) _ _ _ _ same c.copy_lowest.ensures.reads c.write_back_lowest.ensures.reads
+
+pub returns-then-written-clause-reads : goal.returns-then-written-clause-reads
+returns-then-written-clause-reads g c =
+    let same = c.in_ok-copied.ensures.none (ap Ok (none_from c.in_ok-copied.copied c.in_default.not-Some)) in
+    reads_written c.args.flushing (ram c.args.self.now) (ram c.copy_lowest.new.self) _ _ _ _ same c.copy_lowest.ensures.reads c.write_back_lowest.ensures.reads
+
+pub returns-in-Some-clause-brought : goal.returns-in-Some-clause-brought
+returns-in-Some-clause-brought g c = λ page is. c.in_ok-copied.ensures.brought page (c.in-Some.is ∙ copied_same _ _ is)

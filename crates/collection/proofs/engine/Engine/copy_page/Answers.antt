@@ -1,15 +1,21 @@
-use Rattle.std.proofs.Common.{◌∙◌, ap}
+use Rattle.std.proofs.Common.{◌∙◌, ap, sym, subst, ◌<◌}
 use Rattle.std.proofs.lemmas.Result.{err_from_is_err_and}
 use Rattle.page_layout.specs.Key.{key_of}
 use Rattle.budget.specs.Stream.{stream_of}
 use Rattle.collection.specs.Safe.{ram, page_in}
-use Rattle.collection.proofs.Copies.{may_copy, moved_out, renewed_by, renewed_marked, marked_at, last_marked, goes_marked, cost_marked, refreshes_marked, moved_marked}
+use Rattle.collection.proofs.Copies.{may_copy, moved_out, renewed_by, renewed_marked, marked_at, last_marked, goes_marked, cost_marked, refreshes_marked, moved_marked, place_any, keys_set, keys_same, refreshes_same, fault_costs}
 use Rattle.collection.proofs.Copies.{pin_marked, followed, moves_one}
 use Rattle.collection.proofs.Lefts.{copied_touches}
 use Rattle.collection.proofs.Looks.{ok_not_bus}
 use Rattle.collection.proofs.Costs.{not_bus}
 use Rattle.collection.proofs.Cuts.{cut_put, copied_array}
 use Rattle.collection.proofs.Steps.{err_same}
+use Rattle.page_layout.specs.Geometry.{row_count}
+use Rattle.page_layout.specs.Live.{IsKeyOf}
+use Rattle.collection.specs.Settle.{SetsMapping}
+use Rattle.collection.specs.Collect.{KeepsKeys}
+use Rattle.collection.proofs.Acts.{acts_err}
+use Rattle.collection.proofs.Afters.{acts_on, programs_on, for_some}
 use Rattle.collection.proofs.engine.Engine.copy_page.Goals as goal
 
 pub returns-in_err-replace-clause-truth : goal.returns-in_err-replace-clause-truth
@@ -102,3 +108,91 @@ returns-in_err-replace-clause-cut g c =
     let body = c.args.self.now.page.body.items in
     cut_put c.args.found.now.kind c.args.found.now.number body r _ _ _ (copied_array r.geometry old c.args.row c.args.found.now body c.requires.key live)
     (c.in_err-replace.ensures.cut honest (may_copy r _ c.args.row c.args.found.now _ w c.requires.key live) (err_same _ _ is)))
+
+pub replace-requires-clause-safe : goal.replace-requires-clause-safe
+replace-requires-clause-safe g c = c.requires.safe
+
+pub replace-requires-clause-key : goal.replace-requires-clause-key
+replace-requires-clause-key g c = c.requires.key
+
+pub replace-requires-clause-place : goal.replace-requires-clause-place
+replace-requires-clause-place g c = place_any (ram c.args.self.now) (key_of c.args.found.now) c.requires.safe.memory c.requires.room
+
+pub replace-requires-clause-old_row : goal.replace-requires-clause-old_row
+replace-requires-clause-old_row g c = for_some (λ r. r < row_count c.args.self.now.geometry) c.args.row c.requires.row
+
+pub mark-requires-clause-safe : goal.mark-requires-clause-safe
+mark-requires-clause-safe g c = c.replace.ensures.acts.safe
+
+pub mark-requires-clause-key : goal.mark-requires-clause-key
+mark-requires-clause-key g c = subst (IsKeyOf c.replace.new.self.geometry) (sym c.key.ensures) (subst (λ x. IsKeyOf x (key_of c.args.found.now)) (sym c.replace.ensures.goes.geometry) c.requires.key)
+
+pub returns-clause-acts : goal.returns-clause-acts
+returns-clause-acts g c = acts_on c.args.self.now c.replace.new.self c.mark.new.self c.in_ok-replace.field-0 _ c.mark.ensures.safe (ap (λ r. r.fault) c.mark.ensures.marked)
+    (ap (λ r. r.blocks) c.mark.ensures.marked) (ap (λ r. r.next) c.mark.ensures.marked) c.mark.ensures.nand c.in_ok-replace.ensures.acts
+
+pub returns-clause-only_programs : goal.returns-clause-only_programs
+returns-clause-only_programs g c = programs_on g.N.PageSource.view c.args.self.now.nand c.replace.new.self.nand _ c.mark.ensures.nand c.replace.ensures.only_programs
+
+pub returns-clause-keys : goal.returns-clause-keys
+returns-clause-keys g c = subst (KeepsKeys c.args.self.now.mapping) (sym (ap (λ r. r.mapping) c.mark.ensures.marked)) (keys_set (key_of c.args.found.now) c.in_ok-replace.field-0 _ _ c.in_ok-replace.ensures.mapping)
+
+pub returns-clause-pin : goal.returns-clause-pin
+returns-clause-pin g c = ap (λ r. r.pin.block) c.mark.ensures.marked ∙ ap (λ p. p.block) c.replace.ensures.pin
+
+pub returns-clause-settled : goal.returns-clause-settled
+returns-clause-settled g c = (c.in_ok-replace.field-0, subst (SetsMapping (key_of c.args.found.now) c.in_ok-replace.field-0 c.args.self.now.mapping) (sym (ap (λ r. r.mapping) c.mark.ensures.marked)) c.in_ok-replace.ensures.mapping)
+
+pub returns-clause-unmoved : goal.returns-clause-unmoved
+returns-clause-unmoved g c = tt
+
+pub returns-clause-cut : goal.returns-clause-cut
+returns-clause-cut g c = λ _ _ _ e. absurd (ok_not_bus _ e)
+
+pub returns-in_err-replace-clause-acts : goal.returns-in_err-replace-clause-acts
+returns-in_err-replace-clause-acts g c =
+    let p = err_from_is_err_and c.from_residual.result c.from_residual.ensures.1 in
+    rw (p.1, p.2) (acts_err _ _ _ c.in_err-replace.ensures.acts)
+
+pub returns-in_err-replace-clause-goes : goal.returns-in_err-replace-clause-goes
+returns-in_err-replace-clause-goes g c = c.replace.ensures.goes
+
+pub returns-in_err-replace-clause-only_programs : goal.returns-in_err-replace-clause-only_programs
+returns-in_err-replace-clause-only_programs g c = c.replace.ensures.only_programs
+
+pub returns-in_err-replace-clause-keys : goal.returns-in_err-replace-clause-keys
+returns-in_err-replace-clause-keys g c = keys_same _ _ c.in_err-replace.ensures.mapping
+
+pub returns-in_err-replace-clause-refreshes : goal.returns-in_err-replace-clause-refreshes
+returns-in_err-replace-clause-refreshes g c = λ _. refreshes_same (ram c.args.self.now) (ram c.replace.new.self) c.in_err-replace.ensures.mapping c.replace.ensures.pin
+
+pub returns-in_err-replace-clause-cost : goal.returns-in_err-replace-clause-cost
+returns-in_err-replace-clause-cost g c =
+    let p = err_from_is_err_and c.from_residual.result c.from_residual.ensures.1 in
+    rw (p.1, p.2) (fault_costs (stream_of c.args.found.now.kind) (ram c.args.self.now) (ram c.replace.new.self) _ c.in_err-replace.ensures.cost)
+
+pub returns-in_err-replace-clause-pinned : goal.returns-in_err-replace-clause-pinned
+returns-in_err-replace-clause-pinned g c = λ _. c.replace.ensures.pin
+
+pub returns-in_err-replace-clause-pin : goal.returns-in_err-replace-clause-pin
+returns-in_err-replace-clause-pin g c = ap (λ p. p.block) c.replace.ensures.pin
+
+pub returns-in_err-replace-clause-settled : goal.returns-in_err-replace-clause-settled
+returns-in_err-replace-clause-settled g c =
+    let p = err_from_is_err_and c.from_residual.result c.from_residual.ensures.1 in
+    rw p.1 (tt)
+
+pub returns-in_err-replace-clause-unmoved : goal.returns-in_err-replace-clause-unmoved
+returns-in_err-replace-clause-unmoved g c =
+    let p = err_from_is_err_and c.from_residual.result c.from_residual.ensures.1 in
+    rw p.1 c.in_err-replace.ensures.mapping
+
+pub returns-in_err-replace-clause-touched : goal.returns-in_err-replace-clause-touched
+returns-in_err-replace-clause-touched g c =
+    let p = err_from_is_err_and c.from_residual.result c.from_residual.ensures.1 in
+    rw p.1 (λ _ _ _ _. tt)
+
+pub returns-in_err-replace-clause-programmed : goal.returns-in_err-replace-clause-programmed
+returns-in_err-replace-clause-programmed g c =
+    let p = err_from_is_err_and c.from_residual.result c.from_residual.ensures.1 in
+    rw p.1 (tt)

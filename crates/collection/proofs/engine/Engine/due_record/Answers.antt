@@ -1,7 +1,12 @@
 use Rattle.std.proofs.Common.{◌∙◌, sym, subst}
 use Rattle.collection.specs.Safe.{page_in}
 use Rattle.collection.specs.Live.{LooksAt}
-use Rattle.collection.proofs.Renews.{due_page, no_due_page}
+use Rattle.collection.proofs.Renews.{due_page, no_due_page, none_at}
+use Rattle.std.proofs.lemmas.Result.{err_from_is_err_and}
+use Rattle.collection.proofs.Acts.{looks_ok}
+use Rattle.collection.proofs.Looks.{none_from}
+use Rattle.collection.proofs.Finds.{at_none}
+use Rattle.collection.proofs.Exits.{none_not_some}
 use Rattle.collection.proofs.engine.Engine.due_record.Goals as goal
 
 pub returns-then-is_due-clause-truth : goal.returns-then-is_due-clause-truth
@@ -17,3 +22,45 @@ returns-else-is_due-clause-truth g c = λ honest w.
     let page = c.live_record.new.self.page in
     let live = subst (LooksAt c.args.row page.body.items image) c.in-Some.is (c.in_ok-live.ensures.truth honest w) in
     no_due_page image c.args.row (page_in page) c.in-Some.found page.body.items (c.in_ok-live.ensures.stands honest) live (sym c.is_due.ensures ∙ c.if-is_due.false)
+
+pub returns-in_err-live-clause-looks : goal.returns-in_err-live-clause-looks
+returns-in_err-live-clause-looks g c =
+    let p = err_from_is_err_and c.from_residual.result c.from_residual.ensures.1 in
+    rw (p.1, p.2) (c.in_err-live.ensures.looks)
+
+pub returns-in_err-live-clause-checked : goal.returns-in_err-live-clause-checked
+returns-in_err-live-clause-checked g c =
+    let p = err_from_is_err_and c.from_residual.result c.from_residual.ensures.1 in
+    rw p.1 tt
+
+pub returns-in_err-live-clause-truth : goal.returns-in_err-live-clause-truth
+returns-in_err-live-clause-truth g c =
+    let p = err_from_is_err_and c.from_residual.result c.from_residual.ensures.1 in
+    rw (p.1, p.2) (c.in_err-live.ensures.truth)
+
+pub returns-in_default-clause-looks : goal.returns-in_default-clause-looks
+returns-in_default-clause-looks g c = looks_ok _ _ _ _ c.in_ok-live.ensures.looks
+
+pub returns-in_default-clause-checked : goal.returns-in_default-clause-checked
+returns-in_default-clause-checked g c = λ _ is. absurd (none_not_some _ is)
+
+pub returns-in_default-clause-truth : goal.returns-in_default-clause-truth
+returns-in_default-clause-truth g c = λ honest w. none_at _ c.args.row (at_none c.args.row _ _ c.in_ok-live.live (c.in_ok-live.ensures.truth honest w) (none_from c.in_ok-live.live c.in_default.not-Some))
+
+pub returns-then-is_due-clause-looks : goal.returns-then-is_due-clause-looks
+returns-then-is_due-clause-looks g c = looks_ok _ _ _ _ c.in_ok-live.ensures.looks
+
+pub returns-then-is_due-clause-checked : goal.returns-then-is_due-clause-checked
+returns-then-is_due-clause-checked g c = λ x is. c.in_ok-live.ensures.checked x (c.in-Some.is ∙ is)
+
+pub returns-else-is_due-clause-looks : goal.returns-else-is_due-clause-looks
+returns-else-is_due-clause-looks g c = looks_ok _ _ _ _ c.in_ok-live.ensures.looks
+
+pub returns-else-is_due-clause-checked : goal.returns-else-is_due-clause-checked
+returns-else-is_due-clause-checked g c = λ _ is. absurd (none_not_some _ is)
+
+pub live_record-requires-clause-safe : goal.live_record-requires-clause-safe
+live_record-requires-clause-safe g c = c.requires.safe
+
+pub live_record-requires-clause-row : goal.live_record-requires-clause-row
+live_record-requires-clause-row g c = c.requires.row

@@ -1,17 +1,18 @@
-use Rattle.std.proofs.Common.{◌∙◌, ap, arith, rules}
+use Rattle.std.proofs.Common.{◌∙◌, ap, sym, subst, ◌<◌}
 use Rattle.std.proofs.lemmas.Result.{err_from_is_err_and}
 use Rattle.collection.specs.Safe.{ram}
 use Rattle.collection.proofs.Acts.{looks_same, looks_then, looks_ok, looks_err}
 use Rattle.collection.proofs.Finds.{none_yet}
 use Rattle.collection.proofs.Looks.{ok_not_bus}
 use Rattle.collection.proofs.Rescues.{true_over, none_further}
-use Rattle.std.proofs.lemmas.Grind.{common_steps}
+use Rattle.collection.proofs.Exits.{none_not_some, no_more, reads_next, reads_all, reads_found, found_reads, within_found, found_in, first_live_by, none_to}
+use Rattle.collection.specs.State.{Ram}
 use Rattle.collection.proofs.engine.Engine.first_live.Goals as goal
 
 pub candidates-init : goal.candidates-init
 candidates-init g c = record {
   looks = looks_same c.args.self.now c.requires.safe;
-  reads = omega arith;
+  reads = no_more _ _;
   truth = λ honest w. none_yet c.args.self.now.geometry.pages c.args.block (g.N.PageSource.view.flash c.args.self.now.nand).image c.args.first;
 }
 
@@ -22,7 +23,7 @@ candidates-preserved g c =
     let now = ram c.candidates.self in
     record {
       looks = looks_then _ _ _ tt _ i.looks (looks_ok _ _ _ _ c.in_ok-live.ensures.looks);
-      reads = omega arith;
+      reads = reads_next _ _ _ _ _ _ _ c.candidates.auto.page c.pages-page-end.ensures c.candidates-test.true i.reads c.live_record.ensures.reads;
       truth = λ honest w.
           let still = ap (λ f. f.image) (i.looks.same honest (ok_not_bus _)) in
           let looked = c.in_ok-live.ensures.truth (i.looks.only_reads.honest_is ∙ honest) (true_over old now _ _ w i.looks.memory still) in
@@ -38,37 +39,41 @@ pub returns-in-Some-clause-looks : goal.returns-in-Some-clause-looks
 returns-in-Some-clause-looks g c = looks_then _ _ _ tt _ c.candidates.invariant.looks (looks_ok _ _ _ _ c.in_ok-live.ensures.looks)
 
 pub returns-clause-looks : goal.returns-clause-looks
-returns-clause-looks g c = search rules
+returns-clause-looks g c = looks_ok _ _ tt _ c.candidates.invariant.looks
 
 pub returns-clause-reads : goal.returns-clause-reads
-returns-clause-reads g c = search rules
+returns-clause-reads g c = reads_all _ _ _ _ _ c.candidates.invariant.reads
 
 pub returns-clause-found_reads : goal.returns-clause-found_reads
-returns-clause-found_reads g c = search rules
+returns-clause-found_reads g c = λ _ is. absurd (none_not_some _ is)
 
 pub returns-clause-within : goal.returns-clause-within
-returns-clause-within g c = search rules
+returns-clause-within g c = λ _ is. absurd (none_not_some _ is)
 
 pub returns-clause-checked : goal.returns-clause-checked
-returns-clause-checked g c = search rules
+returns-clause-checked g c = λ _ is. absurd (none_not_some _ is)
 
 pub returns-clause-truth : goal.returns-clause-truth
-returns-clause-truth g c = search rules
+returns-clause-truth g c = λ honest w. none_to _ _ _ _ _ _ c.pages-page-end.ensures c.candidates-test.false (c.candidates.invariant.truth honest w)
 
 pub returns-in-Some-clause-reads : goal.returns-in-Some-clause-reads
-returns-in-Some-clause-reads g c = search rules
+returns-in-Some-clause-reads g c = reads_found _ _ _ _ c.candidates.auto.page c.pages-page-end.ensures c.candidates-test.true _ _ _ c.candidates.invariant.reads c.live_record.ensures.reads
 
 pub returns-in-Some-clause-found_reads : goal.returns-in-Some-clause-found_reads
-returns-in-Some-clause-found_reads g c = search rules
+returns-in-Some-clause-found_reads g c = found_reads _ _ _ _ c.candidates.auto.page c.pages-page-end.ensures c.candidates-test.true _ _ _ _ c.candidates.invariant.reads c.live_record.ensures.reads
 
 pub returns-in-Some-clause-within : goal.returns-in-Some-clause-within
-returns-in-Some-clause-within g c = search rules
+returns-in-Some-clause-within g c = within_found _ _ _ _ c.candidates.auto.page c.pages-page-end.ensures c.candidates-test.true _
 
 pub returns-in-Some-clause-truth : goal.returns-in-Some-clause-truth
-returns-in-Some-clause-truth g c = search rules
+returns-in-Some-clause-truth g c = λ honest w.
+    let i = c.candidates.invariant in
+    let still = ap (λ f. f.image) (i.looks.same honest (ok_not_bus _)) in
+    let looked = c.in_ok-live.ensures.truth (i.looks.only_reads.honest_is ∙ honest) (true_over (ram c.args.self.now) (ram c.candidates.self) _ _ w i.looks.memory still) in
+    first_live_by (ram c.args.self.now) (ram c.candidates.self) _ _ c.args.block c.args.first c.candidates.page c.row-row.result c.in-Some.found _ _ i.looks.memory still c.row-row.ensures.is (i.truth honest w) looked c.in-Some.is
 
 pub returns-in_err-live-clause-reads : goal.returns-in_err-live-clause-reads
-returns-in_err-live-clause-reads g c = search rules
+returns-in_err-live-clause-reads g c = reads_found _ _ _ _ c.candidates.auto.page c.pages-page-end.ensures c.candidates-test.true _ _ _ c.candidates.invariant.reads c.live_record.ensures.reads
 
 pub returns-in_err-live-clause-found_reads : goal.returns-in_err-live-clause-found_reads
 returns-in_err-live-clause-found_reads g c =
@@ -86,7 +91,25 @@ returns-in_err-live-clause-checked g c =
     rw p.1 (tt)
 
 pub returns-in_err-live-clause-truth : goal.returns-in_err-live-clause-truth
-returns-in_err-live-clause-truth g c = search rules
+returns-in_err-live-clause-truth g c =
+    let p = err_from_is_err_and c.from_residual.result c.from_residual.ensures.1 in
+    rw (p.1, p.2) (λ honest w.
+    let i = c.candidates.invariant in
+    let still = ap (λ f. f.image) (i.looks.same honest (ok_not_bus _)) in
+    c.in_err-live.ensures.truth (i.looks.only_reads.honest_is ∙ honest) (true_over (ram c.args.self.now) (ram c.candidates.self) _ _ w i.looks.memory still))
 
 pub returns-in-Some-clause-checked : goal.returns-in-Some-clause-checked
-returns-in-Some-clause-checked g c = grind (arith, common_steps)
+returns-in-Some-clause-checked g c = found_in (ram c.args.self.now) (ram c.candidates.self) _ _ c.args.block c.candidates.page c.row-row.result c.in-Some.found
+    c.candidates.invariant.looks.memory c.row-row.ensures.is (c.in_ok-live.ensures.checked _ c.in-Some.is)
+
+pub live_record-requires-clause-safe : goal.live_record-requires-clause-safe
+live_record-requires-clause-safe g c = c.candidates.invariant.looks.safe
+
+pub live_record-requires-clause-row : goal.live_record-requires-clause-row
+live_record-requires-clause-row g c = c.row-row.ensures.within
+
+pub row-row-requires-clause-block_in : goal.row-row-requires-clause-block_in
+row-row-requires-clause-block_in g c = subst (λ (z : Ram). c.args.block < z.geometry.blocks) (sym c.candidates.invariant.looks.memory) c.requires.block
+
+pub row-row-requires-clause-page_in : goal.row-row-requires-clause-page_in
+row-row-requires-clause-page_in g c = subst (λ (z : Ram). c.candidates.page < z.geometry.pages) (sym c.candidates.invariant.looks.memory) (subst (λ k. c.candidates.page < k) c.pages-page-end.ensures c.candidates-test.true)

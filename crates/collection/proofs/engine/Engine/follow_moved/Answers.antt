@@ -1,12 +1,14 @@
-use Rattle.std.proofs.Common.{◌∙◌, sym, rules, refl}
+use Rattle.std.proofs.Common.{◌∙◌, sym, refl}
 use Rattle.promises.proofs.StopLemmas.{leaves_nothing}
 use Rattle.collection.proofs.Stops.{same_left}
 use Rattle.collection.specs.Safe.{ram}
 use Rattle.collection.proofs.Acts.{acts_same}
 use Rattle.collection.proofs.Follows.{none_if}
-use Rattle.collection.proofs.Rescues.{followed_result}
+use Rattle.collection.proofs.Rescues.{followed_result, followed_none, none_behind, cached_behind}
 use Rattle.collection.proofs.Memory.{goes_same}
 use Rattle.collection.proofs.Copies.{keys_same}
+use Rattle.collection.proofs.Looks.{ok_not_bus}
+use Rattle.collection.proofs.Afters.{followed_other, behind_other, followed_cached, behind_cached, followed_now, followed_costs}
 use Rattle.collection.proofs.engine.Engine.follow_moved.Goals as goal
 
 -- ---- what a stop leaves
@@ -68,7 +70,7 @@ pub returns-in_default-clause-unmoved : goal.returns-in_default-clause-unmoved
 returns-in_default-clause-unmoved g c = tt
 
 pub returns-in_default-clause-cut : goal.returns-in_default-clause-cut
-returns-in_default-clause-cut g c = λ _ _ h2. cc
+returns-in_default-clause-cut g c = λ _ _ e. absurd (ok_not_bus _ e)
 
 pub returns-then-is_cached-clause-goes : goal.returns-then-is_cached-clause-goes
 returns-then-is_cached-clause-goes g c = goes_same _
@@ -86,34 +88,36 @@ pub returns-then-is_cached-clause-unmoved : goal.returns-then-is_cached-clause-u
 returns-then-is_cached-clause-unmoved g c = tt
 
 pub returns-then-is_cached-clause-cut : goal.returns-then-is_cached-clause-cut
-returns-then-is_cached-clause-cut g c = λ _ _ h2. cc
+returns-then-is_cached-clause-cut g c = λ _ _ e. absurd (ok_not_bus _ e)
 
 pub returns-clause-keys : goal.returns-clause-keys
-returns-clause-keys g c = search rules
+returns-clause-keys g c = record { limits = c.write_page_back.ensures.no_more.limits; keys = c.write_page_back.ensures.keys }
 
 pub returns-clause-followed : goal.returns-clause-followed
-returns-clause-followed g c = search rules
+returns-clause-followed g c = followed_now c.args.key c.in-Sector.n c.in-Sector.is c.entries.result (ram c.args.self.now) _ c.write_page_back.result
+    (none_if _ (sym c.is_cached.ensures ∙ c.if-is_cached.false)) c.entries.ensures c.requires.safe.memory.mapping_of c.write_page_back.ensures.cleaned
 
 pub returns-clause-unmoved : goal.returns-clause-unmoved
-returns-clause-unmoved g c = search rules
+returns-clause-unmoved g c = c.write_page_back.ensures.mapping
 
 pub returns-clause-cost : goal.returns-clause-cost
-returns-clause-cost g c = search rules
+returns-clause-cost g c = followed_costs c.args.key c.in-Sector.n c.in-Sector.is (ram c.args.self.now) (ram c.write_page_back.new.self) c.write_page_back.result
+    (none_if _ (sym c.is_cached.ensures ∙ c.if-is_cached.false)) c.write_page_back.ensures.cost
 
 pub returns-in_default-clause-followed : goal.returns-in_default-clause-followed
-returns-in_default-clause-followed g c = search rules
+returns-in_default-clause-followed g c = followed_other c.args.key _ c.in_default.not-Sector
 
 pub returns-in_default-clause-cost : goal.returns-in_default-clause-cost
-returns-in_default-clause-cost g c = search rules
+returns-in_default-clause-cost g c = behind_other c.args.key (ram c.args.self.now) c.in_default.not-Sector
 
 pub returns-in_default-clause-truth : goal.returns-in_default-clause-truth
-returns-in_default-clause-truth g c = search rules
+returns-in_default-clause-truth g c = λ _ w. followed_none c.args.key (ram c.args.self.now) _ (none_behind c.args.key (ram c.args.self.now) c.in_default.not-Sector) w
 
 pub returns-then-is_cached-clause-followed : goal.returns-then-is_cached-clause-followed
-returns-then-is_cached-clause-followed g c = search rules
+returns-then-is_cached-clause-followed g c = followed_cached c.args.key c.in-Sector.n c.in-Sector.is _ (sym c.is_cached.ensures ∙ c.if-is_cached.true)
 
 pub returns-then-is_cached-clause-cost : goal.returns-then-is_cached-clause-cost
-returns-then-is_cached-clause-cost g c = search rules
+returns-then-is_cached-clause-cost g c = behind_cached c.args.key c.in-Sector.n c.in-Sector.is (ram c.args.self.now) (sym c.is_cached.ensures ∙ c.if-is_cached.true)
 
 pub returns-then-is_cached-clause-truth : goal.returns-then-is_cached-clause-truth
-returns-then-is_cached-clause-truth g c = search rules
+returns-then-is_cached-clause-truth g c = λ _ w. followed_none c.args.key (ram c.args.self.now) _ (cached_behind c.args.key c.in-Sector.n (ram c.args.self.now) c.in-Sector.is (sym c.is_cached.ensures ∙ c.if-is_cached.true)) w

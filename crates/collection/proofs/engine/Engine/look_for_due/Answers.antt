@@ -1,20 +1,23 @@
-use Rattle.std.proofs.Common.{◌∙◌, ap, sym, arith}
+use Rattle.std.proofs.Common.{◌∙◌, ap, sym, ◌≤◌, subst, ◌<◌}
 use Rattle.std.proofs.lemmas.Result.{err_from_is_err_and}
 use Rattle.collection.specs.Safe.{ram}
 use Rattle.collection.proofs.Acts.{looks_same, looks_then, looks_ok, looks_err}
 use Rattle.collection.proofs.Looks.{ok_not_bus}
-use Rattle.collection.proofs.Renews.{none_past, none_looked}
+use Rattle.collection.proofs.Renews.{none_past, none_looked, none_before}
 use Rattle.collection.proofs.Rescues.{true_over}
+use Rattle.collection.proofs.Exits.{none_not_some, row_below}
+use Rattle.page_layout.specs.Geometry.{row_count}
+use Rattle.collection.specs.State.{Ram}
 use Rattle.collection.proofs.engine.Engine.look_for_due.Goals as goal
 
 pub returns-clause-truth : goal.returns-clause-truth
 returns-clause-truth g c = λ honest w.
-    none_past (ram c.args.self.now) c.args.from c.rows.row _ w (omega (arith, c.rows-test.false, c.rows-row-end.ensures)) (c.rows.invariant.truth honest w)
+    none_past (ram c.args.self.now) c.args.from c.rows.row _ w (subst (λ k. k ≤ c.rows.row) c.rows-row-end.ensures c.rows-test.false) (c.rows.invariant.truth honest w)
 
 -- ---- the looks of each row, one after another
 
 pub rows-init : goal.rows-init
-rows-init g c = record { looks = looks_same c.args.self.now c.requires.safe; truth = λ honest w q ge lt. absurd (omega arith) }
+rows-init g c = record { looks = looks_same c.args.self.now c.requires.safe; truth = λ honest w q ge lt. none_before c.args.from _ q ge lt }
 
 pub rows-preserved : goal.rows-preserved
 rows-preserved g c =
@@ -36,3 +39,30 @@ returns-in_err-due-clause-looks g c =
 
 pub returns-then-is_some-clause-looks : goal.returns-then-is_some-clause-looks
 returns-then-is_some-clause-looks g c = looks_then _ _ _ tt _ c.rows.invariant.looks (looks_ok _ _ _ _ c.in_ok-due.ensures.looks)
+
+pub returns-clause-looks : goal.returns-clause-looks
+returns-clause-looks g c = looks_ok _ _ tt _ c.rows.invariant.looks
+
+pub returns-clause-row : goal.returns-clause-row
+returns-clause-row g c = λ _ is. absurd (none_not_some _ is)
+
+pub returns-in_err-due-clause-row : goal.returns-in_err-due-clause-row
+returns-in_err-due-clause-row g c =
+    let p = err_from_is_err_and c.from_residual.result c.from_residual.ensures.1 in
+    rw p.1 tt
+
+pub returns-in_err-due-clause-truth : goal.returns-in_err-due-clause-truth
+returns-in_err-due-clause-truth g c =
+    let p = err_from_is_err_and c.from_residual.result c.from_residual.ensures.1 in
+    rw (p.1, p.2) (λ honest w.
+    let i = c.rows.invariant in
+    c.in_err-due.ensures.truth (i.looks.only_reads.honest_is ∙ honest) (true_over (ram c.args.self.now) (ram c.rows.self) _ _ w i.looks.memory (ap (λ f. f.image) (i.looks.same honest (ok_not_bus _)))))
+
+pub returns-then-is_some-clause-row : goal.returns-then-is_some-clause-row
+returns-then-is_some-clause-row g c = λ x is. row_below _ _ _ x c.rows-row-end.ensures c.rows-test.true is
+
+pub due_record-requires-clause-safe : goal.due_record-requires-clause-safe
+due_record-requires-clause-safe g c = c.rows.invariant.looks.safe
+
+pub due_record-requires-clause-row : goal.due_record-requires-clause-row
+due_record-requires-clause-row g c = subst (λ k. c.rows.row < k) (c.rows-row-end.ensures ∙ sym (ap (λ (z : Ram). row_count z.geometry) c.rows.invariant.looks.memory)) c.rows-test.true

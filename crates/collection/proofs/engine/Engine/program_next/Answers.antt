@@ -1,4 +1,4 @@
-use Rattle.std.proofs.Common.{inr, ◌∙◌, ap, refl, sym, subst, arith, rules}
+use Rattle.std.proofs.Common.{inr, ◌∙◌, ◌<◌, length, ap, refl, sym, subst}
 use Rattle.std.proofs.lemmas.List.{with_items_is}
 use Rattle.page_layout.specs.Page.{page}
 use Rattle.page_layout.specs.Sound.{record_of}
@@ -11,7 +11,7 @@ use Rattle.bad_blocks.specs.Table.{wear_at}
 use Rattle.budget.specs.Stream.{stream_of}
 use Rattle.allocation.specs.State.{State}
 use Rattle.allocation.specs.View.{state}
-use Rattle.collection.specs.Safe.{ram}
+use Rattle.collection.specs.Safe.{ram, IsRam}
 use Rattle.collection.specs.Results.{IsStep}
 use Rattle.collection.proofs.Programs.{at_outcome, buffer_spare}
 use Rattle.collection.proofs.HalfPuts.{try_cut}
@@ -20,6 +20,10 @@ use Rattle.collection.proofs.Memory.{taken_outside}
 use Rattle.collection.proofs.Attempts.{taken_by, taken_good, next_record, step_others, asked_ram, asked_goes, failed_ram, failed_goes, failed_cost, failed_went, failed_kept, passed_ram, passed_goes, passed_cost, passed_went, passed_put, may_program}
 use Rattle.collection.proofs.WriteBacks.{read_went}
 use Rattle.promises.proofs.StopLemmas.{leaves_nothing}
+use Rattle.page_layout.specs.Geometry.{row_count}
+use Rattle.allocation.specs.Step.{HasNone}
+use Rattle.collection.proofs.Ends.{read_only_apart, err_apart, no_less, one_before, put_is, same_is}
+use Rattle.collection.specs.declared.fault.EngineFault.TheVariants.{ReadOnly}
 use Rattle.collection.proofs.engine.Engine.program_next.Goals as goal
 
 pub retire-requires-clause-good : goal.retire-requires-clause-good
@@ -31,16 +35,18 @@ retire-requires-clause-good g c =
 -- ---- no block takes it
 
 pub returns-in_default-clause-acts : goal.returns-in_default-clause-acts
-returns-in_default-clause-acts g c = record {
-  safe = search rules;
-  fault = refl;
-  honest_is = refl;
-  calm_is = refl;
-  asked = AskedNothing;
-  failed_is = omega arith;
-  rose = λ e. (let never : ⊥ = cc in absurd never);
-  went = λ honest _. read_went (ram c.args.self.now) _ _ _ _ _ (ap (λ (s : State). record (ram c.args.self.now) { blocks = s }) c.in_default.ensures.none.1) refl refl;
-}
+returns-in_default-clause-acts g c =
+    let same = ap (λ (s : State). record (ram c.args.self.now) { blocks = s }) c.in_default.ensures.none.1 in
+    record {
+      safe = record { memory = subst IsRam (sym same) c.requires.safe.memory; geometry = c.requires.safe.geometry; page = c.requires.safe.page; scratch = c.requires.safe.scratch };
+      fault = refl;
+      honest_is = refl;
+      calm_is = refl;
+      asked = AskedNothing;
+      failed_is = no_less _;
+      rose = λ e. absurd (err_apart ReadOnly read_only_apart e);
+      went = λ honest _. read_went (ram c.args.self.now) _ _ _ _ _ same refl refl;
+    }
 
 -- ---- it passed
 
@@ -91,7 +97,7 @@ returns-in-Ok-Passed-clause-programmed g c = rw (with_items_is c.args.self.now.p
   sound = ap (λ b. record_of (page b c.program_record.new.spare)) (sym c.deref.ensures.value) ∙ c.program_record.ensures.spare;
   of_kind = refl;
   of_number = refl;
-  last = omega arith;
+  last = one_before _;
 })
 
 pub returns-in-Ok-Passed-clause-cost : goal.returns-in-Ok-Passed-clause-cost
@@ -272,7 +278,7 @@ pub returns-in-Ok-Failed-clause-scratch : goal.returns-in-Ok-Failed-clause-scrat
 returns-in-Ok-Failed-clause-scratch g c = refl
 
 pub returns-in-Ok-Failed-clause-cut : goal.returns-in-Ok-Failed-clause-cut
-returns-in-Ok-Failed-clause-cut g c = λ _ _ h2. cc
+returns-in-Ok-Failed-clause-cut g c = λ _ _ e. absurd (ok_not_bus _ e)
 
 pub returns-in-Ok-Passed-clause-page : goal.returns-in-Ok-Passed-clause-page
 returns-in-Ok-Passed-clause-page g c = refl
@@ -281,7 +287,7 @@ pub returns-in-Ok-Passed-clause-scratch : goal.returns-in-Ok-Passed-clause-scrat
 returns-in-Ok-Passed-clause-scratch g c = refl
 
 pub returns-in-Ok-Passed-clause-cut : goal.returns-in-Ok-Passed-clause-cut
-returns-in-Ok-Passed-clause-cut g c = λ _ _ h2. cc
+returns-in-Ok-Passed-clause-cut g c = λ _ _ e. absurd (ok_not_bus _ e)
 
 pub returns-in_default-clause-page : goal.returns-in_default-clause-page
 returns-in_default-clause-page g c = refl
@@ -290,49 +296,70 @@ pub returns-in_default-clause-scratch : goal.returns-in_default-clause-scratch
 returns-in_default-clause-scratch g c = refl
 
 pub returns-in_default-clause-cut : goal.returns-in_default-clause-cut
-returns-in_default-clause-cut g c = λ _ _ h2. cc
+returns-in_default-clause-cut g c = λ _ _ e. absurd (err_apart ReadOnly read_only_apart e)
 
 pub returns-in-Err-clause-only_programs : goal.returns-in-Err-clause-only_programs
-returns-in-Err-clause-only_programs g c = search rules
+returns-in-Err-clause-only_programs g c = record { reads_are = c.program_record.ensures.reads; erases_are = c.program_record.ensures.erases }
 
 pub returns-in-Err-clause-row : goal.returns-in-Err-clause-row
-returns-in-Err-clause-row g c = search rules
+returns-in-Err-clause-row g c = tt
 
 pub returns-in-Err-clause-programmed : goal.returns-in-Err-clause-programmed
-returns-in-Err-clause-programmed g c = search rules
+returns-in-Err-clause-programmed g c = tt
 
 pub returns-in-Err-clause-cost : goal.returns-in-Err-clause-cost
-returns-in-Err-clause-cost g c = search rules
+returns-in-Err-clause-cost g c = tt
 
 pub returns-in-Err-clause-truth : goal.returns-in-Err-clause-truth
-returns-in-Err-clause-truth g c = search rules
+returns-in-Err-clause-truth g c = λ _ _. tt
 
 pub returns-in-Ok-Failed-clause-only_programs : goal.returns-in-Ok-Failed-clause-only_programs
-returns-in-Ok-Failed-clause-only_programs g c = search rules
+returns-in-Ok-Failed-clause-only_programs g c = record { reads_are = c.program_record.ensures.reads; erases_are = c.program_record.ensures.erases }
 
 pub returns-in-Ok-Failed-clause-row : goal.returns-in-Ok-Failed-clause-row
-returns-in-Ok-Failed-clause-row g c = search rules
+returns-in-Ok-Failed-clause-row g c = tt
 
 pub returns-in-Ok-Failed-clause-programmed : goal.returns-in-Ok-Failed-clause-programmed
-returns-in-Ok-Failed-clause-programmed g c = search rules
+returns-in-Ok-Failed-clause-programmed g c = tt
 
 pub returns-in-Ok-Passed-clause-only_programs : goal.returns-in-Ok-Passed-clause-only_programs
-returns-in-Ok-Passed-clause-only_programs g c = search rules
+returns-in-Ok-Passed-clause-only_programs g c = record { reads_are = c.program_record.ensures.reads; erases_are = c.program_record.ensures.erases }
 
 pub returns-in_default-clause-goes : goal.returns-in_default-clause-goes
-returns-in_default-clause-goes g c = search rules
+returns-in_default-clause-goes g c = put_is (ram c.args.self.now) _ (ap (λ (s : State). record (ram c.args.self.now) { blocks = s }) c.in_default.ensures.none.1)
 
 pub returns-in_default-clause-only_programs : goal.returns-in_default-clause-only_programs
-returns-in_default-clause-only_programs g c = search rules
+returns-in_default-clause-only_programs g c = record { reads_are = refl; erases_are = refl }
 
 pub returns-in_default-clause-row : goal.returns-in_default-clause-row
-returns-in_default-clause-row g c = search rules
+returns-in_default-clause-row g c = tt
 
 pub returns-in_default-clause-programmed : goal.returns-in_default-clause-programmed
-returns-in_default-clause-programmed g c = search rules
+returns-in_default-clause-programmed g c = tt
 
 pub returns-in_default-clause-cost : goal.returns-in_default-clause-cost
-returns-in_default-clause-cost g c = search rules
+returns-in_default-clause-cost g c = record {
+  none = subst (HasNone (state c.args.self.now.blocks)) c.of.ensures c.in_default.ensures.none.0;
+  same = ap (λ (s : State). record (ram c.args.self.now) { blocks = s }) c.in_default.ensures.none.1;
+}
 
 pub returns-in_default-clause-truth : goal.returns-in_default-clause-truth
-returns-in_default-clause-truth g c = search rules
+returns-in_default-clause-truth g c = λ honest may. same_is (ram c.args.self.now) _ _ (ap (λ (s : State). record (ram c.args.self.now) { blocks = s }) c.in_default.ensures.none.1) may.truth
+
+pub split_row-block-requires : goal.split_row-block-requires
+split_row-block-requires g c = subst (λ g. c.in-Some.row < row_count g) c.requires.safe.memory.blocks_of c.in-Some.ensures.within
+
+pub program_record-requires-clause-same_geometry : goal.program_record-requires-clause-same_geometry
+program_record-requires-clause-same_geometry g c = c.requires.safe.geometry
+
+pub program_record-requires-clause-body_whole : goal.program_record-requires-clause-body_whole
+program_record-requires-clause-body_whole g c = ap length c.deref.ensures.value ∙ c.requires.safe.page.body
+
+pub program_record-requires-clause-spare_whole : goal.program_record-requires-clause-spare_whole
+program_record-requires-clause-spare_whole g c = c.deref_mut.ensures.len ∙ (c.args.self.now.page.spare.ok.0 ∙ c.requires.safe.page.spare)
+
+pub count_move-requires-clause-block : goal.count_move-requires-clause-block
+count_move-requires-clause-block g c = c.split_row-block.ensures.block
+
+pub count_move-requires-clause-old_row : goal.count_move-requires-clause-old_row
+count_move-requires-clause-old_row g c = c.requires.old_row

@@ -1,16 +1,22 @@
-use Rattle.std.proofs.Common.{inl, ◌∙◌, ap, refl, arith, rules}
+use Rattle.std.proofs.Common.{inl, ◌∙◌, ap, refl, sym, subst, ◌<◌}
 use Rattle.std.proofs.lemmas.Result.{err_from_is_err_and}
 use Rattle.budget.specs.Stream.{stream_of}
 use Rattle.collection.specs.Safe.{ram}
 use Rattle.collection.proofs.Memory.{put_same, put_then, outside_some}
-use Rattle.collection.proofs.Acts.{acts_same, acts_then, acts_ok, acts_err}
-use Rattle.collection.proofs.Costs.{not_bus, not_tried, tried_again, has_put, tries_none, tries_some, costs_then}
+use Rattle.collection.proofs.Acts.{acts_same, acts_then, acts_ok, acts_err, acts_end}
+use Rattle.collection.proofs.Costs.{not_bus, not_tried, tried_again, has_put, tries_none, tries_some, costs_then, has_spent}
 use Rattle.collection.proofs.Puts.{kept_same, same_kept, kept_then, put_after, refused_then, outside_then, may_still, attempted_none, attempted_some}
 use Rattle.promises.proofs.StopLemmas.{leaves_nothing}
 use Rattle.collection.proofs.Looks.{ok_not_bus}
 use Rattle.collection.proofs.HalfPuts.{tries_cut}
 use Rattle.collection.proofs.Steps.{err_same}
 use Rattle.collection.proofs.Stops.{tries_then, all_kept, leaves_more}
+use Rattle.std.specs.Option.{ForSome}
+use Rattle.page_layout.specs.Geometry.{row_count}
+use Rattle.page_layout.specs.Live.{IsKeyOf}
+use Rattle.page_layout.specs.Key.{key_from}
+use Rattle.collection.specs.declared.fault.EngineFault.TheVariants.{SequenceSpent}
+use Rattle.collection.proofs.Ends.{spent_apart, err_apart, below_top, some_holds}
 use Rattle.collection.proofs.engine.Engine.put_page.Goals as goal
 
 pub tries-init : goal.tries-init
@@ -30,7 +36,7 @@ tries-init g c = record {
 pub returns-in_err-tried-clause-cost : goal.returns-in_err-tried-clause-cost
 returns-in_err-tried-clause-cost g c =
     let p = err_from_is_err_and c.from_residual.result c.from_residual.ensures.1 in
-    rw (p.1, p.2) (costs_then (stream_of c.args.kind) _ _ _ _ c.tries.invariant.tried (omega (arith, c.tries-test.true)) c.in_err-tried.ensures.cost)
+    rw (p.1, p.2) (costs_then (stream_of c.args.kind) _ _ _ _ c.tries.invariant.tried c.tries-test.true c.in_err-tried.ensures.cost)
 
 pub returns-in_err-tried-clause-acts : goal.returns-in_err-tried-clause-acts
 returns-in_err-tried-clause-acts g c =
@@ -126,55 +132,61 @@ returns-in_err-tried-clause-cut g c =
     tries_cut c.args.kind c.args.number _ _ _ _ _ _ _ _ _ (ap (λ v. v.items) c.tries.invariant.page) c.tries.invariant.goes.goes.geometry kept.keeps (c.tries.invariant.stops honest may) (c.in_err-tried.ensures.cut (c.tries.invariant.acts.honest_is ∙ honest) now (err_same _ _ e)))
 
 pub returns-clause-cut : goal.returns-clause-cut
-returns-clause-cut g c = λ _ _ h2. cc
+returns-clause-cut g c = λ _ _ e. absurd (err_apart SequenceSpent spent_apart e)
 
 pub returns-in-Some-clause-cut : goal.returns-in-Some-clause-cut
-returns-in-Some-clause-cut g c = λ _ _ h2. cc
+returns-in-Some-clause-cut g c = λ _ _ e. absurd (ok_not_bus _ e)
 
 pub returns-clause-acts : goal.returns-clause-acts
-returns-clause-acts g c = search rules
+returns-clause-acts g c = acts_end _ _ tt SequenceSpent spent_apart c.tries.invariant.acts
 
 pub returns-clause-goes : goal.returns-clause-goes
-returns-clause-goes g c = search rules
+returns-clause-goes g c = c.tries.invariant.goes
 
 pub returns-clause-page : goal.returns-clause-page
-returns-clause-page g c = search rules
+returns-clause-page g c = c.tries.invariant.page
 
 pub returns-clause-scratch : goal.returns-clause-scratch
-returns-clause-scratch g c = search rules
+returns-clause-scratch g c = c.tries.invariant.scratch
 
 pub returns-clause-only_programs : goal.returns-clause-only_programs
-returns-clause-only_programs g c = search rules
+returns-clause-only_programs g c = c.tries.invariant.only_programs
 
 pub returns-clause-row : goal.returns-clause-row
-returns-clause-row g c = search rules
+returns-clause-row g c = tt
 
 pub returns-clause-programmed : goal.returns-clause-programmed
-returns-clause-programmed g c = search rules
+returns-clause-programmed g c = tt
 
 pub returns-clause-cost : goal.returns-clause-cost
-returns-clause-cost g c = search rules
+returns-clause-cost g c = has_spent (stream_of c.args.kind) _ _ c.tries.invariant.tried c.tries-test.false c.tries.invariant.acts.safe.memory.next
 
 pub returns-in-Some-clause-page : goal.returns-in-Some-clause-page
-returns-in-Some-clause-page g c = search rules
+returns-in-Some-clause-page g c = c.program_next.ensures.page ∙ c.tries.invariant.page
 
 pub returns-in-Some-clause-scratch : goal.returns-in-Some-clause-scratch
-returns-in-Some-clause-scratch g c = search rules
+returns-in-Some-clause-scratch g c = c.program_next.ensures.scratch ∙ c.tries.invariant.scratch
 
 pub returns-in-Some-clause-only_programs : goal.returns-in-Some-clause-only_programs
-returns-in-Some-clause-only_programs g c = search rules
+returns-in-Some-clause-only_programs g c = record {
+  reads_are = c.program_next.ensures.only_programs.reads_are ∙ c.tries.invariant.only_programs.reads_are;
+  erases_are = c.program_next.ensures.only_programs.erases_are ∙ c.tries.invariant.only_programs.erases_are;
+}
 
 pub returns-in-Some-clause-programmed : goal.returns-in-Some-clause-programmed
-returns-in-Some-clause-programmed g c = search rules
+returns-in-Some-clause-programmed g c = some_holds c.in_ok-tried.tried c.in-Some.row c.in_ok-tried.ensures.programmed c.in-Some.is
 
 pub returns-in_err-tried-clause-page : goal.returns-in_err-tried-clause-page
-returns-in_err-tried-clause-page g c = search rules
+returns-in_err-tried-clause-page g c = c.program_next.ensures.page ∙ c.tries.invariant.page
 
 pub returns-in_err-tried-clause-scratch : goal.returns-in_err-tried-clause-scratch
-returns-in_err-tried-clause-scratch g c = search rules
+returns-in_err-tried-clause-scratch g c = c.program_next.ensures.scratch ∙ c.tries.invariant.scratch
 
 pub returns-in_err-tried-clause-only_programs : goal.returns-in_err-tried-clause-only_programs
-returns-in_err-tried-clause-only_programs g c = search rules
+returns-in_err-tried-clause-only_programs g c = record {
+  reads_are = c.program_next.ensures.only_programs.reads_are ∙ c.tries.invariant.only_programs.reads_are;
+  erases_are = c.program_next.ensures.only_programs.erases_are ∙ c.tries.invariant.only_programs.erases_are;
+}
 
 pub returns-in_err-tried-clause-row : goal.returns-in_err-tried-clause-row
 returns-in_err-tried-clause-row g c =
@@ -185,3 +197,18 @@ pub returns-in_err-tried-clause-programmed : goal.returns-in_err-tried-clause-pr
 returns-in_err-tried-clause-programmed g c =
     let p = err_from_is_err_and c.from_residual.result c.from_residual.ensures.1 in
     rw p.1 (tt)
+
+pub program_next-requires-clause-safe : goal.program_next-requires-clause-safe
+program_next-requires-clause-safe g c = c.tries.invariant.acts.safe
+
+pub program_next-requires-clause-next : goal.program_next-requires-clause-next
+program_next-requires-clause-next g c = below_top _ c.tries-test.true
+
+pub program_next-requires-clause-key : goal.program_next-requires-clause-key
+program_next-requires-clause-key g c = subst (λ x. IsKeyOf x (key_from c.args.kind c.args.number)) (sym c.tries.invariant.goes.goes.geometry) c.requires.key
+
+pub program_next-requires-clause-old_row : goal.program_next-requires-clause-old_row
+program_next-requires-clause-old_row g c = subst (λ x. ForSome c.args.old_row (λ r. r < row_count x)) (sym c.tries.invariant.goes.goes.geometry) c.requires.old_row
+
+pub returns-in_err-tried-clause-goes : goal.returns-in_err-tried-clause-goes
+returns-in_err-tried-clause-goes g c = put_then _ _ _ c.tries.invariant.goes c.program_next.ensures.goes

@@ -1,4 +1,4 @@
-use Rattle.std.proofs.Common.{◌∙◌, ap, rules}
+use Rattle.std.proofs.Common.{◌∙◌, ap}
 use Rattle.std.proofs.lemmas.List.{with_items_is}
 use Rattle.std.proofs.lemmas.Result.{err_from_is_err_and}
 use Rattle.allocation.specs.View.{state}
@@ -8,6 +8,8 @@ use Rattle.collection.proofs.Looks.{ok_not_bus}
 use Rattle.collection.proofs.Costs.{not_bus}
 use Rattle.collection.proofs.Cuts.{cut_table}
 use Rattle.collection.proofs.Steps.{err_same}
+use Rattle.collection.proofs.Programs.{buffer_body}
+use Rattle.collection.proofs.Acts.{acts_filled, acts_ok, acts_err}
 use Rattle.collection.proofs.engine.Engine.put_table.Goals as goal
 
 pub returns-in_err-replace-clause-truth : goal.returns-in_err-replace-clause-truth
@@ -97,7 +99,7 @@ pub returns-clause-cost : goal.returns-clause-cost
 returns-clause-cost g c = c.in_ok-replace.ensures.cost
 
 pub returns-clause-cut : goal.returns-clause-cut
-returns-clause-cut g c = λ _ _ h2. cc
+returns-clause-cut g c = λ _ _ e. absurd (ok_not_bus _ e)
 
 pub returns-in_err-replace-clause-goes : goal.returns-in_err-replace-clause-goes
 returns-in_err-replace-clause-goes g c = c.replace.ensures.goes
@@ -117,16 +119,18 @@ returns-in_err-replace-clause-cost g c =
     rw (p.1, p.2) (c.in_err-replace.ensures.cost)
 
 pub returns-clause-acts : goal.returns-clause-acts
-returns-clause-acts g c = search rules
+returns-clause-acts g c = acts_filled _ _ _ _ (acts_ok _ _ _ _ c.in_ok-replace.ensures.acts)
 
 pub returns-clause-mapping : goal.returns-clause-mapping
-returns-clause-mapping g c = search rules
+returns-clause-mapping g c = c.in_ok-replace.ensures.mapping
 
 pub returns-in_err-replace-clause-acts : goal.returns-in_err-replace-clause-acts
-returns-in_err-replace-clause-acts g c = search rules
+returns-in_err-replace-clause-acts g c =
+    let p = err_from_is_err_and c.from_residual.result c.from_residual.ensures.1 in
+    rw (p.1, p.2) (acts_filled _ _ _ _ (acts_err _ _ _ c.in_err-replace.ensures.acts))
 
 pub returns-in_err-replace-clause-mapping : goal.returns-in_err-replace-clause-mapping
-returns-in_err-replace-clause-mapping g c = search rules
+returns-in_err-replace-clause-mapping g c = c.in_err-replace.ensures.mapping
 
 pub returns-in_err-replace-clause-programmed : goal.returns-in_err-replace-clause-programmed
 returns-in_err-replace-clause-programmed g c =
@@ -146,3 +150,20 @@ returns-in_err-replace-clause-spelled g c =
     ∙ (c.write_table_page.ensures
     ∙ spelled_by c.deref_mut.result.now c.args.self.now.page.body.items c.args.self.now.geometry c.table.result.now
     (state c.args.self.now.blocks).table c.args.u c.deref_mut.ensures.value c.requires.safe.page.body c.table.ensures))
+
+pub row_of_key-old_row-requires-clause-key : goal.row_of_key-old_row-requires-clause-key
+row_of_key-old_row-requires-clause-key g c = c.requires.page
+
+pub replace-requires-clause-safe : goal.replace-requires-clause-safe
+replace-requires-clause-safe g c = record {
+  memory = c.requires.safe.memory;
+  geometry = c.requires.safe.geometry;
+  page = buffer_body c.args.self.now.geometry c.args.self.now.page c.write_table_page.new.page c.requires.safe.page;
+  scratch = c.requires.safe.scratch;
+}
+
+pub replace-requires-clause-key : goal.replace-requires-clause-key
+replace-requires-clause-key g c = c.requires.page
+
+pub replace-requires-clause-old_row : goal.replace-requires-clause-old_row
+replace-requires-clause-old_row g c = c.row_of_key-old_row.ensures.row

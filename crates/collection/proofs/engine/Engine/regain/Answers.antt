@@ -1,4 +1,4 @@
-use Rattle.std.proofs.Common.{◌∙◌, inr}
+use Rattle.std.proofs.Common.{◌∙◌, inr, subst, ◌<◌}
 use Rattle.std.proofs.lemmas.Result.{err_from_is_err_and}
 use Rattle.collection.specs.Safe.{ram}
 use Rattle.collection.proofs.Acts.{acts_then, acts_ok, acts_err}
@@ -9,6 +9,8 @@ use Rattle.collection.proofs.Rooms.{room_tells, on_then, erased_more, rearranged
 use Rattle.collection.proofs.Made.{not_resting, enough_made}
 use Rattle.collection.proofs.Stops.{stops_then, IsSized}
 use Rattle.collection.proofs.Cuts.{cut_after}
+use Rattle.collection.proofs.Afters.{acts_ended, not_bus_ended}
+use Rattle.allocation.specs.State.{free_count}
 use Rattle.collection.proofs.engine.Engine.regain.Goals as goal
 
 pub rounds-init : goal.rounds-init
@@ -149,3 +151,52 @@ returns-in_err-collect_block-clause-cut g c =
     let k = i.makes.truth honest w passed in
     let sized : IsSized (ram c.args.self.now) (ram c.rounds.self) = record { geometry = i.makes.goes.geometry; capacity = i.makes.keys.limits.capacity; share = i.makes.keys.limits.share } in
     cut_after (ram c.args.self.now) (ram c.rounds.self) _ _ _ _ _ sized k.array (i.stops honest w passed) (c.in_err-collect_block.ensures.cut (i.acts.honest_is ∙ honest) k.truth is))
+
+pub finish-requires-clause-safe : goal.finish-requires-clause-safe
+finish-requires-clause-safe g c = c.requires.safe
+
+pub finish-requires-clause-flushes : goal.finish-requires-clause-flushes
+finish-requires-clause-flushes g c = c.requires.flushes
+
+pub finish-requires-clause-calm : goal.finish-requires-clause-calm
+finish-requires-clause-calm g c = c.requires.calm
+
+pub collect_block-requires-clause-safe : goal.collect_block-requires-clause-safe
+collect_block-requires-clause-safe g c = c.rounds.invariant.acts.safe
+
+pub collect_block-requires-clause-flushes : goal.collect_block-requires-clause-flushes
+collect_block-requires-clause-flushes g c = λ on. c.rounds.invariant.makes.keys.limits.share ∙ c.requires.flushes on
+
+pub collect_block-requires-clause-block : goal.collect_block-requires-clause-block
+collect_block-requires-clause-block g c =
+    let worth = made_some c.args.many (ram c.rounds.self) c.worth_below-worth.result c.in-Some.block c.worth_below-worth.ensures c.in-Some.is in
+    subst (λ x. c.in-Some.block < x.blocks) c.rounds.invariant.acts.safe.memory.blocks_of worth.victim.within
+
+pub collect_block-requires-clause-closed : goal.collect_block-requires-clause-closed
+collect_block-requires-clause-closed g c = (made_some c.args.many (ram c.rounds.self) c.worth_below-worth.result c.in-Some.block c.worth_below-worth.ensures c.in-Some.is).victim.closed
+
+pub returns-in_default-clause-acts : goal.returns-in_default-clause-acts
+returns-in_default-clause-acts g c = acts_ended (free_count (ram c.rounds.self).blocks < 5) c.args.self.now c.rounds.self c.enough.result c.enough.ensures.err c.rounds.invariant.acts
+
+pub returns-in_default-clause-cut : goal.returns-in_default-clause-cut
+returns-in_default-clause-cut g c = λ _ _ _ e. not_bus_ended (free_count (ram c.rounds.self).blocks < 5) c.enough.result c.enough.ensures.err e
+
+pub returns-in_err-finish-clause-acts : goal.returns-in_err-finish-clause-acts
+returns-in_err-finish-clause-acts g c =
+    let p = err_from_is_err_and c.from_residual.result c.from_residual.ensures.1 in
+    rw (p.1, p.2) c.in_err-finish.ensures.acts
+
+pub returns-in_err-finish-clause-room : goal.returns-in_err-finish-clause-room
+returns-in_err-finish-clause-room g c =
+    let p = err_from_is_err_and c.from_residual.result c.from_residual.ensures.1 in
+    rw p.1 (tt)
+
+pub returns-in_err-finish-clause-count : goal.returns-in_err-finish-clause-count
+returns-in_err-finish-clause-count g c =
+    let p = err_from_is_err_and c.from_residual.result c.from_residual.ensures.1 in
+    rw (p.1, p.2) c.in_err-finish.ensures.count
+
+pub returns-in_err-collect_block-clause-room : goal.returns-in_err-collect_block-clause-room
+returns-in_err-collect_block-clause-room g c =
+    let p = err_from_is_err_and c.from_residual-in_err-collect_block.result c.from_residual-in_err-collect_block.ensures.1 in
+    rw p.1 (tt)

@@ -1,6 +1,6 @@
-use Rattle.std.proofs.Common.{ap, ℕ, List, Option, sym, ◌∙◌, subst, rules}
+use Rattle.std.proofs.Common.{ap, ℕ, List, Option, sym, ◌∙◌, subst}
 use Rattle.page_layout.specs.declared.geometry.Geometry.{Geometry}
-use Rattle.collection.specs.Settle.{SetsDirectory}
+use Rattle.collection.specs.Settle.{SetsDirectory, SetsMapping}
 use Rattle.page_layout.specs.Key.{key_from}
 use Rattle.collection.proofs.Settles.{settled_cost, replaced_by, settled_goes}
 use Rattle.std.proofs.lemmas.Result.{err_from_is_err_and}
@@ -9,10 +9,13 @@ use Rattle.collection.proofs.HalfPuts.{put_cut}
 use Rattle.collection.proofs.Steps.{err_same}
 use Rattle.collection.proofs.Looks.{ok_not_bus}
 use Rattle.collection.proofs.Costs.{not_bus}
-use Rattle.collection.specs.Safe.{ram}
+use Rattle.collection.specs.Safe.{ram, page_in}
 use Rattle.promises.specs.Stop.{LeavesOnly}
 use Rattle.collection.specs.Stops.{IsKeptOr}
 use Rattle.collection.proofs.Ledgers.{sets_share}
+use Rattle.collection.specs.Results.{KeepsTable}
+use Rattle.collection.proofs.Copies.{last_marked}
+use Rattle.collection.proofs.Afters.{acts_on, programs_on}
 use Rattle.collection.proofs.engine.Engine.replace.Goals as goal
 
 pub returns-clause-cost : goal.returns-clause-cost
@@ -72,7 +75,7 @@ pub returns-clause-row : goal.returns-clause-row
 returns-clause-row g c = c.in_ok-row.ensures.row
 
 pub returns-clause-cut : goal.returns-clause-cut
-returns-clause-cut g c = λ _ _ h2. cc
+returns-clause-cut g c = λ _ _ e. absurd (ok_not_bus _ e)
 
 pub returns-in_err-row-clause-acts : goal.returns-in_err-row-clause-acts
 returns-in_err-row-clause-acts g c =
@@ -99,31 +102,32 @@ returns-in_err-row-clause-truth g c =
     rw (p.1, p.2) (c.in_err-row.ensures.truth)
 
 pub returns-clause-acts : goal.returns-clause-acts
-returns-clause-acts g c = search rules
+returns-clause-acts g c = acts_on c.args.self.now c.put_page.new.self c.settle.new.self c.in_ok-row.row _ c.settle.ensures.safe c.settle.ensures.settles.fault
+    c.settle.ensures.settles.blocks c.settle.ensures.settles.next c.settle.ensures.nand c.in_ok-row.ensures.acts
 
 pub returns-clause-page : goal.returns-clause-page
-returns-clause-page g c = search rules
+returns-clause-page g c = ap (λ p. p.body) c.settle.ensures.page ∙ c.put_page.ensures.page
 
 pub returns-clause-only_programs : goal.returns-clause-only_programs
-returns-clause-only_programs g c = search rules
+returns-clause-only_programs g c = programs_on g.N.PageSource.view c.args.self.now.nand c.put_page.new.self.nand _ c.settle.ensures.nand c.put_page.ensures.only_programs
 
 pub returns-clause-pin : goal.returns-clause-pin
-returns-clause-pin g c = search rules
+returns-clause-pin g c = c.settle.ensures.settles.pin ∙ c.put_page.ensures.goes.pin
 
 pub returns-clause-table : goal.returns-clause-table
-returns-clause-table g c = search rules
+returns-clause-table g c = subst (KeepsTable (ram c.args.self.now).blocks) (sym c.settle.ensures.settles.blocks) c.put_page.ensures.goes.table
 
 pub returns-clause-mapping : goal.returns-clause-mapping
-returns-clause-mapping g c = search rules
+returns-clause-mapping g c = subst (λ m. SetsMapping (key_from c.args.kind c.args.number) c.in_ok-row.row m c.settle.new.self.mapping) c.put_page.ensures.goes.mapping c.settle.ensures.settles.mapping
 
 pub returns-clause-programmed : goal.returns-clause-programmed
-returns-clause-programmed g c = search rules
+returns-clause-programmed g c = last_marked c.args.kind c.args.number (ram c.put_page.new.self) (ram c.settle.new.self) _ _ c.settle.ensures.settles.next (ap page_in c.settle.ensures.page) c.in_ok-row.ensures.programmed
 
 pub returns-in_err-row-clause-goes : goal.returns-in_err-row-clause-goes
-returns-in_err-row-clause-goes g c = search rules
+returns-in_err-row-clause-goes g c = c.put_page.ensures.goes.goes
 
 pub returns-in_err-row-clause-pin : goal.returns-in_err-row-clause-pin
-returns-in_err-row-clause-pin g c = search rules
+returns-in_err-row-clause-pin g c = c.put_page.ensures.goes.pin
 
 pub returns-in_err-row-clause-row : goal.returns-in_err-row-clause-row
 returns-in_err-row-clause-row g c =
@@ -131,10 +135,12 @@ returns-in_err-row-clause-row g c =
     rw p.1 (tt)
 
 pub returns-in_err-row-clause-table : goal.returns-in_err-row-clause-table
-returns-in_err-row-clause-table g c = search rules
+returns-in_err-row-clause-table g c = c.put_page.ensures.goes.table
 
 pub returns-in_err-row-clause-mapping : goal.returns-in_err-row-clause-mapping
-returns-in_err-row-clause-mapping g c = search rules
+returns-in_err-row-clause-mapping g c =
+    let p = err_from_is_err_and c.from_residual.result c.from_residual.ensures.1 in
+    rw p.1 c.put_page.ensures.goes.mapping
 
 pub returns-in_err-row-clause-directory : goal.returns-in_err-row-clause-directory
 returns-in_err-row-clause-directory g c =
@@ -157,3 +163,15 @@ settle-requires-clause-place g c = rw c.put_page.ensures.goes.mapping c.requires
 
 pub settle-requires-clause-row : goal.settle-requires-clause-row
 settle-requires-clause-row g c = rw c.put_page.ensures.goes.goes.geometry c.in_ok-row.ensures.row.within
+
+pub put_page-requires-clause-safe : goal.put_page-requires-clause-safe
+put_page-requires-clause-safe g c = c.requires.safe
+
+pub put_page-requires-clause-key : goal.put_page-requires-clause-key
+put_page-requires-clause-key g c = c.requires.key
+
+pub put_page-requires-clause-old_row : goal.put_page-requires-clause-old_row
+put_page-requires-clause-old_row g c = c.requires.old_row
+
+pub settle-requires-clause-safe : goal.settle-requires-clause-safe
+settle-requires-clause-safe g c = c.put_page.ensures.acts.safe

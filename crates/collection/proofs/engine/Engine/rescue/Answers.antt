@@ -1,4 +1,4 @@
-use Rattle.std.proofs.Common.{◌∙◌, ◌<◌, ◌+◌, length, refl, ap, sym, subst, arith, rules}
+use Rattle.std.proofs.Common.{◌∙◌, ◌<◌, ◌+◌, length, refl, ap, sym, subst}
 use Rattle.std.proofs.lemmas.Result.{err_from_is_err_and}
 use Rattle.std.specs.Map.{keys_of}
 use Rattle.collection.specs.Safe.{ram}
@@ -7,7 +7,7 @@ use Rattle.page_layout.specs.Live.{IsKeyOf}
 use Rattle.collection.specs.Collect.{IsMovedOut, IsFollowedBy, waiting}
 use Rattle.collection.proofs.Acts.{acts_then, acts_ok, acts_err, looked, acts_same, acts_end}
 use Rattle.collection.proofs.Looks.{none_from, ok_not_bus}
-use Rattle.collection.proofs.Memory.{goes_then, moved_places, goes_same}
+use Rattle.collection.proofs.Memory.{goes_then, goes_same}
 use Rattle.collection.proofs.Puts.{refused_then}
 use Rattle.collection.proofs.Rescues.{ailing_known, copied_as, rescued, rescued_beside, none_rescued, goes_from, rescued_cost, uncopied_cost, unfollowed_cost, unread_rescue, unread_refused}
 use Rattle.promises.proofs.StopLemmas.{leaves_nothing}
@@ -16,7 +16,10 @@ use Rattle.collection.proofs.Costs.{not_bus}
 use Rattle.collection.specs.declared.fault.EngineFault.TheVariants.{Damaged}
 use Rattle.collection.proofs.Cuts.{cut_read, cut_looking, cut_after}
 use Rattle.collection.proofs.Steps.{err_same}
-use Rattle.collection.proofs.Copies.{keys_same}
+use Rattle.collection.proofs.Copies.{keys_same, keys_then}
+use Rattle.collection.proofs.Ends.{damaged_apart, up_to_one, err_apart, goes_is, keys_is, keys_from, beside_is, up_to_more, one_more_is, one_more_set, has_room, has_no_room, some_room}
+use Rattle.collection.specs.Results.{Refused}
+use Rattle.std.proofs.lemmas.Bool.{false≢true}
 use Rattle.collection.proofs.engine.Engine.rescue.Goals as goal
 
 -- ---- the copy
@@ -28,11 +31,7 @@ pub copy_page-requires-clause-row : goal.copy_page-requires-clause-row
 copy_page-requires-clause-row g c = rw (ap (λ r. r.geometry) c.first_ailing.ensures.looks.memory) (c.in_ok-ailing.ensures.row _ c.in-Some.is)
 
 pub copy_page-requires-clause-room : goal.copy_page-requires-clause-room
-copy_page-requires-clause-room g c =
-    let place = c.has_place.ensures.0 c.if-not-has_place.false in
-    let places = moved_places (ram c.args.self.now) c.requires.safe.memory in
-    let room : length (ram c.args.self.now).mapping.moved < waiting (ram c.args.self.now) + (ram c.args.self.now).geometry.pages = omega arith in
-    subst (λ r. length r.mapping.moved < waiting r + r.geometry.pages) (sym c.first_ailing.ensures.looks.memory) room
+copy_page-requires-clause-room g c = subst (λ r. length r.mapping.moved < waiting r + r.geometry.pages) (sym c.first_ailing.ensures.looks.memory) (has_room (ram c.args.self.now) c.requires.safe.memory (c.has_place.ensures.0 c.if-not-has_place.false))
 
 -- ---- the look was refused, or found none
 
@@ -146,7 +145,7 @@ returns-clause-beside g c = rescued_beside (key_of c.in-Some.found) c.key.result
     c.follow_moved.ensures.keys c.follow_moved.ensures.pin
 
 pub returns-clause-one_more : goal.returns-clause-one_more
-returns-clause-one_more g c = (let b = returns-clause-beside g c in omega (arith, b.fewer))
+returns-clause-one_more g c = up_to_more _ _ (returns-clause-beside g c).fewer
 
 -- ---- what a stop leaves
 
@@ -209,7 +208,7 @@ pub returns-then-not-has_place-clause-stops : goal.returns-then-not-has_place-cl
 returns-then-not-has_place-clause-stops g c = λ honest w ne. leaves_nothing _ _ _ (same_left (ram c.args.self.now) _ _ c.requires.safe.memory w)
 
 pub returns-then-not-has_place-clause-acts : goal.returns-then-not-has_place-clause-acts
-returns-then-not-has_place-clause-acts g c = acts_end _ _ tt Damaged (λ e. (let no : ⊥ = cc in no)) (acts_same c.args.self.now c.requires.safe)
+returns-then-not-has_place-clause-acts g c = acts_end _ _ tt Damaged damaged_apart (acts_same c.args.self.now c.requires.safe)
 
 -- ---- what a fault of the die leaves
 
@@ -250,55 +249,55 @@ returns-in_err-follow_moved-clause-cut g c =
     cut_after a n _ _ _ _ _ sized m.same.array copied (c.in_err-follow_moved.ensures.cut (c.copy_page.ensures.acts.honest_is ∙ now) m.same.truth (err_same _ _ is)))
 
 pub returns-clause-cut : goal.returns-clause-cut
-returns-clause-cut g c = λ _ _ h2. cc
+returns-clause-cut g c = λ _ _ e. absurd (ok_not_bus _ e)
 
 pub returns-in_default-clause-cut : goal.returns-in_default-clause-cut
-returns-in_default-clause-cut g c = λ _ _ h2. cc
+returns-in_default-clause-cut g c = λ _ _ e. absurd (ok_not_bus _ e)
 
 pub returns-clause-erases : goal.returns-clause-erases
-returns-clause-erases g c = search rules
+returns-clause-erases g c = c.follow_moved.ensures.erases ∙ (c.copy_page.ensures.only_programs.erases_are ∙ c.first_ailing.ensures.looks.only_reads.erases_are)
 
 pub returns-clause-keys : goal.returns-clause-keys
-returns-clause-keys g c = search rules
+returns-clause-keys g c = keys_from (ram c.args.self.now) (ram c.first_ailing.new.self) _ c.first_ailing.ensures.looks.memory (keys_then _ _ _ c.copy_page.ensures.keys c.follow_moved.ensures.keys)
 
 pub returns-clause-pin : goal.returns-clause-pin
-returns-clause-pin g c = search rules
+returns-clause-pin g c = c.follow_moved.ensures.pin ∙ (c.copy_page.ensures.pinned refl ∙ ap (λ r. r.pin) c.first_ailing.ensures.looks.memory)
 
 pub returns-clause-full : goal.returns-clause-full
-returns-clause-full g c = search rules
+returns-clause-full g c = has_no_room (ram c.args.self.now) c.requires.safe.memory (c.has_place.ensures.0 c.if-not-has_place.false)
 
 pub returns-in_default-clause-goes : goal.returns-in_default-clause-goes
-returns-in_default-clause-goes g c = search rules
+returns-in_default-clause-goes g c = goes_is (ram c.args.self.now) (ram c.first_ailing.new.self) c.first_ailing.ensures.looks.memory
 
 pub returns-in_default-clause-erases : goal.returns-in_default-clause-erases
-returns-in_default-clause-erases g c = search rules
+returns-in_default-clause-erases g c = c.first_ailing.ensures.looks.only_reads.erases_are
 
 pub returns-in_default-clause-keys : goal.returns-in_default-clause-keys
-returns-in_default-clause-keys g c = search rules
+returns-in_default-clause-keys g c = keys_is (ram c.args.self.now) (ram c.first_ailing.new.self) c.first_ailing.ensures.looks.memory
 
 pub returns-in_default-clause-beside : goal.returns-in_default-clause-beside
-returns-in_default-clause-beside g c = search rules
+returns-in_default-clause-beside g c = beside_is (ram c.args.self.now) (ram c.first_ailing.new.self) c.first_ailing.ensures.looks.memory
 
 pub returns-in_default-clause-pin : goal.returns-in_default-clause-pin
-returns-in_default-clause-pin g c = search rules
+returns-in_default-clause-pin g c = ap (λ r. r.pin) c.first_ailing.ensures.looks.memory
 
 pub returns-in_default-clause-one_more : goal.returns-in_default-clause-one_more
-returns-in_default-clause-one_more g c = search rules
+returns-in_default-clause-one_more g c = one_more_is _ _ (ap (λ r. r.mapping) c.first_ailing.ensures.looks.memory)
 
 pub returns-in_default-clause-full : goal.returns-in_default-clause-full
-returns-in_default-clause-full g c = search rules
+returns-in_default-clause-full g c = has_no_room (ram c.args.self.now) c.requires.safe.memory (c.has_place.ensures.0 c.if-not-has_place.false)
 
 pub returns-in_default-clause-cost : goal.returns-in_default-clause-cost
-returns-in_default-clause-cost g c = search rules
+returns-in_default-clause-cost g c = c.first_ailing.ensures.looks.memory
 
 pub returns-in_err-ailing-clause-goes : goal.returns-in_err-ailing-clause-goes
-returns-in_err-ailing-clause-goes g c = search rules
+returns-in_err-ailing-clause-goes g c = goes_is (ram c.args.self.now) (ram c.first_ailing.new.self) c.first_ailing.ensures.looks.memory
 
 pub returns-in_err-ailing-clause-erases : goal.returns-in_err-ailing-clause-erases
-returns-in_err-ailing-clause-erases g c = search rules
+returns-in_err-ailing-clause-erases g c = c.first_ailing.ensures.looks.only_reads.erases_are
 
 pub returns-in_err-ailing-clause-keys : goal.returns-in_err-ailing-clause-keys
-returns-in_err-ailing-clause-keys g c = search rules
+returns-in_err-ailing-clause-keys g c = keys_is (ram c.args.self.now) (ram c.first_ailing.new.self) c.first_ailing.ensures.looks.memory
 
 pub returns-in_err-ailing-clause-beside : goal.returns-in_err-ailing-clause-beside
 returns-in_err-ailing-clause-beside g c =
@@ -306,22 +305,22 @@ returns-in_err-ailing-clause-beside g c =
     rw p.1 (tt)
 
 pub returns-in_err-ailing-clause-pin : goal.returns-in_err-ailing-clause-pin
-returns-in_err-ailing-clause-pin g c = search rules
+returns-in_err-ailing-clause-pin g c = ap (λ r. r.pin) c.first_ailing.ensures.looks.memory
 
 pub returns-in_err-ailing-clause-one_more : goal.returns-in_err-ailing-clause-one_more
-returns-in_err-ailing-clause-one_more g c = search rules
+returns-in_err-ailing-clause-one_more g c = one_more_is _ _ (ap (λ r. r.mapping) c.first_ailing.ensures.looks.memory)
 
 pub returns-in_err-ailing-clause-full : goal.returns-in_err-ailing-clause-full
-returns-in_err-ailing-clause-full g c = search rules
+returns-in_err-ailing-clause-full g c = has_no_room (ram c.args.self.now) c.requires.safe.memory (c.has_place.ensures.0 c.if-not-has_place.false)
 
 pub returns-in_err-copy_page-clause-goes : goal.returns-in_err-copy_page-clause-goes
-returns-in_err-copy_page-clause-goes g c = search rules
+returns-in_err-copy_page-clause-goes g c = goes_from (ram c.args.self.now) (ram c.first_ailing.new.self) (ram c.copy_page.new.self) c.first_ailing.ensures.looks.memory c.copy_page.ensures.goes
 
 pub returns-in_err-copy_page-clause-erases : goal.returns-in_err-copy_page-clause-erases
-returns-in_err-copy_page-clause-erases g c = search rules
+returns-in_err-copy_page-clause-erases g c = c.copy_page.ensures.only_programs.erases_are ∙ c.first_ailing.ensures.looks.only_reads.erases_are
 
 pub returns-in_err-copy_page-clause-keys : goal.returns-in_err-copy_page-clause-keys
-returns-in_err-copy_page-clause-keys g c = search rules
+returns-in_err-copy_page-clause-keys g c = keys_from (ram c.args.self.now) (ram c.first_ailing.new.self) _ c.first_ailing.ensures.looks.memory c.copy_page.ensures.keys
 
 pub returns-in_err-copy_page-clause-beside : goal.returns-in_err-copy_page-clause-beside
 returns-in_err-copy_page-clause-beside g c =
@@ -329,22 +328,33 @@ returns-in_err-copy_page-clause-beside g c =
     rw p.1 (tt)
 
 pub returns-in_err-copy_page-clause-pin : goal.returns-in_err-copy_page-clause-pin
-returns-in_err-copy_page-clause-pin g c = search rules
+returns-in_err-copy_page-clause-pin g c = c.copy_page.ensures.pinned refl ∙ ap (λ r. r.pin) c.first_ailing.ensures.looks.memory
 
 pub returns-in_err-copy_page-clause-one_more : goal.returns-in_err-copy_page-clause-one_more
-returns-in_err-copy_page-clause-one_more g c = search rules
+returns-in_err-copy_page-clause-one_more g c = one_more_is _ _ (c.in_err-copy_page.ensures.unmoved ∙ ap (λ r. r.mapping) c.first_ailing.ensures.looks.memory)
 
 pub returns-in_err-copy_page-clause-full : goal.returns-in_err-copy_page-clause-full
-returns-in_err-copy_page-clause-full g c = search rules
+returns-in_err-copy_page-clause-full g c = has_no_room (ram c.args.self.now) c.requires.safe.memory (c.has_place.ensures.0 c.if-not-has_place.false)
 
 pub returns-in_err-copy_page-clause-truth : goal.returns-in_err-copy_page-clause-truth
-returns-in_err-copy_page-clause-truth g c = search rules
+returns-in_err-copy_page-clause-truth g c =
+    let p = err_from_is_err_and c.from_residual-in_err-copy_page.result c.from_residual-in_err-copy_page.ensures.1 in
+    rw p.1 (λ honest w room.
+    let a = ram c.args.self.now in
+    let b = ram c.first_ailing.new.self in
+    let n = ram c.copy_page.new.self in
+    let x = (g.N.PageSource.view.flash c.first_ailing.new.self.nand).image in
+    let y = (g.N.PageSource.view.flash c.copy_page.new.self.nand).image in
+    let still = ap (λ f. f.image) (c.in_ok-ailing.ensures.looks.same honest (ok_not_bus _)) in
+    let now = c.first_ailing.ensures.looks.only_reads.honest_is ∙ honest in
+    copied_as a b _ _ c.in-Some.row c.in-Some.found _ c.in_ok-ailing.ailing c.requires.safe.memory c.first_ailing.ensures.looks.memory still w
+    (c.in_ok-ailing.ensures.truth honest w) c.in-Some.is (λ r i. Refused r i n y p.0) (λ t s l. subst (Refused b x n y) (sym p.2) (c.in_err-copy_page.ensures.truth now t s l)))
 
 pub returns-in_err-follow_moved-clause-erases : goal.returns-in_err-follow_moved-clause-erases
-returns-in_err-follow_moved-clause-erases g c = search rules
+returns-in_err-follow_moved-clause-erases g c = c.follow_moved.ensures.erases ∙ (c.copy_page.ensures.only_programs.erases_are ∙ c.first_ailing.ensures.looks.only_reads.erases_are)
 
 pub returns-in_err-follow_moved-clause-keys : goal.returns-in_err-follow_moved-clause-keys
-returns-in_err-follow_moved-clause-keys g c = search rules
+returns-in_err-follow_moved-clause-keys g c = keys_from (ram c.args.self.now) (ram c.first_ailing.new.self) _ c.first_ailing.ensures.looks.memory (keys_then _ _ _ c.copy_page.ensures.keys c.follow_moved.ensures.keys)
 
 pub returns-in_err-follow_moved-clause-beside : goal.returns-in_err-follow_moved-clause-beside
 returns-in_err-follow_moved-clause-beside g c =
@@ -352,13 +362,13 @@ returns-in_err-follow_moved-clause-beside g c =
     rw p.1 (tt)
 
 pub returns-in_err-follow_moved-clause-pin : goal.returns-in_err-follow_moved-clause-pin
-returns-in_err-follow_moved-clause-pin g c = search rules
+returns-in_err-follow_moved-clause-pin g c = c.follow_moved.ensures.pin ∙ (c.copy_page.ensures.pinned refl ∙ ap (λ r. r.pin) c.first_ailing.ensures.looks.memory)
 
 pub returns-in_err-follow_moved-clause-one_more : goal.returns-in_err-follow_moved-clause-one_more
-returns-in_err-follow_moved-clause-one_more g c = search rules
+returns-in_err-follow_moved-clause-one_more g c = one_more_set _ c.in_ok-copy_page.ensures.settled.0 (ram c.args.self.now) (ram c.first_ailing.new.self) _ _ c.first_ailing.ensures.looks.memory c.in_ok-copy_page.ensures.settled.1 c.in_err-follow_moved.ensures.unmoved
 
 pub returns-in_err-follow_moved-clause-full : goal.returns-in_err-follow_moved-clause-full
-returns-in_err-follow_moved-clause-full g c = search rules
+returns-in_err-follow_moved-clause-full g c = has_no_room (ram c.args.self.now) c.requires.safe.memory (c.has_place.ensures.0 c.if-not-has_place.false)
 
 pub returns-then-not-has_place-clause-goes : goal.returns-then-not-has_place-clause-goes
 returns-then-not-has_place-clause-goes g c = goes_same _
@@ -373,19 +383,25 @@ pub returns-then-not-has_place-clause-pin : goal.returns-then-not-has_place-clau
 returns-then-not-has_place-clause-pin g c = refl
 
 pub returns-then-not-has_place-clause-cut : goal.returns-then-not-has_place-clause-cut
-returns-then-not-has_place-clause-cut g c = λ _ _ h2. cc
+returns-then-not-has_place-clause-cut g c = λ _ _ e. absurd (err_apart Damaged damaged_apart e)
 
 pub returns-then-not-has_place-clause-beside : goal.returns-then-not-has_place-clause-beside
-returns-then-not-has_place-clause-beside g c = search rules
+returns-then-not-has_place-clause-beside g c = tt
 
 pub returns-then-not-has_place-clause-one_more : goal.returns-then-not-has_place-clause-one_more
-returns-then-not-has_place-clause-one_more g c = search rules
+returns-then-not-has_place-clause-one_more g c = up_to_one _
 
 pub returns-then-not-has_place-clause-full : goal.returns-then-not-has_place-clause-full
-returns-then-not-has_place-clause-full g c = search rules
+returns-then-not-has_place-clause-full g c = λ _. (refl, refl)
 
 pub returns-then-not-has_place-clause-cost : goal.returns-then-not-has_place-clause-cost
-returns-then-not-has_place-clause-cost g c = search rules
+returns-then-not-has_place-clause-cost g c = tt
 
 pub returns-then-not-has_place-clause-truth : goal.returns-then-not-has_place-clause-truth
-returns-then-not-has_place-clause-truth g c = search rules
+returns-then-not-has_place-clause-truth g c = λ _ _ room. absurd (false≢true (sym c.if-not-has_place.true ∙ c.has_place.ensures.1 (some_room (ram c.args.self.now) c.requires.safe.memory room)))
+
+pub copy_page-requires-clause-safe : goal.copy_page-requires-clause-safe
+copy_page-requires-clause-safe g c = c.first_ailing.ensures.looks.safe
+
+pub follow_moved-requires-clause-safe : goal.follow_moved-requires-clause-safe
+follow_moved-requires-clause-safe g c = c.copy_page.ensures.acts.safe

@@ -1,8 +1,9 @@
-use Rattle.std.proofs.Common.{Some, None, rules, refl}
+use Rattle.std.proofs.Common.{Some, None, refl, ◌∙◌, ap}
 use Rattle.std.proofs.lemmas.Result.{err_from_is_err_and}
 use Rattle.page_layout.specs.Page.{page}
-use Rattle.collection.proofs.Acts.{looks_same, looks_ok}
+use Rattle.collection.proofs.Acts.{looks_same, looks_ok, looks_err}
 use Rattle.collection.proofs.Looks.{found_none, found_by, newest_at, none_from, has_place}
+use Rattle.collection.proofs.Exits.{none_not_some, no_more, reads_counted, gives_nothing, gives_checked, is_mapped, looks_scratch, looks_tested}
 use Rattle.collection.proofs.engine.Engine.row_on_page.Goals as goal
 
 pub row_of-found-requires : goal.row_of-found-requires
@@ -38,43 +39,47 @@ pub returns-in_default-clause-page : goal.returns-in_default-clause-page
 returns-in_default-clause-page g c = refl
 
 pub returns-clause-looks : goal.returns-clause-looks
-returns-clause-looks g c = search rules
+returns-clause-looks g c = looks_tested _ _ _ _ c.checked_entry.ensures.damaged (looks_scratch c.args.self.now c.read_of.new.nand c.read_of.new.buffer _ c.requires.safe c.read_of.ensures.buffer c.read_of.ensures.only_reads c.read_of.ensures.asked
+    c.in_ok-read_of.ensures.faults c.in_ok-read_of.ensures.rose c.in_ok-read_of.ensures.same c.in_ok-read_of.ensures.told c.in_ok-read_of.ensures.cut)
 
 pub returns-clause-page : goal.returns-clause-page
-returns-clause-page g c = search rules
+returns-clause-page g c = refl
 
 pub returns-clause-reads : goal.returns-clause-reads
-returns-clause-reads g c = search rules
+returns-clause-reads g c = reads_counted _ _ c.read_of.ensures.reads
 
 pub returns-clause-row : goal.returns-clause-row
-returns-clause-row g c = search rules
+returns-clause-row g c = c.checked_entry.ensures.row
 
 pub returns-clause-unmapped : goal.returns-clause-unmapped
-returns-clause-unmapped g c = search rules
+returns-clause-unmapped g c = λ none. absurd (is_mapped c.args.self.now.geometry c.args.self.now.directory c.args.sector c.entries-entries.result c.in-Some.at c.row_of-found.result c.entries-entries.ensures c.row_of-found.ensures.value c.in-Some.is none)
 
 pub returns-clause-checked : goal.returns-clause-checked
-returns-clause-checked g c = search rules
+returns-clause-checked g c = gives_checked c.args.self.now.geometry c.args.self.now.directory c.args.sector c.entries-entries.result _ c.entries-entries.ensures _ _ c.checked_entry.result c.in_ok-read_of.ensures.checked c.deref.ensures.value c.checked_entry.ensures.entry
 
 pub returns-in_default-clause-reads : goal.returns-in_default-clause-reads
-returns-in_default-clause-reads g c = search rules
+returns-in_default-clause-reads g c = no_more _ _
 
 pub returns-in_default-clause-row : goal.returns-in_default-clause-row
-returns-in_default-clause-row g c = search rules
+returns-in_default-clause-row g c = λ _ is. absurd (none_not_some _ is)
 
 pub returns-in_default-clause-unmapped : goal.returns-in_default-clause-unmapped
-returns-in_default-clause-unmapped g c = search rules
+returns-in_default-clause-unmapped g c = λ _. (refl, refl)
 
 pub returns-in_default-clause-checked : goal.returns-in_default-clause-checked
-returns-in_default-clause-checked g c = search rules
+returns-in_default-clause-checked g c = gives_nothing c.args.self.now.geometry c.args.self.now.directory c.args.sector c.entries-entries.result _ c.entries-entries.ensures c.row_of-found.result c.row_of-found.ensures.value (none_from c.row_of-found.result c.in_default.not-Some)
 
 pub returns-in_err-read_of-clause-looks : goal.returns-in_err-read_of-clause-looks
-returns-in_err-read_of-clause-looks g c = search rules
+returns-in_err-read_of-clause-looks g c =
+    let p = err_from_is_err_and c.from_residual.result c.from_residual.ensures.1 in
+    rw (p.1, p.2) (looks_err _ _ _ (looks_scratch c.args.self.now c.read_of.new.nand c.read_of.new.buffer _ c.requires.safe c.read_of.ensures.buffer c.read_of.ensures.only_reads c.read_of.ensures.asked
+    c.in_err-read_of.ensures.faults c.in_err-read_of.ensures.rose c.in_err-read_of.ensures.same c.in_err-read_of.ensures.told c.in_err-read_of.ensures.cut))
 
 pub returns-in_err-read_of-clause-page : goal.returns-in_err-read_of-clause-page
-returns-in_err-read_of-clause-page g c = search rules
+returns-in_err-read_of-clause-page g c = refl
 
 pub returns-in_err-read_of-clause-reads : goal.returns-in_err-read_of-clause-reads
-returns-in_err-read_of-clause-reads g c = search rules
+returns-in_err-read_of-clause-reads g c = reads_counted _ _ c.read_of.ensures.reads
 
 pub returns-in_err-read_of-clause-row : goal.returns-in_err-read_of-clause-row
 returns-in_err-read_of-clause-row g c =
@@ -82,9 +87,18 @@ returns-in_err-read_of-clause-row g c =
     rw p.1 (tt)
 
 pub returns-in_err-read_of-clause-unmapped : goal.returns-in_err-read_of-clause-unmapped
-returns-in_err-read_of-clause-unmapped g c = search rules
+returns-in_err-read_of-clause-unmapped g c = λ none. absurd (is_mapped c.args.self.now.geometry c.args.self.now.directory c.args.sector c.entries-entries.result c.in-Some.at c.row_of-found.result c.entries-entries.ensures c.row_of-found.ensures.value c.in-Some.is none)
 
 pub returns-in_err-read_of-clause-checked : goal.returns-in_err-read_of-clause-checked
 returns-in_err-read_of-clause-checked g c =
     let p = err_from_is_err_and c.from_residual.result c.from_residual.ensures.1 in
     rw p.1 (tt)
+
+pub read_of-requires-clause-row_in : goal.read_of-requires-clause-row_in
+read_of-requires-clause-row_in g c = c.requires.safe.memory.directory_rows _ _ (c.row_of-found.ensures.value ∙ ap (λ o. Some o) c.in-Some.is)
+
+pub read_of-requires-clause-same_geometry : goal.read_of-requires-clause-same_geometry
+read_of-requires-clause-same_geometry g c = c.requires.safe.geometry
+
+pub read_of-requires-clause-buffer : goal.read_of-requires-clause-buffer
+read_of-requires-clause-buffer g c = c.requires.safe.scratch

@@ -1,4 +1,5 @@
-use Rattle.std.proofs.Common.{◌≡◌, ◌∙◌, ap, sym, rules}
+use Rattle.std.proofs.Common.{◌∙◌, ap, sym, ◌≡◌, ℕ, ◌<◌, arith}
+use Rattle.page_layout.specs.declared.geometry.Geometry.{Geometry}
 use Rattle.collection.specs.Safe.{ram}
 use Rattle.collection.specs.Left.{pin_after}
 use Rattle.collection.proofs.Turns.{cost_pinned, page_pinned, touches_pinned, refreshes_pinned, half_on, half_pinned}
@@ -7,7 +8,13 @@ use Rattle.collection.proofs.Looks.{ok_not_bus}
 use Rattle.collection.proofs.Costs.{not_bus}
 use Rattle.collection.proofs.Steps.{err_same}
 use Rattle.collection.specs.declared.engine.collect_steps.Progress.TheVariants as step
+use Rattle.collection.proofs.Exits.{ok_not_err, err_not_ok, ok_same, stepped_pinned, acts_pinned}
+use Rattle.collection.proofs.Ledgers.{within_by}
 use Rattle.collection.proofs.engine.Engine.step_on.Goals as goal
+
+-- a block has at most 256 pages
+small_pages : (g : Geometry) (n : ℕ) → n ≡ g.pages → n < 4294967295
+small_pages g n is = omega (arith, g.limits.page_count.most)
 
 pub returns-clause-refreshes : goal.returns-clause-refreshes
 returns-clause-refreshes g c = λ on. refreshes_pinned (ram c.args.self.now) (ram c.collect_step.new.self) c.next_pin-next.result (c.collect_step.ensures.refreshes on)
@@ -16,7 +23,7 @@ pub returns-clause-half_done : goal.returns-clause-half_done
 returns-clause-half_done g c = λ q is.
     let next = c.next_pin-next.ensures ∙ ap (λ n. pin_after c.args.pinned.block n c.in_ok-progress.progress) (c.pages.ensures ∙ ap (λ k. k.pages) c.collect_step.ensures.goes.geometry) in
     let half = half_on c.args.flushing (ram c.args.self.now) (ram c.collect_step.new.self) c.args.pinned c.in_ok-progress.progress
-    c.requires.half_done (λ ne. c.in_ok-progress.ensures.goes_still (λ same. ne (let s : c.in_ok-progress.progress ≡ step.Erased = cc in s)))
+    c.requires.half_done (λ ne. c.in_ok-progress.ensures.goes_still (λ same. ne (ok_same _ _ same)))
     c.in_ok-progress.ensures.cost in
     half_pinned (ram c.args.self.now) (ram c.collect_step.new.self) c.next_pin-next.result q (half q (sym next ∙ is))
 
@@ -68,10 +75,10 @@ pub returns-clause-erases : goal.returns-clause-erases
 returns-clause-erases g c = c.in_ok-progress.ensures.erases
 
 pub returns-clause-owed : goal.returns-clause-owed
-returns-clause-owed g c = λ h0. cc
+returns-clause-owed g c = λ is. absurd (ok_not_err _ _ is)
 
 pub returns-clause-cut : goal.returns-clause-cut
-returns-clause-cut g c = λ _ _ _ h3. cc
+returns-clause-cut g c = λ _ _ _ is. absurd (ok_not_bus _ is)
 
 pub returns-in_err-progress-clause-acts : goal.returns-in_err-progress-clause-acts
 returns-in_err-progress-clause-acts g c =
@@ -95,12 +102,12 @@ returns-in_err-progress-clause-refreshes g c = c.collect_step.ensures.refreshes
 pub returns-in_err-progress-clause-idle : goal.returns-in_err-progress-clause-idle
 returns-in_err-progress-clause-idle g c =
     let p = err_from_is_err_and c.from_residual.result c.from_residual.ensures.1 in
-    rw (p.1, p.2) (λ h0. cc)
+    λ is. absurd (err_not_ok _ p.1 is)
 
 pub returns-in_err-progress-clause-released : goal.returns-in_err-progress-clause-released
 returns-in_err-progress-clause-released g c =
     let p = err_from_is_err_and c.from_residual.result c.from_residual.ensures.1 in
-    rw (p.1, p.2) (λ h0. cc)
+    λ is. absurd (err_not_ok _ p.1 is)
 
 pub returns-in_err-progress-clause-reads : goal.returns-in_err-progress-clause-reads
 returns-in_err-progress-clause-reads g c = c.collect_step.ensures.reads
@@ -108,7 +115,7 @@ returns-in_err-progress-clause-reads g c = c.collect_step.ensures.reads
 pub returns-in_err-progress-clause-copied_reads : goal.returns-in_err-progress-clause-copied_reads
 returns-in_err-progress-clause-copied_reads g c =
     let p = err_from_is_err_and c.from_residual.result c.from_residual.ensures.1 in
-    rw (p.1, p.2) (λ _ h1. cc)
+    λ _ is. absurd (err_not_ok _ p.1 is)
 
 pub returns-in_err-progress-clause-owed : goal.returns-in_err-progress-clause-owed
 returns-in_err-progress-clause-owed g c =
@@ -128,28 +135,34 @@ returns-in_err-progress-clause-truth g c =
 pub returns-in_err-progress-clause-touched : goal.returns-in_err-progress-clause-touched
 returns-in_err-progress-clause-touched g c =
     let p = err_from_is_err_and c.from_residual.result c.from_residual.ensures.1 in
-    rw (p.1, p.2) (λ _ _ _ h3. cc)
+    λ _ _ _ is. absurd (err_not_ok _ p.1 is)
 
 pub returns-clause-acts : goal.returns-clause-acts
-returns-clause-acts g c = search rules
+returns-clause-acts g c = acts_pinned c.args.self.now c.collect_step.new.self c.next_pin-next.result _ c.in_ok-progress.ensures.acts
 
 pub returns-clause-goes : goal.returns-clause-goes
-returns-clause-goes g c = search rules
+returns-clause-goes g c = record { geometry = c.collect_step.ensures.goes.geometry; next = c.collect_step.ensures.goes.next; shut = c.collect_step.ensures.goes.shut }
 
 pub returns-clause-next : goal.returns-clause-next
-returns-clause-next g c = search rules
+returns-clause-next g c = c.next_pin-next.ensures ∙ ap (λ n. pin_after c.args.pinned.block n c.in_ok-progress.progress) (c.pages.ensures ∙ ap (λ k. k.pages) c.collect_step.ensures.goes.geometry)
 
 pub returns-clause-idle : goal.returns-clause-idle
-returns-clause-idle g c = search rules
+returns-clause-idle g c = λ is.
+    let k = c.in_ok-progress.ensures.idle is in
+    record { moved = k.moved; unmarked = k.unmarked }
 
 pub returns-clause-truth : goal.returns-clause-truth
-returns-clause-truth g c = search rules
+returns-clause-truth g c = λ honest w passed. stepped_pinned c.args.pinned.block (ram c.args.self.now) (ram c.collect_step.new.self) _ _ _ c.in_ok-progress.progress (c.in_ok-progress.ensures.truth honest w passed)
 
 pub returns-in_err-progress-clause-next : goal.returns-in_err-progress-clause-next
-returns-in_err-progress-clause-next g c = search rules
+returns-in_err-progress-clause-next g c =
+    let p = err_from_is_err_and c.from_residual.result c.from_residual.ensures.1 in
+    rw p.1 c.collect_step.ensures.pin
 
 pub returns-in_err-progress-clause-unmoved : goal.returns-in_err-progress-clause-unmoved
-returns-in_err-progress-clause-unmoved g c = search rules
+returns-in_err-progress-clause-unmoved g c =
+    let p = err_from_is_err_and c.from_residual.result c.from_residual.ensures.1 in
+    rw p.1 c.in_err-progress.ensures.unmoved
 
 pub returns-in_err-progress-clause-unmarked : goal.returns-in_err-progress-clause-unmarked
 returns-in_err-progress-clause-unmarked g c =
@@ -165,3 +178,32 @@ pub returns-in_err-progress-clause-erases : goal.returns-in_err-progress-clause-
 returns-in_err-progress-clause-erases g c =
     let p = err_from_is_err_and c.from_residual.result c.from_residual.ensures.1 in
     rw p.1 (tt)
+
+pub returns-in_err-progress-clause-brought : goal.returns-in_err-progress-clause-brought
+returns-in_err-progress-clause-brought g c =
+    let p = err_from_is_err_and c.from_residual.result c.from_residual.ensures.1 in
+    λ _ is. absurd (err_not_ok _ p.1 is)
+
+pub returns-clause-goes_still : goal.returns-clause-goes_still
+returns-clause-goes_still g c = λ ne.
+    let k = c.in_ok-progress.ensures.goes_still ne in
+    record { geometry = k.geometry; next = k.next; shut = k.shut }
+
+pub collect_step-requires-clause-safe : goal.collect_step-requires-clause-safe
+collect_step-requires-clause-safe g c = c.requires.safe
+
+pub collect_step-requires-clause-block : goal.collect_step-requires-clause-block
+collect_step-requires-clause-block g c = c.requires.half_done.within
+
+pub collect_step-requires-clause-closed : goal.collect_step-requires-clause-closed
+collect_step-requires-clause-closed g c = c.requires.half_done.closed
+
+pub collect_step-requires-clause-room : goal.collect_step-requires-clause-room
+collect_step-requires-clause-room g c = c.requires.half_done.passed
+
+pub next_pin-next-requires-clause-within : goal.next_pin-next-requires-clause-within
+next_pin-next-requires-clause-within g c = within_by c.args.flushing c.args.pinned.block c.args.pinned.first _ (ram c.args.self.now) (ram c.collect_step.new.self) c.in_ok-progress.progress
+    (c.pages.ensures ∙ ap (λ k. k.pages) c.collect_step.ensures.goes.geometry) c.in_ok-progress.ensures.cost
+
+pub next_pin-next-requires-clause-small : goal.next_pin-next-requires-clause-small
+next_pin-next-requires-clause-small g c = small_pages c.collect_step.new.self.geometry _ c.pages.ensures

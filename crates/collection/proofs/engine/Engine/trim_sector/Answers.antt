@@ -1,4 +1,4 @@
-use Rattle.std.proofs.Common.{◌≡◌, ◌∙◌, ap, length, replicate, arith, rules, refl}
+use Rattle.std.proofs.Common.{◌≡◌, ◌∙◌, ap, length, replicate, refl}
 use Rattle.std.proofs.lemmas.List.{with_items_is}
 use Rattle.std.proofs.lemmas.Result.{err_from_is_err_and}
 use Rattle.page_layout.specs.declared.record.Kind.TheVariants.{Trim}
@@ -6,10 +6,10 @@ use Rattle.collection.specs.Safe.{ram, image_in}
 use Rattle.collection.specs.Stops.{IsPutByStop}
 use Rattle.collection.proofs.HalfPuts.{cut_bytes}
 use Rattle.collection.proofs.Acts.{stands_still, is_standing, acts_noted, not_standing, acts_filled}
-use Rattle.std.proofs.lemmas.Grind.{common_steps}
 use Rattle.collection.proofs.Gates.{goes_noted}
 use Rattle.collection.proofs.Standing.{standing_none}
 use Rattle.collection.proofs.Memory.{goes_same}
+use Rattle.collection.proofs.Exits.{settled_noted, programmed_noted, page_costs_noted, written_noted, no_more_same}
 use Rattle.collection.proofs.engine.Engine.trim_sector.Goals as goal
 
 -- ---- what a stop leaves
@@ -88,19 +88,19 @@ pub returns-clause-goes : goal.returns-clause-goes
 returns-clause-goes g c = rw c.noted.ensures.noted (goes_noted _ _ _ c.append-answer.ensures.goes)
 
 pub returns-clause-settled : goal.returns-clause-settled
-returns-clause-settled g c = search rules
+returns-clause-settled g c = rw (c.noted.ensures.same, c.noted.ensures.noted) (settled_noted _ (ram c.args.self.now) (ram c.append-answer.new.self) c.args.sector _ c.append-answer.ensures.settled)
 
 pub returns-clause-programmed : goal.returns-clause-programmed
-returns-clause-programmed g c = search rules
+returns-clause-programmed g c = rw (c.noted.ensures.same, c.noted.ensures.noted) (programmed_noted _ (ram c.args.self.now) (ram c.append-answer.new.self) Trim c.args.sector _ _ c.append-answer.ensures.programmed)
 
 pub returns-clause-cost : goal.returns-clause-cost
-returns-clause-cost g c = search rules
+returns-clause-cost g c = λ none. rw (c.noted.ensures.same, c.noted.ensures.noted) (page_costs_noted _ (ram c.args.self.now) (ram c.append-answer.new.self) _ _ c.append-answer.ensures.cost)
 
 pub returns-in_err-standing-clause-only_programs : goal.returns-in_err-standing-clause-only_programs
-returns-in_err-standing-clause-only_programs g c = search rules
+returns-in_err-standing-clause-only_programs g c = record { reads_are = refl; erases_are = refl }
 
 pub returns-in_err-standing-clause-no_more : goal.returns-in_err-standing-clause-no_more
-returns-in_err-standing-clause-no_more g c = search rules
+returns-in_err-standing-clause-no_more g c = no_more_same c.args.self.now.mapping
 
 pub returns-in_err-standing-clause-settled : goal.returns-in_err-standing-clause-settled
 returns-in_err-standing-clause-settled g c =
@@ -120,4 +120,17 @@ returns-clause-page g c =
     rw c.noted.ensures.noted (ap (λ b. b.items) c.append-answer.ensures.page ∙ (items ∙ (c.clear.ensures ∙ ap (λ k. replicate k 0) size)))
 
 pub returns-clause-truth : goal.returns-clause-truth
-returns-clause-truth g c = grind (arith, common_steps)
+returns-clause-truth g c = λ honest none w. rw (c.noted.ensures.same, c.noted.ensures.noted) (
+    let items = with_items_is c.args.self.now.page.body c.clear.new.out (c.clear.auto.out ∙ c.deref_mut.ensures.len) in
+    let size : length c.deref_mut.result.now ≡ c.args.self.now.geometry.data_bytes = c.deref_mut.ensures.len ∙ (c.args.self.now.page.body.ok.0 ∙ c.requires.safe.page.body) in
+    let cleared = items ∙ (c.clear.ensures ∙ ap (λ k. replicate k 0) size) in
+    written_noted _ (ram c.args.self.now) (ram c.append-answer.new.self) Trim c.args.sector _ _ _ _ _ cleared (c.append-answer.ensures.truth honest w))
+
+pub append-answer-requires-clause-kind : goal.append-answer-requires-clause-kind
+append-answer-requires-clause-kind g c = refl
+
+pub append-answer-requires-clause-sector : goal.append-answer-requires-clause-sector
+append-answer-requires-clause-sector g c = c.requires.sector
+
+pub append-answer-requires-clause-cached : goal.append-answer-requires-clause-cached
+append-answer-requires-clause-cached g c = c.requires.cached

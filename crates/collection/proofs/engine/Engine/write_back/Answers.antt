@@ -2,9 +2,11 @@ use Rattle.std.proofs.lemmas.Result.{err_from_is_err_and}
 use Rattle.collection.proofs.Acts.{stands_still, is_standing, acts_noted, not_standing}
 use Rattle.collection.proofs.Gates.{goes_noted}
 use Rattle.collection.proofs.Standing.{standing_none}
-use Rattle.std.proofs.lemmas.Grind.{common_steps}
-use Rattle.std.proofs.Common.{arith, rules, refl}
+use Rattle.std.proofs.Common.{refl}
 use Rattle.collection.proofs.Memory.{goes_same}
+use Rattle.page_layout.specs.declared.record.Kind.TheVariants.{Translation}
+use Rattle.collection.specs.Safe.{ram}
+use Rattle.collection.proofs.Ends.{last_noted, back_noted, back_cost_noted, no_more_still, up_to_one}
 use Rattle.collection.proofs.engine.Engine.write_back.Goals as goal
 
 -- ---- what a stop leaves
@@ -61,16 +63,18 @@ pub returns-clause-checked : goal.returns-clause-checked
 returns-clause-checked g c = rw (c.noted.ensures.same, c.noted.ensures.noted) c.write_page_back-answer.ensures.checked
 
 pub returns-clause-programmed : goal.returns-clause-programmed
-returns-clause-programmed g c = search rules
+returns-clause-programmed g c = rw (c.noted.ensures.same, c.noted.ensures.noted)
+    (last_noted _ Translation c.args.t (ram c.write_page_back-answer.new.self) _ c.write_page_back-answer.result c.write_page_back-answer.ensures.programmed)
 
 pub returns-clause-truth : goal.returns-clause-truth
-returns-clause-truth g c = grind (arith, common_steps)
+returns-clause-truth g c = λ honest none w. rw (c.noted.ensures.same, c.noted.ensures.noted)
+    (back_noted _ c.args.t (ram c.args.self.now) (ram c.write_page_back-answer.new.self) _ _ c.write_page_back-answer.result (c.write_page_back-answer.ensures.truth honest w))
 
 pub returns-in_err-standing-clause-goes : goal.returns-in_err-standing-clause-goes
 returns-in_err-standing-clause-goes g c = goes_same _
 
 pub returns-in_err-standing-clause-reads : goal.returns-in_err-standing-clause-reads
-returns-in_err-standing-clause-reads g c = search rules
+returns-in_err-standing-clause-reads g c = up_to_one _
 
 pub returns-in_err-standing-clause-erases : goal.returns-in_err-standing-clause-erases
 returns-in_err-standing-clause-erases g c = refl
@@ -92,10 +96,12 @@ pub returns-in_err-standing-clause-keys : goal.returns-in_err-standing-clause-ke
 returns-in_err-standing-clause-keys g c = refl
 
 pub returns-in_err-standing-clause-no_more : goal.returns-in_err-standing-clause-no_more
-returns-in_err-standing-clause-no_more g c = search rules
+returns-in_err-standing-clause-no_more g c = no_more_still _
 
 pub returns-in_err-standing-clause-mapping : goal.returns-in_err-standing-clause-mapping
-returns-in_err-standing-clause-mapping g c = search rules
+returns-in_err-standing-clause-mapping g c =
+    let p = err_from_is_err_and c.from_residual.result c.from_residual.ensures.1 in
+    rw p.1 refl
 
 pub returns-in_err-standing-clause-padded : goal.returns-in_err-standing-clause-padded
 returns-in_err-standing-clause-padded g c =
@@ -123,3 +129,13 @@ returns-in_err-standing-clause-stops g c = λ _ none. absurd (standing_none _ _ 
 
 pub returns-in_err-standing-clause-cut : goal.returns-in_err-standing-clause-cut
 returns-in_err-standing-clause-cut g c = λ _ none. absurd (standing_none _ _ c.in_err-standing.ensures none)
+
+pub write_page_back-answer-requires-clause-safe : goal.write_page_back-answer-requires-clause-safe
+write_page_back-answer-requires-clause-safe g c = c.requires.safe
+
+pub write_page_back-answer-requires-clause-page : goal.write_page_back-answer-requires-clause-page
+write_page_back-answer-requires-clause-page g c = c.requires.page
+
+pub returns-clause-cost : goal.returns-clause-cost
+returns-clause-cost g c = λ none. rw (c.noted.ensures.same, c.noted.ensures.noted)
+    (back_cost_noted _ (ram c.args.self.now) (ram c.write_page_back-answer.new.self) c.write_page_back-answer.result c.write_page_back-answer.ensures.cost)

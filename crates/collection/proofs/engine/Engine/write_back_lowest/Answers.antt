@@ -1,17 +1,19 @@
-use Rattle.std.proofs.Common.{◌∙◌, set, false, ap, arith, rules, refl}
+use Rattle.std.proofs.Common.{◌∙◌, set, false, ap, refl}
 use Rattle.collection.specs.Safe.{ram}
 use Rattle.collection.proofs.Dues.{written_refreshes}
-use Rattle.collection.proofs.Lowest.{due_some, owes_lowest, excess_lowest, written_cost, same_pinned, due_positive}
+use Rattle.collection.proofs.Lowest.{due_some, owes_lowest, excess_lowest, written_cost, same_pinned, same_here}
 use Rattle.std.proofs.lemmas.Result.{err_from_is_err_and}
 use Rattle.promises.proofs.StopLemmas.{leaves_nothing}
 use Rattle.collection.proofs.Stops.{same_left}
-use Rattle.collection.proofs.Looks.{ok_not_bus}
+use Rattle.collection.proofs.Looks.{ok_not_bus, none_from}
 use Rattle.collection.proofs.Costs.{not_bus}
 use Rattle.collection.proofs.Acts.{acts_same, acts_ok, acts_err}
 use Rattle.collection.proofs.Steps.{err_same}
-use Rattle.std.proofs.lemmas.Grind.{common_steps}
 use Rattle.collection.proofs.Memory.{goes_same}
-use Rattle.collection.proofs.Copies.{keys_same}
+use Rattle.collection.proofs.Copies.{keys_same, refreshes_same}
+use Rattle.std.proofs.lemmas.Bool.{false≢true}
+use Rattle.collection.specs.State.{Pin}
+use Rattle.collection.proofs.Exits.{ok_not_err, err_not_ok, true_not_false, no_more, reads_due, due_none, written_costs, still_unmarked, mark_in, acts_marked}
 use Rattle.collection.proofs.engine.Engine.write_back_lowest.Goals as goal
 
 pub returns-in_err-write_page_back-clause-owed : goal.returns-in_err-write_page_back-clause-owed
@@ -19,15 +21,15 @@ returns-in_err-write_page_back-clause-owed g c = λ is. owes_lowest c.args.flush
 
 pub returns-in_err-write_page_back-clause-reads : goal.returns-in_err-write_page_back-clause-reads
 returns-in_err-write_page_back-clause-reads g c =
-    (let some = excess_lowest c.args.flushing (ram c.args.self.now) c.in-Some.t
-    (due_some c.args.flushing (ram c.args.self.now) c.lowest_due-due.result c.in-Some.t c.lowest_due-due.ensures c.in-Some.is) in omega
-    (arith, some, c.write_page_back.ensures.reads))
+    let some = excess_lowest c.args.flushing (ram c.args.self.now) c.in-Some.t
+    (due_some c.args.flushing (ram c.args.self.now) c.lowest_due-due.result c.in-Some.t c.lowest_due-due.ensures c.in-Some.is) in
+    reads_due _ _ _ some c.write_page_back.ensures.reads
 
 pub returns-clause-reads : goal.returns-clause-reads
 returns-clause-reads g c =
-    (let some = excess_lowest c.args.flushing (ram c.args.self.now) c.in-Some.t
-    (due_some c.args.flushing (ram c.args.self.now) c.lowest_due-due.result c.in-Some.t c.lowest_due-due.ensures c.in-Some.is) in omega
-    (arith, some, c.write_page_back.ensures.reads))
+    let some = excess_lowest c.args.flushing (ram c.args.self.now) c.in-Some.t
+    (due_some c.args.flushing (ram c.args.self.now) c.lowest_due-due.result c.in-Some.t c.lowest_due-due.ensures c.in-Some.is) in
+    reads_due _ _ _ some c.write_page_back.ensures.reads
 
 pub returns-clause-refreshes : goal.returns-clause-refreshes
 returns-clause-refreshes g c = λ on.
@@ -80,10 +82,10 @@ pub returns-clause-unmoved : goal.returns-clause-unmoved
 returns-clause-unmoved g c = tt
 
 pub returns-clause-owed : goal.returns-clause-owed
-returns-clause-owed g c = λ h0. cc
+returns-clause-owed g c = λ is. absurd (ok_not_err _ _ is)
 
 pub returns-clause-cut : goal.returns-clause-cut
-returns-clause-cut g c = λ _ _ h2. cc
+returns-clause-cut g c = λ _ _ is. absurd (ok_not_bus _ is)
 
 pub returns-in_default-clause-goes : goal.returns-in_default-clause-goes
 returns-in_default-clause-goes g c = goes_same _
@@ -101,10 +103,10 @@ pub returns-in_default-clause-unmoved : goal.returns-in_default-clause-unmoved
 returns-in_default-clause-unmoved g c = tt
 
 pub returns-in_default-clause-owed : goal.returns-in_default-clause-owed
-returns-in_default-clause-owed g c = λ h0. cc
+returns-in_default-clause-owed g c = λ is. absurd (ok_not_err _ _ is)
 
 pub returns-in_default-clause-cut : goal.returns-in_default-clause-cut
-returns-in_default-clause-cut g c = λ _ _ h2. cc
+returns-in_default-clause-cut g c = λ _ _ is. absurd (ok_not_bus _ is)
 
 pub returns-in_err-write_page_back-clause-goes : goal.returns-in_err-write_page_back-clause-goes
 returns-in_err-write_page_back-clause-goes g c = c.write_page_back.ensures.goes
@@ -115,7 +117,7 @@ returns-in_err-write_page_back-clause-erases g c = c.write_page_back.ensures.era
 pub returns-in_err-write_page_back-clause-none : goal.returns-in_err-write_page_back-clause-none
 returns-in_err-write_page_back-clause-none g c =
     let p = err_from_is_err_and c.from_residual.result c.from_residual.ensures.1 in
-    rw (p.1, p.2) (λ h0. cc)
+    λ is. absurd (err_not_ok _ p.1 is)
 
 pub returns-in_err-write_page_back-clause-truth : goal.returns-in_err-write_page_back-clause-truth
 returns-in_err-write_page_back-clause-truth g c =
@@ -123,34 +125,34 @@ returns-in_err-write_page_back-clause-truth g c =
     rw (p.1, p.2) (c.in_err-write_page_back.ensures.truth)
 
 pub returns-clause-goes : goal.returns-clause-goes
-returns-clause-goes g c = search rules
+returns-clause-goes g c = record { geometry = c.write_page_back.ensures.goes.geometry; next = c.write_page_back.ensures.goes.next; shut = c.write_page_back.ensures.goes.shut }
 
 pub returns-clause-keys : goal.returns-clause-keys
-returns-clause-keys g c = search rules
+returns-clause-keys g c = record { limits = c.write_page_back.ensures.no_more.limits; keys = c.write_page_back.ensures.keys }
 
 pub returns-clause-none : goal.returns-clause-none
-returns-clause-none g c = search rules
+returns-clause-none g c = λ is. absurd (true_not_false is)
 
 pub returns-clause-pin : goal.returns-clause-pin
-returns-clause-pin g c = search rules
+returns-clause-pin g c = ap (λ (p : Pin). p.block) c.write_page_back.ensures.pin
 
 pub returns-in_default-clause-reads : goal.returns-in_default-clause-reads
-returns-in_default-clause-reads g c = search rules
+returns-in_default-clause-reads g c = no_more _ _
 
 pub returns-in_default-clause-refreshes : goal.returns-in_default-clause-refreshes
-returns-in_default-clause-refreshes g c = search rules
+returns-in_default-clause-refreshes g c = λ _. refreshes_same _ _ refl refl
 
 pub returns-in_default-clause-none : goal.returns-in_default-clause-none
-returns-in_default-clause-none g c = search rules
+returns-in_default-clause-none g c = λ _. (due_none c.args.flushing (ram c.args.self.now) c.lowest_due-due.result c.lowest_due-due.ensures (none_from c.lowest_due-due.result c.in_default.not-Some), refl)
 
 pub returns-in_default-clause-unmarked : goal.returns-in_default-clause-unmarked
-returns-in_default-clause-unmarked g c = search rules
+returns-in_default-clause-unmarked g c = λ fresh. fresh
 
 pub returns-in_default-clause-cost : goal.returns-in_default-clause-cost
-returns-in_default-clause-cost g c = search rules
+returns-in_default-clause-cost g c = λ is. absurd (false≢true is)
 
 pub returns-in_default-clause-truth : goal.returns-in_default-clause-truth
-returns-in_default-clause-truth g c = search rules
+returns-in_default-clause-truth g c = λ honest w. same_here (ram c.args.self.now) _ w
 
 pub returns-in_err-write_page_back-clause-acts : goal.returns-in_err-write_page_back-clause-acts
 returns-in_err-write_page_back-clause-acts g c =
@@ -158,13 +160,15 @@ returns-in_err-write_page_back-clause-acts g c =
     rw (p.1, p.2) (acts_err _ _ _ c.in_err-write_page_back.ensures.acts)
 
 pub returns-in_err-write_page_back-clause-keys : goal.returns-in_err-write_page_back-clause-keys
-returns-in_err-write_page_back-clause-keys g c = search rules
+returns-in_err-write_page_back-clause-keys g c = record { limits = c.write_page_back.ensures.no_more.limits; keys = c.write_page_back.ensures.keys }
 
 pub returns-in_err-write_page_back-clause-pin : goal.returns-in_err-write_page_back-clause-pin
-returns-in_err-write_page_back-clause-pin g c = search rules
+returns-in_err-write_page_back-clause-pin g c = ap (λ (p : Pin). p.block) c.write_page_back.ensures.pin
 
 pub returns-in_err-write_page_back-clause-unmoved : goal.returns-in_err-write_page_back-clause-unmoved
-returns-in_err-write_page_back-clause-unmoved g c = search rules
+returns-in_err-write_page_back-clause-unmoved g c =
+    let p = err_from_is_err_and c.from_residual.result c.from_residual.ensures.1 in
+    rw p.1 c.in_err-write_page_back.ensures.mapping
 
 pub returns-in_err-write_page_back-clause-unmarked : goal.returns-in_err-write_page_back-clause-unmarked
 returns-in_err-write_page_back-clause-unmarked g c =
@@ -172,7 +176,25 @@ returns-in_err-write_page_back-clause-unmarked g c =
     rw p.1 (λ _. tt)
 
 pub returns-in_err-write_page_back-clause-cost : goal.returns-in_err-write_page_back-clause-cost
-returns-in_err-write_page_back-clause-cost g c = search rules
+returns-in_err-write_page_back-clause-cost g c =
+    let p = err_from_is_err_and c.from_residual.result c.from_residual.ensures.1 in
+    rw (p.1, p.2) (written_costs (ram c.args.self.now) (ram c.write_page_back.new.self) _ c.in_err-write_page_back.ensures.cost)
 
 pub returns-clause-unmarked : goal.returns-clause-unmarked
-returns-clause-unmarked g c = grind (arith, common_steps)
+returns-clause-unmarked g c = λ fresh. still_unmarked _ c.in-Some.t _ _ _ c.set_mark.ensures (ap (λ (p : Pin). p.marks) c.write_page_back.ensures.pin) fresh
+
+pub returns-in_err-write_page_back-clause-refreshes : goal.returns-in_err-write_page_back-clause-refreshes
+returns-in_err-write_page_back-clause-refreshes g c = λ _. refreshes_same _ _ c.in_err-write_page_back.ensures.mapping c.write_page_back.ensures.pin
+
+pub write_page_back-requires-clause-safe : goal.write_page_back-requires-clause-safe
+write_page_back-requires-clause-safe g c = c.requires.safe
+
+pub write_page_back-requires-clause-page : goal.write_page_back-requires-clause-page
+write_page_back-requires-clause-page g c = (due_some c.args.flushing (ram c.args.self.now) c.lowest_due-due.result c.in-Some.t c.lowest_due-due.ensures c.in-Some.is).within
+
+pub set_mark-requires : goal.set_mark-requires
+set_mark-requires g c = mark_in (ram c.args.self.now) (ram c.write_page_back.new.self) c.in-Some.t c.write_page_back.ensures.acts.safe.memory c.write_page_back.ensures.goes.geometry
+    (due_some c.args.flushing (ram c.args.self.now) c.lowest_due-due.result c.in-Some.t c.lowest_due-due.ensures c.in-Some.is).within
+
+pub returns-clause-acts : goal.returns-clause-acts
+returns-clause-acts g c = acts_ok _ _ _ _ (acts_marked c.args.self.now c.write_page_back.new.self c.set_mark.new.marks c.in-Some.t _ _ c.set_mark.ensures c.in_ok-write_page_back.ensures.acts)

@@ -4,6 +4,12 @@ use Rattle.collection.specs.Safe.{ram, image_in}
 use Rattle.collection.specs.Stops.{IsPutByStop}
 use Rattle.collection.proofs.HalfPuts.{cut_bytes}
 use Rattle.collection.proofs.Acts.{stands_still, is_standing, acts_noted, not_standing, acts_filled}
+use Rattle.std.proofs.Common.{refl, ap, ◌∙◌, length}
+use Rattle.budget.specs.declared.stream.Stream.TheVariants.{Data}
+use Rattle.collection.proofs.Gates.{goes_noted}
+use Rattle.collection.proofs.Standing.{standing_none}
+use Rattle.collection.proofs.Memory.{goes_same}
+use Rattle.collection.proofs.Ends.{last_noted, settled_noted, page_cost_noted, written_noted, no_more_still}
 use Rattle.collection.proofs.engine.Engine.write_sector.Goals as goal
 
 -- ---- what a stop leaves
@@ -26,3 +32,98 @@ returns-in_err-standing-clause-stands g c =
 
 pub returns-clause-stands : goal.returns-clause-stands
 returns-clause-stands g c = rw (c.noted.ensures.same, c.noted.ensures.noted) (acts_noted _ _ _ (not_standing _ _ c.in_ok-standing.ensures) (acts_filled _ _ _ _ c.append-answer.ensures.acts))
+
+pub append-answer-requires-clause-safe : goal.append-answer-requires-clause-safe
+append-answer-requires-clause-safe g c = record {
+  memory = c.requires.safe.memory;
+  geometry = c.requires.safe.geometry;
+  page = record { body = ap length c.copy_from_slice.ensures.items ∙ c.requires.body; spare = c.requires.safe.page.spare };
+  scratch = c.requires.safe.scratch;
+}
+
+pub returns-clause-goes : goal.returns-clause-goes
+returns-clause-goes g c = rw c.noted.ensures.noted (goes_noted _ _ _ c.append-answer.ensures.goes)
+
+pub returns-clause-only_programs : goal.returns-clause-only_programs
+returns-clause-only_programs g c = rw c.noted.ensures.noted c.append-answer.ensures.only_programs
+
+pub returns-clause-pin : goal.returns-clause-pin
+returns-clause-pin g c = rw c.noted.ensures.noted c.append-answer.ensures.pin
+
+pub returns-clause-keys : goal.returns-clause-keys
+returns-clause-keys g c = rw c.noted.ensures.noted c.append-answer.ensures.keys
+
+pub returns-clause-no_more : goal.returns-clause-no_more
+returns-clause-no_more g c = rw c.noted.ensures.noted c.append-answer.ensures.no_more
+
+pub returns-clause-moved : goal.returns-clause-moved
+returns-clause-moved g c = rw c.noted.ensures.noted c.append-answer.ensures.moved
+
+pub returns-clause-scratch : goal.returns-clause-scratch
+returns-clause-scratch g c = rw c.noted.ensures.noted c.append-answer.ensures.scratch
+
+pub returns-clause-settled : goal.returns-clause-settled
+returns-clause-settled g c = rw (c.noted.ensures.same, c.noted.ensures.noted)
+    (settled_noted _ c.args.sector (ram c.args.self.now) (ram c.append-answer.new.self) c.append-answer.result c.append-answer.ensures.settled)
+
+pub returns-clause-page : goal.returns-clause-page
+returns-clause-page g c = λ none. rw c.noted.ensures.noted (ap (λ b. b.items) c.append-answer.ensures.page ∙ c.copy_from_slice.ensures.items)
+
+pub returns-clause-programmed : goal.returns-clause-programmed
+returns-clause-programmed g c = rw (c.noted.ensures.same, c.noted.ensures.noted)
+    (last_noted _ Sector c.args.sector (ram c.append-answer.new.self) _ c.append-answer.result c.append-answer.ensures.programmed)
+
+pub returns-clause-cost : goal.returns-clause-cost
+returns-clause-cost g c = λ none. rw (c.noted.ensures.same, c.noted.ensures.noted)
+    (page_cost_noted _ Data (ram c.args.self.now) (ram c.append-answer.new.self) c.append-answer.result c.append-answer.ensures.cost)
+
+pub returns-clause-truth : goal.returns-clause-truth
+returns-clause-truth g c = λ honest none w. rw (c.noted.ensures.same, c.noted.ensures.noted)
+    (written_noted _ Sector c.args.sector c.args.body.now _ (ram c.args.self.now) (ram c.append-answer.new.self) _ _ c.append-answer.result
+    c.copy_from_slice.ensures.items (c.append-answer.ensures.truth honest w))
+
+pub returns-in_err-standing-clause-goes : goal.returns-in_err-standing-clause-goes
+returns-in_err-standing-clause-goes g c = goes_same _
+
+pub returns-in_err-standing-clause-only_programs : goal.returns-in_err-standing-clause-only_programs
+returns-in_err-standing-clause-only_programs g c = record { reads_are = refl; erases_are = refl }
+
+pub returns-in_err-standing-clause-pin : goal.returns-in_err-standing-clause-pin
+returns-in_err-standing-clause-pin g c = refl
+
+pub returns-in_err-standing-clause-keys : goal.returns-in_err-standing-clause-keys
+returns-in_err-standing-clause-keys g c = refl
+
+pub returns-in_err-standing-clause-no_more : goal.returns-in_err-standing-clause-no_more
+returns-in_err-standing-clause-no_more g c = no_more_still _
+
+pub returns-in_err-standing-clause-moved : goal.returns-in_err-standing-clause-moved
+returns-in_err-standing-clause-moved g c = refl
+
+pub returns-in_err-standing-clause-settled : goal.returns-in_err-standing-clause-settled
+returns-in_err-standing-clause-settled g c =
+    let p = err_from_is_err_and c.from_residual.result c.from_residual.ensures.1 in
+    rw p.1 (tt)
+
+pub returns-in_err-standing-clause-page : goal.returns-in_err-standing-clause-page
+returns-in_err-standing-clause-page g c = λ none. absurd (standing_none _ _ c.in_err-standing.ensures none)
+
+pub returns-in_err-standing-clause-scratch : goal.returns-in_err-standing-clause-scratch
+returns-in_err-standing-clause-scratch g c = refl
+
+pub returns-in_err-standing-clause-programmed : goal.returns-in_err-standing-clause-programmed
+returns-in_err-standing-clause-programmed g c =
+    let p = err_from_is_err_and c.from_residual.result c.from_residual.ensures.1 in
+    rw p.1 (tt)
+
+pub returns-in_err-standing-clause-cost : goal.returns-in_err-standing-clause-cost
+returns-in_err-standing-clause-cost g c = λ none. absurd (standing_none _ _ c.in_err-standing.ensures none)
+
+pub returns-in_err-standing-clause-truth : goal.returns-in_err-standing-clause-truth
+returns-in_err-standing-clause-truth g c = λ _ none. absurd (standing_none _ _ c.in_err-standing.ensures none)
+
+pub returns-in_err-standing-clause-stops : goal.returns-in_err-standing-clause-stops
+returns-in_err-standing-clause-stops g c = λ _ none. absurd (standing_none _ _ c.in_err-standing.ensures none)
+
+pub returns-in_err-standing-clause-cut : goal.returns-in_err-standing-clause-cut
+returns-in_err-standing-clause-cut g c = λ _ none. absurd (standing_none _ _ c.in_err-standing.ensures none)

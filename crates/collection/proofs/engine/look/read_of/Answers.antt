@@ -1,8 +1,11 @@
-use Rattle.std.proofs.Common.{is_some, ap, sym, ◌∙◌, length, refl}
+use Rattle.std.proofs.Common.{is_some, ap, sym, ◌∙◌, refl}
 use Rattle.std.proofs.lemmas.List.{with_items_is}
 use Rattle.page_layout.specs.Page.{page}
 use Rattle.page_layout.proofs.AskedLemmas.{asks_one}
-use Rattle.collection.proofs.Looks.{page_of, not_other, not_unsound}
+use Rattle.collection.proofs.Looks.{page_of, not_other, not_unsound, ok_not_bus}
+use Rattle.collection.specs.declared.fault.EngineFault.TheVariants.{Damaged}
+use Rattle.collection.proofs.Programs.{buffer_both}
+use Rattle.collection.proofs.Ends.{damaged_apart, err_apart}
 use Rattle.collection.proofs.engine.look.read_of.Goals as goal
 
 pub returns-in-Ok-None-clause-undamaged : goal.returns-in-Ok-None-clause-undamaged
@@ -55,10 +58,10 @@ pub returns-in-Ok-None-clause-faults : goal.returns-in-Ok-None-clause-faults
 returns-in-Ok-None-clause-faults g c = tt
 
 pub returns-in-Ok-None-clause-rose : goal.returns-in-Ok-None-clause-rose
-returns-in-Ok-None-clause-rose g c = λ h0. cc
+returns-in-Ok-None-clause-rose g c = λ e. absurd (err_apart Damaged damaged_apart e)
 
 pub returns-in-Ok-None-clause-cut : goal.returns-in-Ok-None-clause-cut
-returns-in-Ok-None-clause-cut g c = λ _ h1. cc
+returns-in-Ok-None-clause-cut g c = λ _ e. absurd (err_apart Damaged damaged_apart e)
 
 pub returns-in-Ok-Some-clause-only_reads : goal.returns-in-Ok-Some-clause-only_reads
 returns-in-Ok-Some-clause-only_reads g c = c.read_sound.ensures.only_reads
@@ -70,10 +73,10 @@ pub returns-in-Ok-Some-clause-faults : goal.returns-in-Ok-Some-clause-faults
 returns-in-Ok-Some-clause-faults g c = tt
 
 pub returns-in-Ok-Some-clause-rose : goal.returns-in-Ok-Some-clause-rose
-returns-in-Ok-Some-clause-rose g c = λ h0. cc
+returns-in-Ok-Some-clause-rose g c = λ e. absurd (err_apart Damaged damaged_apart e)
 
 pub returns-in-Ok-Some-clause-cut : goal.returns-in-Ok-Some-clause-cut
-returns-in-Ok-Some-clause-cut g c = λ _ h1. cc
+returns-in-Ok-Some-clause-cut g c = λ _ e. absurd (err_apart Damaged damaged_apart e)
 
 pub returns-in-Ok-Some-2-clause-only_reads : goal.returns-in-Ok-Some-2-clause-only_reads
 returns-in-Ok-Some-2-clause-only_reads g c = c.read_sound.ensures.only_reads
@@ -85,20 +88,16 @@ pub returns-in-Ok-Some-2-clause-faults : goal.returns-in-Ok-Some-2-clause-faults
 returns-in-Ok-Some-2-clause-faults g c = tt
 
 pub returns-in-Ok-Some-2-clause-rose : goal.returns-in-Ok-Some-2-clause-rose
-returns-in-Ok-Some-2-clause-rose g c = λ h0. cc
+returns-in-Ok-Some-2-clause-rose g c = λ e. absurd (ok_not_bus _ e)
 
 pub returns-in-Ok-Some-2-clause-cut : goal.returns-in-Ok-Some-2-clause-cut
-returns-in-Ok-Some-2-clause-cut g c = λ _ h1. cc
+returns-in-Ok-Some-2-clause-cut g c = λ _ e. absurd (ok_not_bus _ e)
 
 pub returns-in-Ok-Some-2-clause-undamaged : goal.returns-in-Ok-Some-2-clause-undamaged
 returns-in-Ok-Some-2-clause-undamaged g c = λ _ _. tt
 
 pub returns-in-Err-clause-buffer : goal.returns-in-Err-clause-buffer
-returns-in-Err-clause-buffer g c =
-    record {
-      body = ap length (with_items_is c.args.buffer.now.body c.read_sound.new.body (c.read_sound.auto.body ∙ c.deref_mut.ensures.len)) ∙ (c.read_sound.auto.body ∙ (c.deref_mut.ensures.len ∙ (c.args.buffer.now.body.ok.0 ∙ c.requires.buffer.body)));
-      spare = ap length (with_items_is c.args.buffer.now.spare c.read_sound.new.spare (c.read_sound.auto.spare ∙ c.deref_mut-2.ensures.len)) ∙ (c.read_sound.auto.spare ∙ (c.deref_mut-2.ensures.len ∙ (c.args.buffer.now.spare.ok.0 ∙ c.requires.buffer.spare)));
-    }
+returns-in-Err-clause-buffer g c = buffer_both c.args.geometry.now c.args.buffer.now c.read_sound.new.body c.read_sound.new.spare c.requires.buffer
 
 pub returns-in-Err-clause-rose : goal.returns-in-Err-clause-rose
 returns-in-Err-clause-rose g c = λ _. c.in-Err.ensures.rose
@@ -122,11 +121,7 @@ pub returns-in-Err-clause-undamaged : goal.returns-in-Err-clause-undamaged
 returns-in-Err-clause-undamaged g c = λ _ _. refl
 
 pub returns-in-Ok-None-clause-buffer : goal.returns-in-Ok-None-clause-buffer
-returns-in-Ok-None-clause-buffer g c =
-    record {
-      body = ap length (with_items_is c.args.buffer.now.body c.read_sound.new.body (c.read_sound.auto.body ∙ c.deref_mut.ensures.len)) ∙ (c.read_sound.auto.body ∙ (c.deref_mut.ensures.len ∙ (c.args.buffer.now.body.ok.0 ∙ c.requires.buffer.body)));
-      spare = ap length (with_items_is c.args.buffer.now.spare c.read_sound.new.spare (c.read_sound.auto.spare ∙ c.deref_mut-2.ensures.len)) ∙ (c.read_sound.auto.spare ∙ (c.deref_mut-2.ensures.len ∙ (c.args.buffer.now.spare.ok.0 ∙ c.requires.buffer.spare)));
-    }
+returns-in-Ok-None-clause-buffer g c = buffer_both c.args.geometry.now c.args.buffer.now c.read_sound.new.body c.read_sound.new.spare c.requires.buffer
 
 pub returns-in-Ok-None-clause-same : goal.returns-in-Ok-None-clause-same
 returns-in-Ok-None-clause-same g c = λ honest _. c.in-Ok-None.ensures.same honest
@@ -141,11 +136,7 @@ pub returns-in-Ok-None-clause-checked : goal.returns-in-Ok-None-clause-checked
 returns-in-Ok-None-clause-checked g c = tt
 
 pub returns-in-Ok-Some-clause-buffer : goal.returns-in-Ok-Some-clause-buffer
-returns-in-Ok-Some-clause-buffer g c =
-    record {
-      body = ap length (with_items_is c.args.buffer.now.body c.read_sound.new.body (c.read_sound.auto.body ∙ c.deref_mut.ensures.len)) ∙ (c.read_sound.auto.body ∙ (c.deref_mut.ensures.len ∙ (c.args.buffer.now.body.ok.0 ∙ c.requires.buffer.body)));
-      spare = ap length (with_items_is c.args.buffer.now.spare c.read_sound.new.spare (c.read_sound.auto.spare ∙ c.deref_mut-2.ensures.len)) ∙ (c.read_sound.auto.spare ∙ (c.deref_mut-2.ensures.len ∙ (c.args.buffer.now.spare.ok.0 ∙ c.requires.buffer.spare)));
-    }
+returns-in-Ok-Some-clause-buffer g c = buffer_both c.args.geometry.now c.args.buffer.now c.read_sound.new.body c.read_sound.new.spare c.requires.buffer
 
 pub returns-in-Ok-Some-clause-same : goal.returns-in-Ok-Some-clause-same
 returns-in-Ok-Some-clause-same g c = λ honest _. c.in-Ok-Some.ensures.same honest
@@ -160,11 +151,7 @@ pub returns-in-Ok-Some-clause-checked : goal.returns-in-Ok-Some-clause-checked
 returns-in-Ok-Some-clause-checked g c = tt
 
 pub returns-in-Ok-Some-2-clause-buffer : goal.returns-in-Ok-Some-2-clause-buffer
-returns-in-Ok-Some-2-clause-buffer g c =
-    record {
-      body = ap length (with_items_is c.args.buffer.now.body c.read_sound.new.body (c.read_sound.auto.body ∙ c.deref_mut.ensures.len)) ∙ (c.read_sound.auto.body ∙ (c.deref_mut.ensures.len ∙ (c.args.buffer.now.body.ok.0 ∙ c.requires.buffer.body)));
-      spare = ap length (with_items_is c.args.buffer.now.spare c.read_sound.new.spare (c.read_sound.auto.spare ∙ c.deref_mut-2.ensures.len)) ∙ (c.read_sound.auto.spare ∙ (c.deref_mut-2.ensures.len ∙ (c.args.buffer.now.spare.ok.0 ∙ c.requires.buffer.spare)));
-    }
+returns-in-Ok-Some-2-clause-buffer g c = buffer_both c.args.geometry.now c.args.buffer.now c.read_sound.new.body c.read_sound.new.spare c.requires.buffer
 
 pub returns-in-Ok-Some-2-clause-same : goal.returns-in-Ok-Some-2-clause-same
 returns-in-Ok-Some-2-clause-same g c = λ honest _. c.in-Ok-Some.ensures.same honest

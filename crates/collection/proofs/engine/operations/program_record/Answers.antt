@@ -1,6 +1,7 @@
 use Rattle.collection.proofs.Stops.{program_stops}
-use Rattle.collection.proofs.Programs.{means_by, program_cut}
-use Rattle.std.proofs.Common.{rules}
+use Rattle.collection.proofs.Programs.{means_by, program_cut, stepped}
+use Rattle.std.proofs.Common.{rules, subst, sym, ◌<◌}
+use Rattle.page_layout.specs.Geometry.{row_count}
 use Rattle.collection.proofs.engine.operations.program_record.Goals as goal
 
 pub returns-clause-means : goal.returns-clause-means
@@ -37,10 +38,13 @@ pub returns-clause-called : goal.returns-clause-called
 returns-clause-called g c = c.program.ensures.called
 
 pub returns-clause-spare : goal.returns-clause-spare
-returns-clause-spare g c = search rules
+returns-clause-spare g c = c.write_record.ensures.is
 
 pub returns-clause-step : goal.returns-clause-step
-returns-clause-step g c = search rules
+returns-clause-step g c = λ honest. stepped c.args.row _ c.args.written.now _ _ _ _ _ c.program.result c.write_record.ensures.is c.program.ensures.step c.program.ensures.recorded honest
 
 pub returns-clause-image : goal.returns-clause-image
 returns-clause-image g c = search rules
+
+pub program-requires-clause-row_in : goal.program-requires-clause-row_in
+program-requires-clause-row_in g c = subst (λ x. c.args.row < row_count x) (sym c.requires.same_geometry) c.requires.row_in

@@ -1,4 +1,4 @@
-use Rattle.std.proofs.Common.{refl}
+use Rattle.std.proofs.Common.{refl, ◌∙◌, ap}
 use Rattle.std.proofs.lemmas.Result.{err_from_is_err_and}
 use Rattle.promises.specs.Step as step
 use Rattle.collection.specs.Safe.{ram}
@@ -9,6 +9,8 @@ use Rattle.ftl_device.proofs.UpkeepLemmas.{upkept_by, not_upkept, flush_pins}
 use Rattle.ftl_device.proofs.ChangeLemmas.{unpinned_some}
 use Rattle.ftl_device.proofs.RenewedLemmas.{flush_finishes}
 use Rattle.ftl_device.proofs.FlushStepLemmas.{flushed_answer}
+use Rattle.std.specs.Map.{keys_of}
+use Rattle.ftl_device.proofs.AnswerLemmas.{told_scarce, told_fewer, told_spent}
 use Rattle.ftl_device.proofs.device.Device.flush.Goals as goal
 
 pub returns-in_err-may_flush-clause-upkeeps : goal.returns-in_err-may_flush-clause-upkeeps
@@ -62,3 +64,70 @@ pub returns-clause-programs : goal.returns-clause-programs
 returns-clause-programs g c = flushed_answer g.N.PageSource.view c.args.self.now.engine
     c.flush_ready-answer.new.engine c.finish.new.self.engine c.flush_ready-answer.result c.finish.result c.good-good.result c.finish.ensures.engine
     c.finish.ensures.answer c.flush_ready-answer.ensures.programs
+
+-- ---- it was refused at once
+
+pub returns-in_err-may_flush-clause-device : goal.returns-in_err-may_flush-clause-device
+returns-in_err-may_flush-clause-device g c = c.requires.device
+
+pub returns-in_err-may_flush-clause-geometry : goal.returns-in_err-may_flush-clause-geometry
+returns-in_err-may_flush-clause-geometry g c = refl
+
+pub returns-in_err-may_flush-clause-cursor : goal.returns-in_err-may_flush-clause-cursor
+returns-in_err-may_flush-clause-cursor g c = refl
+
+pub returns-in_err-may_flush-clause-renewed : goal.returns-in_err-may_flush-clause-renewed
+returns-in_err-may_flush-clause-renewed g c =
+    let p = err_from_is_err_and c.from_residual.result c.from_residual.ensures.1 in
+    rw p.1 (λ honest w. tt)
+
+pub returns-in_err-may_flush-clause-keys : goal.returns-in_err-may_flush-clause-keys
+returns-in_err-may_flush-clause-keys g c = refl
+
+pub returns-in_err-may_flush-clause-programs : goal.returns-in_err-may_flush-clause-programs
+returns-in_err-may_flush-clause-programs g c =
+    let p = err_from_is_err_and c.from_residual.result c.from_residual.ensures.1 in
+    rw p.1 tt
+
+-- ---- it was tried
+
+pub returns-clause-device : goal.returns-clause-device
+returns-clause-device g c = c.finish.ensures.device
+
+pub returns-clause-geometry : goal.returns-clause-geometry
+returns-clause-geometry g c = ap (λ e. e.geometry) c.finish.ensures.engine ∙ c.flush_ready-answer.ensures.ends.geometry
+
+pub returns-clause-cursor : goal.returns-clause-cursor
+returns-clause-cursor g c = c.finish.ensures.cursor
+
+pub returns-clause-keys : goal.returns-clause-keys
+returns-clause-keys g c = ap (λ e. keys_of e.mapping.cached) c.finish.ensures.engine ∙ c.flush_ready-answer.ensures.keys
+
+-- ---- what the calls want
+
+pub finish-requires-clause-safe : goal.finish-requires-clause-safe
+finish-requires-clause-safe g c = c.flush_ready-answer.ensures.ends.safe
+
+pub finish-requires-clause-fault : goal.finish-requires-clause-fault
+finish-requires-clause-fault g c = c.flush_ready-answer.ensures.ends.fault
+
+pub finish-requires-clause-scarce : goal.finish-requires-clause-scarce
+finish-requires-clause-scarce g c = told_scarce c.flush_ready-answer.result (ram c.args.self.now.engine) (ram c.flush_ready-answer.new.engine) c.flush_ready-answer.ensures.ends.tells
+
+pub finish-requires-clause-fewer : goal.finish-requires-clause-fewer
+finish-requires-clause-fewer g c = told_fewer c.flush_ready-answer.result (ram c.args.self.now.engine) (ram c.flush_ready-answer.new.engine) _ c.good-good.ensures c.flush_ready-answer.ensures.ends.tells
+
+pub finish-requires-clause-calm : goal.finish-requires-clause-calm
+finish-requires-clause-calm g c = c.flush_ready-answer.ensures.ends.calm_memory
+
+pub finish-requires-clause-spent : goal.finish-requires-clause-spent
+finish-requires-clause-spent g c = told_spent c.flush_ready-answer.result (ram c.args.self.now.engine) (ram c.flush_ready-answer.new.engine) c.flush_ready-answer.ensures.ends.tells
+
+pub flush_ready-answer-requires-clause-safe : goal.flush_ready-answer-requires-clause-safe
+flush_ready-answer-requires-clause-safe g c = c.requires.device.engine
+
+pub flush_ready-answer-requires-clause-going : goal.flush_ready-answer-requires-clause-going
+flush_ready-answer-requires-clause-going g c = c.in_ok-may_flush.ensures.may.going
+
+pub flush_ready-answer-requires-clause-calm : goal.flush_ready-answer-requires-clause-calm
+flush_ready-answer-requires-clause-calm g c = c.requires.device.calm c.in_ok-may_flush.ensures.may.going

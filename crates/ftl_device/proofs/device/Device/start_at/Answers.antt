@@ -1,4 +1,4 @@
-use Rattle.std.proofs.Common.{◌≡◌, ◌∙◌, ap, sym, subst, None}
+use Rattle.std.proofs.Common.{◌≡◌, ◌∙◌, ap, sym, subst, refl, None}
 use Rattle.page_layout.specs.declared.geometry.Geometry.{Geometry}
 use Rattle.certificate.specs.Claim.{Claim, sizes_of}
 use Rattle.certificate.specs.Spelling.{Fits}
@@ -56,3 +56,59 @@ returns-in-Ok-new-clause-free g c = λ honest accepted.
 pub returns-in-Ok-new-clause-accounts : goal.returns-in-Ok-new-clause-accounts
 returns-in-Ok-new-clause-accounts g c = λ honest accepted.
     started_accounts c.args.share (g.N.PageSource.view.flash c.args.nand) c.args.accepted (ram c.in-Ok-new.engine) (returns-in-Ok-new-clause-begun g c) accepted
+
+-- ---- memory was refused
+
+pub returns-in_default-clause-device : goal.returns-in_default-clause-device
+returns-in_default-clause-device g c = tt
+
+pub returns-in_default-clause-nand : goal.returns-in_default-clause-nand
+returns-in_default-clause-nand g c = tt
+
+pub returns-in_default-clause-cursor : goal.returns-in_default-clause-cursor
+returns-in_default-clause-cursor g c = tt
+
+pub returns-in_default-clause-begun : goal.returns-in_default-clause-begun
+returns-in_default-clause-begun g c = tt
+
+pub returns-in_default-clause-good : goal.returns-in_default-clause-good
+returns-in_default-clause-good g c = tt
+
+pub returns-in_default-clause-truth : goal.returns-in_default-clause-truth
+returns-in_default-clause-truth g c = tt
+
+pub returns-in_default-clause-free : goal.returns-in_default-clause-free
+returns-in_default-clause-free g c = tt
+
+pub returns-in_default-clause-accounts : goal.returns-in_default-clause-accounts
+returns-in_default-clause-accounts g c = tt
+
+pub returns-clause-device : goal.returns-clause-device
+returns-clause-device g c = tt
+
+pub returns-clause-nand : goal.returns-clause-nand
+returns-clause-nand g c = tt
+
+pub returns-clause-cursor : goal.returns-clause-cursor
+returns-clause-cursor g c = tt
+
+pub returns-clause-begun : goal.returns-clause-begun
+returns-clause-begun g c = tt
+
+pub returns-clause-good : goal.returns-clause-good
+returns-clause-good g c = tt
+
+pub returns-clause-truth : goal.returns-clause-truth
+returns-clause-truth g c = tt
+
+pub returns-clause-free : goal.returns-clause-free
+returns-clause-free g c = tt
+
+pub returns-clause-accounts : goal.returns-clause-accounts
+returns-clause-accounts g c = tt
+
+pub returns-in-Ok-new-clause-cursor : goal.returns-in-Ok-new-clause-cursor
+returns-in-Ok-new-clause-cursor g c = refl
+
+pub returns-in-Ok-new-clause-fault : goal.returns-in-Ok-new-clause-fault
+returns-in-Ok-new-clause-fault g c = tt
