@@ -6,8 +6,6 @@ mod json_text;
 mod laws;
 mod note;
 mod reading;
-#[cfg(test)]
-mod tests;
 
 pub use content::{Content, Hashing, TooLong, content_of};
 pub use json_text::{Run, report_line};

@@ -14,6 +14,7 @@ mod origin_rows;
 mod pages;
 mod repair_rows;
 mod report_rows;
+mod report_text;
 mod runs;
 mod survey_rows;
 mod word_rows;

@@ -1,5 +1,5 @@
 //! The digests of outside vectors, and a report in its text and back.
-use crate::{Content, Hashing, Noted, Run, RunReport, content_of, read_report, report_line};
+use lab_report::{Content, Hashing, Noted, Run, RunReport, content_of, read_report, report_line};
 use std::alloc::{AllocError, Global};
 use std::process::Abort;
 use std::test::Fail;
