@@ -120,14 +120,28 @@ def numbers(text):
 def hold_script():
     text = (TESTS / "script_rows.rt").read_text()
     sizes = {name: numbers(its) for name, its in re.findall(r"const (\w+): \(u32, u32, u32, u32\) = \(([^)]*)\)", text)}
-    rows = re.findall(r"Row \{\s*sizes: (\w+),\s*share: (\d+),\s*hot: (\w+),\s*failing: &\[([^\]]*)\],\s*torn: (\w+),\s*devices: &\[(.*?)\n        \]", text, re.S)
+    lists = dict(re.findall(r"const (\w+): &\[Stage\] = &\[(.*?)\];", text, re.S))
+    fields = r"(\w+): ((?:&\[[^\]]*\]|\w+)),|\.\.(\w+)"
+    parts = {}
+
+    def row_of(its):
+        row = {}
+        for field, value, rest in re.findall(fields, its):
+            row = {**parts[rest], **row} if rest else {**row, field: lists.get(value, value)}
+        return row
+
+    for name, its in re.findall(r"const (\w+): Row = Row \{(.*?)\n\};", text, re.S):
+        parts[name] = row_of(its)
+    its = text[text.index("static ROWS"):]
+    rows = [parts[name] if name else row_of(row) for row, name in re.findall(r"\n    (?:Row \{(.*?\n)    \}|(\w+)),", its, re.S)]
     stages = 0
-    for name, share, hot, failing, torn, devices in rows:
-        die, script = Die(Geometry(64, *sizes[name])), Script(hot == "true")
+    for row in rows:
+        name, share, torn = row["sizes"], row["share"], row["torn"]
+        die, script = Die(Geometry(64, *sizes[name])), Script(row["hot"] == "true")
         format_die(die, (), int(share))
-        die.failing = {die.changes + nth for nth in numbers(failing)}
+        die.failing = {die.changes + nth for nth in numbers(row["failing"])}
         die.page_left = torn == "true"
-        for stage in re.findall(r"Stage \{(.*?)\n            \}", devices, re.S):
+        for stage in re.findall(r"Stage\((\d+, \d+, \(\d+, \d+, \d+\))\)", row["devices"]):
             capacity, *wanted = numbers(stage)
             device = Device(die, capacity, int(share))
             script.compare(device)
@@ -195,9 +209,9 @@ def waiting_calls(device):
 def hold_waiting():
     """The same of dies on which sectors wait."""
     text = (TESTS / "stops.rt").read_text()
-    its = re.search(r"static SHARED: .*?\n\];", text, re.S).group()
-    rows = [numbers(row) for row in re.findall(r"each: (\d+,\s*least: Tried \{\s*stops: \d+,\s*changing: \d+)", its)]
-    for share, (each, stops, least) in zip((1, 3, 15), rows, strict=True):
+    its = re.search(r"const APART: .*?\n\];", text, re.S).group()
+    apart, whole = [numbers(row) for row in re.findall(r"each: (\d+,\s*least: Tried \{\s*stops: \d+,\s*changing: \d+)", its)]
+    for share, (each, stops, least) in ((1, whole), (3, apart), (15, apart)):
         device, _ = formatted(Geometry(64, 32, 4, 34, 48), 4, share=share)
         before = device.die.changes
         changing, most = waiting_calls(device)

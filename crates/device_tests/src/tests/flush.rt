@@ -29,6 +29,14 @@ const AT_8: &[u8] = &[NO, NO, NO, NO, NO, 8];
 // The same in row 16.
 const AT_16: &[u8] = &[NO, NO, NO, NO, NO, 16];
 
+// The pages of a flush after the one write.
+const FLUSHED: [PageAt; 4] = [
+    PageAt::Sector(8, 5, 3, 0x5A),
+    PageAt::Translation(2, 0, 4, AT_8),
+    PageAt::Table(3, 0, 5, NONE_BAD),
+    PageAt::Table(4, 1, 6, NONE_BAD),
+];
+
 static FLUSHES: [Case; 4] = [
     Case {
         name: "a flush of nothing writes the table",
@@ -46,12 +54,7 @@ static FLUSHES: [Case; 4] = [
         steps: &[Done(&[Write(5, 0x5A), Flush])],
         cached: &[5],
         operations: &[Program(8, 0xE0), Programs(2, 1, 3, 0xE0)],
-        pages: &[
-            PageAt::Sector(8, 5, 3, 0x5A),
-            PageAt::Translation(2, 0, 4, AT_8),
-            PageAt::Table(3, 0, 5, NONE_BAD),
-            PageAt::Table(4, 1, 6, NONE_BAD),
-        ],
+        pages: &FLUSHED,
         ..QUIET
     },
     // The die may be mounted at any capacity then.
@@ -62,12 +65,7 @@ static FLUSHES: [Case; 4] = [
         steps: &[Done(&[Read(5, 0x5A)])],
         cached: &[5],
         operations: &[ReadPage(2), ReadPage(8)],
-        pages: &[
-            PageAt::Sector(8, 5, 3, 0x5A),
-            PageAt::Translation(2, 0, 4, AT_8),
-            PageAt::Table(3, 0, 5, NONE_BAD),
-            PageAt::Table(4, 1, 6, NONE_BAD),
-        ],
+        pages: &FLUSHED,
         ..QUIET
     },
     // A block that failed before is told by the table.

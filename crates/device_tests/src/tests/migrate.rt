@@ -215,10 +215,10 @@ fn hold_image(geometry: &Geometry, bytes: &[u8], case: &Case) -> Result<(), Fail
 
 // The die after the migration of a case, and its geometry. So many calls migrate one.
 fn migrated<N: Nand + Drop>(
+    case: &Case,
     alloc: Global,
     nand: N,
     geometry: &Geometry,
-    case: &Case,
 ) -> Result<(N, Geometry), Fail>
     requires { (N.view.flash nand).geometry ≡ geometry.now }
     ensures { IfOk result (λ pair. (N.view.flash pair.0).geometry ≡ pair.1) }
@@ -233,7 +233,7 @@ fn migrated<N: Nand + Drop>(
 
 fn hold_case(alloc: Global, case: &Case, geometry: Geometry, image: &[u8]) -> Result<(), Fail> {
     let driver = loaded(alloc, geometry, image)?;
-    let (driver, geometry) = migrated(alloc, driver, &geometry, case)?;
+    let (driver, geometry) = migrated(case, alloc, driver, &geometry)?;
     hold_image(&geometry, &image_of(alloc, &geometry, driver)?, case)
 }
 

@@ -1,6 +1,7 @@
 //! Devices that are given up and started anew, and certificates that say too little or too much.
 ghost use Rattle.std.specs.Prelude.{◌≡◌, IfOk};
 
+use super::serving::refusal_of;
 use certificate::Certificate;
 use device_fixtures::bench::{after_calls, bytes_of, formatted, mounted, small, with_bytes};
 use device_fixtures::calls::Call;
@@ -12,7 +13,7 @@ use device_fixtures::pages::PageAt;
 use device_fixtures::recorder::Operation::{Program, Read as ReadPage};
 use device_fixtures::recorder::Recorder;
 use ftl_device::DeviceFault;
-use image_check::{Refusal, check};
+use image_check::Refusal;
 use mount::mount;
 use onfi_cycles::Driver;
 use page_layout::geometry::Geometry;
@@ -32,18 +33,6 @@ fn with_older_row(alloc: Global, certificate: &Certificate) -> Result<Certificat
     with_bytes(alloc, certificate, 364, &[8])
 }
 
-// Why a checker refuses a certificate.
-fn check_refusal<S: PageSource>(
-    alloc: Global,
-    source: &mut S,
-    geometry: &Geometry,
-    certificate: &Certificate,
-) -> Option<Refusal>
-    requires { (S.view.flash source.old).geometry ≡ geometry.now }
-{
-    check(alloc, source, geometry, 4, certificate).err()
-}
-
 // Why a checker refuses the certificate of a mount, but for an older row.
 fn older_refusal<S: PageSource>(
     alloc: Global,
@@ -54,7 +43,7 @@ fn older_refusal<S: PageSource>(
 {
     let mounted = mounted(alloc, source, geometry, 4)?;
     let older = with_older_row(alloc, &mounted)?;
-    Ok(check_refusal(alloc, source, geometry, &older))
+    Ok(refusal_of(alloc, source, geometry, &older))
 }
 
 // Why a mount with a cache of two is refused.

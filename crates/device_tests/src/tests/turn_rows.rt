@@ -96,8 +96,8 @@ const STARTED: Case = Case {
     ..QUIET
 };
 
-// The moved sector waits for its translation page, which the second turn writes.
-static UNCACHED: [Case; 4] = [
+static UNCACHED: [Case; 10] = [
+    // The moved sector waits for its translation page, which the second turn writes.
     Case {
         name: "a sector is moved",
         steps: &[Done(&[Turn])],
@@ -140,11 +140,8 @@ static UNCACHED: [Case; 4] = [
         operations: &[Program(161, 0xE0), Program(6, 0xE0), Erase(8, 0xE0)],
         ..STARTED
     },
-];
-
-// A moved sector that is read is not cached. Once it is written it is, and the block is erased next: no
-// translation page has to be.
-static BETWEEN: [Case; 3] = [
+    // A moved sector that is read is not cached. Once it is written it is, and the block is erased next: no
+    // translation page has to be.
     Case {
         name: "a moved sector is read",
         steps: &[Done(&[Turn, Read(0, 1)])],
@@ -174,11 +171,8 @@ static BETWEEN: [Case; 3] = [
         }),
         ..STARTED
     },
-];
-
-// A flush writes the translation page of a moved sector too, and the block stays pinned. A restart
-// forgets the pin: the device that is started finds a victim without a live page, and erases it.
-static STOPPED: [Case; 3] = [
+    // A flush writes the translation page of a moved sector too, and the block stays pinned. A restart
+    // forgets the pin: the device that is started finds a victim without a live page, and erases it.
     Case {
         name: "a flush writes the row of a moved sector",
         steps: &[Done(&[Turn, Flush])],
@@ -223,9 +217,7 @@ static STOPPED: [Case; 3] = [
 
 #[test]
 fn moved_sectors_wait_for_turns(rt: HostRuntime) -> Result<(), Fail> {
-    hold_cases(rt.alloc(), &UNCACHED)?;
-    hold_cases(rt.alloc(), &BETWEEN)?;
-    hold_cases(rt.alloc(), &STOPPED)
+    hold_cases(rt.alloc(), &UNCACHED)
 }
 
 // Makes a write: whether it erased a block.

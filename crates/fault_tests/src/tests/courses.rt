@@ -230,14 +230,14 @@ fn stopping(alloc: Global, start: &Start, nth: u64, stop: Stop) -> Result<Driver
 fn run_on<N: Nand + Drop>(
     alloc: Global,
     nand: N,
+    geometry: &Geometry,
     course: &Course,
-    start: &Start,
     went: &mut Went,
 ) -> Result<(N, Geometry), Fail>
-    requires { (N.view.flash nand).geometry ≡ start.now.geometry }
+    requires { (N.view.flash nand).geometry ≡ geometry.now }
     ensures { IfOk result (λ pair. (N.view.flash pair.0).geometry ≡ pair.1) }
 {
-    let device = started_at(alloc, nand, &start.geometry, 4, course.share)?;
+    let device = started_at(alloc, nand, geometry, 4, course.share)?;
     after(device, course, went)
 }
 
@@ -253,10 +253,10 @@ fn run_over<N: Nand + Drop>(
     ensures { IfOk result (λ pair. (N.view.flash pair.0).geometry ≡ pair.1) }
 {
     if !course.noise {
-        return run_on(alloc, nand, course, start, went);
+        return run_on(alloc, nand, &start.geometry, course, went);
     }
     let nand = noisy(alloc, nand, &start.geometry)?;
-    let (nand, geometry) = run_on(alloc, nand, course, start, went)?;
+    let (nand, geometry) = run_on(alloc, nand, &start.geometry, course, went)?;
     Ok((quiet(nand)?, geometry))
 }
 

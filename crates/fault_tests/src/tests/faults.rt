@@ -37,9 +37,9 @@ const ONE_LEFT_OF_32: DeviceFault = DeviceFault::ReadOnly {
     failed: 31,
 };
 
-// A sector is tried in the next block with the next sequence after each failure, which leaves its
-// block bad.
-static TRIED_ELSEWHERE: [Case; 3] = [
+static TRIED_ELSEWHERE: [Case; 5] = [
+    // A sector is tried in the next block with the next sequence after each failure, which leaves its
+    // block bad.
     Case {
         name: "one failed program",
         failing: &[1],
@@ -84,9 +84,6 @@ static TRIED_ELSEWHERE: [Case; 3] = [
         pages: &[PageAt::Sector(32, 5, 6, 0x77)],
         ..QUIET
     },
-];
-
-static FEW_BLOCKS: [Case; 2] = [
     // Three blocks are left, so the next write is refused, and asks the die for nothing.
     Case {
         name: "few blocks are left",
@@ -124,6 +121,5 @@ static FEW_BLOCKS: [Case; 2] = [
 
 #[test]
 fn failed_programs_are_tried_elsewhere(rt: HostRuntime) -> Result<(), Fail> {
-    hold_cases(rt.alloc(), &TRIED_ELSEWHERE)?;
-    hold_cases(rt.alloc(), &FEW_BLOCKS)
+    hold_cases(rt.alloc(), &TRIED_ELSEWHERE)
 }

@@ -178,15 +178,6 @@ fn bring<N: Nand>(device: &mut Device<N>, most: u32, script: &Script) -> Result<
     Ok(most)
 }
 
-// The same, where all sectors are compared before.
-fn bring_compared<N: Nand>(device: &mut Device<N>, most: u32, script: &Script) -> Result<u32, Fail>
-    requires { IsDevice N.view.flash device.old }
-    ensures { IsDevice N.view.flash device.new }
-{
-    compare(device, script)?;
-    bring(device, most, script)
-}
-
 // A device that brought so many pages forward gives the die up.
 fn given_on<N: Nand + Drop>(
     alloc: Global,
@@ -205,52 +196,59 @@ fn given_on<N: Nand + Drop>(
     Ok((nand, geometry, count))
 }
 
-// Makes the calls of a row, and brings pages forward. How many these are.
-fn begin<N: Nand>(device: &mut Device<N>, row: &Row, script: &mut Script) -> Result<u32, Fail>
+// The first device makes the calls of a row. Each other one compares all sectors.
+fn give_all<N: Nand>(
+    device: &mut Device<N>,
+    row: &Row,
+    script: &mut Script,
+    is_first: bool,
+) -> Result<(), Fail>
     requires { IsDevice N.view.flash device.old }
     ensures { IsDevice N.view.flash device.new }
 {
-    give_first(device, row, script)?;
+    if is_first {
+        give_first(device, row, script)
+    } else {
+        compare(device, script)
+    }
+}
+
+// The same, and then a device brings pages forward. How many these are.
+fn give_and_bring<N: Nand>(
+    device: &mut Device<N>,
+    row: &Row,
+    script: &mut Script,
+    is_first: bool,
+) -> Result<u32, Fail>
+    requires { IsDevice N.view.flash device.old }
+    ensures { IsDevice N.view.flash device.new }
+{
+    give_all(device, row, script, is_first)?;
     let count = bring(device, row.most(), script)?;
-    if !row.restarts {
+    if is_first && !row.restarts {
         give(device, row, script, Call::Flush)?;
     }
     Ok(count)
 }
 
-// The first device makes the calls, and brings pages forward.
-fn begun<N: Nand + Drop>(
+// The next device does so.
+fn brought<N: Nand + Drop>(
     alloc: Global,
     nand: N,
     geometry: &Geometry,
     row: &Row,
     came: &mut Came,
+    is_first: bool,
 ) -> Result<(N, Geometry, u32), Fail>
     requires { (N.view.flash nand).geometry ≡ geometry.now }
     ensures { IfOk result (λ given. (N.view.flash given.0).geometry ≡ given.1) }
 {
     let mut device = started(alloc, nand, geometry, 4)?;
-    let count = begin(&mut device, row, &mut came.script);
+    let count = give_and_bring(&mut device, row, &mut came.script, is_first);
     given_on(alloc, device, row, count, came)
 }
 
-// The next device brings pages forward. How many these are.
-fn restarted<N: Nand + Drop>(
-    alloc: Global,
-    nand: N,
-    geometry: &Geometry,
-    row: &Row,
-    came: &mut Came,
-) -> Result<(N, Geometry, u32), Fail>
-    requires { (N.view.flash nand).geometry ≡ geometry.now }
-    ensures { IfOk result (λ given. (N.view.flash given.0).geometry ≡ given.1) }
-{
-    let mut device = started(alloc, nand, geometry, 4)?;
-    let count = bring_compared(&mut device, row.most(), &came.script);
-    given_on(alloc, device, row, count, came)
-}
-
-// Devices bring pages forward, one after the other, until one finds none.
+// Devices bring pages forward, one after the other, until one after the first finds none.
 fn bring_all<N: Nand + Drop>(
     alloc: Global,
     mut nand: N,
@@ -261,11 +259,11 @@ fn bring_all<N: Nand + Drop>(
     requires { (N.view.flash nand).geometry ≡ geometry }
     ensures { IfOk result (λ pair. (N.view.flash pair.0).geometry ≡ pair.1) }
 {
-    for _ in 0..256 {
-        let (given, now, count) = restarted(alloc, nand, &geometry, row, came)?;
+    for nth in 0..257 {
+        let (given, now, count) = brought(alloc, nand, &geometry, row, came, nth == 0)?;
         nand = given;
         geometry = now;
-        if count == 0 {
+        if nth > 0 && count == 0 {
             return Ok((nand, geometry));
         }
     }
@@ -328,21 +326,6 @@ fn hold_brought(row: &Row, came: &Came) -> Result<(), Fail> {
     Err(Fail::new(format_args!("{name}: {found} pages are brought forward")))
 }
 
-// The die and its geometry once devices found no more pages to bring forward.
-fn brought<N: Nand + Drop>(
-    alloc: Global,
-    nand: N,
-    geometry: &Geometry,
-    row: &Row,
-    came: &mut Came,
-) -> Result<(N, Geometry), Fail>
-    requires { (N.view.flash nand).geometry ≡ geometry.now }
-    ensures { IfOk result (λ pair. (N.view.flash pair.0).geometry ≡ pair.1) }
-{
-    let (nand, geometry, _) = begun(alloc, nand, geometry, row, came)?;
-    bring_all(alloc, nand, geometry, row, came)
-}
-
 // A die goes from device to device until all its pages are of version 2. The die, and how many blocks are good.
 fn brought_forward<N: Nand + Drop>(
     alloc: Global,
@@ -359,7 +342,7 @@ fn brought_forward<N: Nand + Drop>(
         brought: 0,
         old,
     };
-    let (nand, geometry) = brought(alloc, nand, geometry, row, &mut came)?;
+    let (nand, geometry) = bring_all(alloc, nand, *geometry, row, &mut came)?;
     hold_brought(row, &came)?;
     let (nand, geometry) = flushed(alloc, nand, &geometry, row, &mut came)?;
     compared(alloc, nand, &geometry, &came.script)

@@ -243,7 +243,7 @@ fn hold_end<N: Nand>(device: &Device<N>, its: &Stage) -> Result<(), Fail> {
     let blocks = &device.engine.blocks;
     let found = (blocks.free(), blocks.good(), erases_of(blocks)?);
     let found = (device.engine.next, found);
-    hold_same("a stage", "its end", &found, &(its.next, its.blocks))
+    hold_same("a stage", "its end", &found, &(its.1, its.2))
 }
 
 // Gives a device what it is given in a stage, and flushes it then unless failures leave bytes.
@@ -277,7 +277,7 @@ fn give_started<N: Nand + Drop>(
     requires { (N.view.flash nand).geometry ≡ geometry.now }
     ensures { IfOk result (λ pair. (N.view.flash pair.0).geometry ≡ pair.1) }
 {
-    let mut device = started_at(alloc, nand, geometry, its.capacity, row.share)?;
+    let mut device = started_at(alloc, nand, geometry, its.0, row.share)?;
     let came = give_stage(&mut device, its, row, script);
     handed_on(device, came)
 }
@@ -288,9 +288,9 @@ fn give_over<N: Nand + Drop>(
     nand: N,
     geometry: &Geometry,
     its: &Stage,
+    noise: bool,
     row: &Row,
     script: &mut Script,
-    noise: bool,
 ) -> Result<(N, Geometry), Fail>
     requires { (N.view.flash nand).geometry ≡ geometry.now }
     ensures { IfOk result (λ pair. (N.view.flash pair.0).geometry ≡ pair.1) }
@@ -321,7 +321,7 @@ fn give_row(alloc: Global, row: &Row, noise: bool) -> Result<u32, Fail> {
     let (mut geometry, page_left) = sizes_of(row)?;
     let mut driver = formatted_die_at(alloc, geometry, row.failing, page_left, row.share)?;
     for its in row.devices {
-        let (given, now) = give_over(alloc, driver, &geometry, its, row, &mut script, noise)?;
+        let (given, now) = give_over(alloc, driver, &geometry, its, noise, row, &mut script)?;
         let die = given.into_bus();
         hold_same("a stage", "abuse", &die.abuse(), &0)?;
         geometry = now;

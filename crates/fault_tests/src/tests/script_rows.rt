@@ -1,14 +1,11 @@
 //! What is given in a script of commands, and what each device comes to by `bench/device_model.py`.
 
-// A device: the capacity of its cache, and at its end the next sequence, the free and the good blocks, and
-// the erases of all blocks that it counts. `bench/device_model.py` says so too.
-pub struct Stage {
-    pub capacity: u32,
-    pub next: u64,
-    pub blocks: (u32, u32, u32),
-}
+// A device: the capacity of its cache; and at its end the next sequence, and the free and the good blocks and the erases of all
+// blocks that it counts. `bench/device_model.py` says so too.
+pub struct Stage(pub u32, pub u64, pub (u32, u32, u32));
 
 // A die, and the devices that are started on it one after the other.
+#[derive(Drop)]
 pub struct Row {
     // Bytes of a spare area, pages of a block, blocks and sectors.
     pub sizes: (u32, u32, u32, u32),
@@ -35,6 +32,59 @@ const TIGHT: (u32, u32, u32, u32) = (32, 4, 34, 48);
 // One live page in a block that is collected. 29 of its 32 blocks are needed.
 const SHORT: (u32, u32, u32, u32) = (32, 4, 32, 32);
 
+// Where failures leave bytes, no device is flushed.
+const TORN: Row = Row {
+    sizes: LONG,
+    share: 1,
+    hot: true,
+    failing: &[1, 2, 77, 350, 480, 700],
+    torn: true,
+    devices: &[
+        Stage(5, 223, (12, 21, 6)),
+        Stage(48, 443, (9, 20, 10)),
+        Stage(64, 676, (9, 18, 17)),
+        Stage(50, 923, (9, 18, 19)),
+    ],
+};
+
+// Here each is flushed.
+const KEPT: Row = Row {
+    sizes: LONG,
+    share: 1,
+    hot: true,
+    failing: &[9, 10, 40, 300, 500, 650],
+    torn: false,
+    devices: &[
+        Stage(5, 230, (13, 21, 6)),
+        Stage(48, 458, (12, 20, 19)),
+        Stage(1, 901, (12, 18, 48)),
+        Stage(3, 1200, (12, 18, 67)),
+    ],
+};
+
+// The same of the die that share 0 cannot serve.
+const NARROW: Row = Row {
+    sizes: TIGHT,
+    share: 1,
+    hot: true,
+    failing: &[100, 600],
+    torn: false,
+    devices: &[
+        Stage(4, 223, (11, 33, 33)),
+        Stage(6, 465, (10, 33, 93)),
+        Stage(5, 730, (11, 32, 160)),
+        Stage(1, 1141, (11, 32, 263)),
+    ],
+};
+
+// Shares 3 and 15 come to the same where bytes are left.
+const TORN_APART: &[Stage] = &[
+    Stage(5, 222, (13, 21, 7)),
+    Stage(48, 446, (9, 20, 10)),
+    Stage(64, 681, (9, 18, 16)),
+    Stage(50, 934, (9, 18, 20)),
+];
+
 pub static ROWS: [Row; 15] = [
     Row {
         sizes: FIRST,
@@ -45,26 +95,10 @@ pub static ROWS: [Row; 15] = [
         ],
         torn: false,
         devices: &[
-            Stage {
-                capacity: 4,
-                next: 247,
-                blocks: (10, 27, 13),
-            },
-            Stage {
-                capacity: 1,
-                next: 610,
-                blocks: (9, 23, 58),
-            },
-            Stage {
-                capacity: 16,
-                next: 824,
-                blocks: (9, 20, 87),
-            },
-            Stage {
-                capacity: 2,
-                next: 1151,
-                blocks: (9, 18, 128),
-            },
+            Stage(4, 247, (10, 27, 13)),
+            Stage(1, 610, (9, 23, 58)),
+            Stage(16, 824, (9, 20, 87)),
+            Stage(2, 1151, (9, 18, 128)),
         ],
     },
     Row {
@@ -76,26 +110,10 @@ pub static ROWS: [Row; 15] = [
         ],
         torn: true,
         devices: &[
-            Stage {
-                capacity: 3,
-                next: 251,
-                blocks: (10, 27, 11),
-            },
-            Stage {
-                capacity: 64,
-                next: 467,
-                blocks: (9, 24, 34),
-            },
-            Stage {
-                capacity: 32,
-                next: 657,
-                blocks: (9, 22, 55),
-            },
-            Stage {
-                capacity: 40,
-                next: 850,
-                blocks: (9, 20, 75),
-            },
+            Stage(3, 251, (10, 27, 11)),
+            Stage(64, 467, (9, 24, 34)),
+            Stage(32, 657, (9, 22, 55)),
+            Stage(40, 850, (9, 20, 75)),
         ],
     },
     Row {
@@ -105,26 +123,10 @@ pub static ROWS: [Row; 15] = [
         failing: &[9, 10, 40, 300, 500, 650, 651, 900, 1200],
         torn: false,
         devices: &[
-            Stage {
-                capacity: 5,
-                next: 250,
-                blocks: (10, 21, 5),
-            },
-            Stage {
-                capacity: 48,
-                next: 492,
-                blocks: (9, 19, 19),
-            },
-            Stage {
-                capacity: 1,
-                next: 872,
-                blocks: (9, 16, 43),
-            },
-            Stage {
-                capacity: 3,
-                next: 1242,
-                blocks: (9, 15, 67),
-            },
+            Stage(5, 250, (10, 21, 5)),
+            Stage(48, 492, (9, 19, 19)),
+            Stage(1, 872, (9, 16, 43)),
+            Stage(3, 1242, (9, 15, 67)),
         ],
     },
     Row {
@@ -134,26 +136,10 @@ pub static ROWS: [Row; 15] = [
         failing: &[1, 2, 77, 350, 480, 700, 800, 1000, 1101],
         torn: true,
         devices: &[
-            Stage {
-                capacity: 2,
-                next: 284,
-                blocks: (10, 21, 7),
-            },
-            Stage {
-                capacity: 48,
-                next: 518,
-                blocks: (9, 19, 20),
-            },
-            Stage {
-                capacity: 64,
-                next: 721,
-                blocks: (9, 18, 31),
-            },
-            Stage {
-                capacity: 50,
-                next: 939,
-                blocks: (9, 17, 45),
-            },
+            Stage(2, 284, (10, 21, 7)),
+            Stage(48, 518, (9, 19, 20)),
+            Stage(64, 721, (9, 18, 31)),
+            Stage(50, 939, (9, 17, 45)),
         ],
     },
     Row {
@@ -163,26 +149,10 @@ pub static ROWS: [Row; 15] = [
         failing: &[100, 600, 1100],
         torn: false,
         devices: &[
-            Stage {
-                capacity: 4,
-                next: 232,
-                blocks: (9, 31, 35),
-            },
-            Stage {
-                capacity: 8,
-                next: 473,
-                blocks: (9, 31, 95),
-            },
-            Stage {
-                capacity: 1,
-                next: 797,
-                blocks: (9, 30, 177),
-            },
-            Stage {
-                capacity: 32,
-                next: 974,
-                blocks: (8, 29, 221),
-            },
+            Stage(4, 232, (9, 31, 35)),
+            Stage(8, 473, (9, 31, 95)),
+            Stage(1, 797, (9, 30, 177)),
+            Stage(32, 974, (8, 29, 221)),
         ],
     },
     Row {
@@ -192,287 +162,63 @@ pub static ROWS: [Row; 15] = [
         failing: &[50, 51, 52, 700, 701, 900],
         torn: true,
         devices: &[
-            Stage {
-                capacity: 8,
-                next: 206,
-                blocks: (9, 29, 31),
-            },
-            Stage {
-                capacity: 64,
-                next: 419,
-                blocks: (9, 29, 77),
-            },
-            Stage {
-                capacity: 40,
-                next: 613,
-                blocks: (9, 27, 124),
-            },
-            Stage {
-                capacity: 33,
-                next: 796,
-                blocks: (9, 26, 161),
-            },
+            Stage(8, 206, (9, 29, 31)),
+            Stage(64, 419, (9, 29, 77)),
+            Stage(40, 613, (9, 27, 124)),
+            Stage(33, 796, (9, 26, 161)),
         ],
     },
+    TORN,
+    KEPT,
+    NARROW,
     Row {
-        sizes: LONG,
-        share: 1,
-        hot: true,
-        failing: &[1, 2, 77, 350, 480, 700],
-        torn: true,
-        devices: &[
-            Stage {
-                capacity: 5,
-                next: 223,
-                blocks: (12, 21, 6),
-            },
-            Stage {
-                capacity: 48,
-                next: 443,
-                blocks: (9, 20, 10),
-            },
-            Stage {
-                capacity: 64,
-                next: 676,
-                blocks: (9, 18, 17),
-            },
-            Stage {
-                capacity: 50,
-                next: 923,
-                blocks: (9, 18, 19),
-            },
-        ],
-    },
-    Row {
-        sizes: LONG,
-        share: 1,
-        hot: true,
-        failing: &[9, 10, 40, 300, 500, 650],
-        torn: false,
-        devices: &[
-            Stage {
-                capacity: 5,
-                next: 230,
-                blocks: (13, 21, 6),
-            },
-            Stage {
-                capacity: 48,
-                next: 458,
-                blocks: (12, 20, 19),
-            },
-            Stage {
-                capacity: 1,
-                next: 901,
-                blocks: (12, 18, 48),
-            },
-            Stage {
-                capacity: 3,
-                next: 1200,
-                blocks: (12, 18, 67),
-            },
-        ],
-    },
-    Row {
-        sizes: TIGHT,
-        share: 1,
-        hot: true,
-        failing: &[100, 600],
-        torn: false,
-        devices: &[
-            Stage {
-                capacity: 4,
-                next: 223,
-                blocks: (11, 33, 33),
-            },
-            Stage {
-                capacity: 6,
-                next: 465,
-                blocks: (10, 33, 93),
-            },
-            Stage {
-                capacity: 5,
-                next: 730,
-                blocks: (11, 32, 160),
-            },
-            Stage {
-                capacity: 1,
-                next: 1141,
-                blocks: (11, 32, 263),
-            },
-        ],
-    },
-    Row {
-        sizes: LONG,
         share: 3,
-        hot: true,
-        failing: &[1, 2, 77, 350, 480, 700],
-        torn: true,
-        devices: &[
-            Stage {
-                capacity: 5,
-                next: 222,
-                blocks: (13, 21, 7),
-            },
-            Stage {
-                capacity: 48,
-                next: 446,
-                blocks: (9, 20, 10),
-            },
-            Stage {
-                capacity: 64,
-                next: 681,
-                blocks: (9, 18, 16),
-            },
-            Stage {
-                capacity: 50,
-                next: 934,
-                blocks: (9, 18, 20),
-            },
-        ],
+        devices: TORN_APART,
+        ..TORN
     },
     Row {
-        sizes: LONG,
         share: 3,
-        hot: true,
-        failing: &[9, 10, 40, 300, 500, 650],
-        torn: false,
         devices: &[
-            Stage {
-                capacity: 5,
-                next: 230,
-                blocks: (13, 21, 6),
-            },
-            Stage {
-                capacity: 48,
-                next: 458,
-                blocks: (12, 20, 19),
-            },
-            Stage {
-                capacity: 1,
-                next: 888,
-                blocks: (12, 18, 47),
-            },
-            Stage {
-                capacity: 3,
-                next: 1187,
-                blocks: (12, 18, 66),
-            },
+            Stage(5, 230, (13, 21, 6)),
+            Stage(48, 458, (12, 20, 19)),
+            Stage(1, 888, (12, 18, 47)),
+            Stage(3, 1187, (12, 18, 66)),
         ],
+        ..KEPT
     },
     Row {
-        sizes: TIGHT,
         share: 3,
-        hot: true,
-        failing: &[100, 600],
-        torn: false,
         devices: &[
-            Stage {
-                capacity: 4,
-                next: 223,
-                blocks: (11, 33, 33),
-            },
-            Stage {
-                capacity: 6,
-                next: 467,
-                blocks: (11, 33, 94),
-            },
-            Stage {
-                capacity: 5,
-                next: 715,
-                blocks: (10, 32, 156),
-            },
-            Stage {
-                capacity: 1,
-                next: 1135,
-                blocks: (11, 32, 261),
-            },
+            Stage(4, 223, (11, 33, 33)),
+            Stage(6, 467, (11, 33, 94)),
+            Stage(5, 715, (10, 32, 156)),
+            Stage(1, 1135, (11, 32, 261)),
         ],
+        ..NARROW
     },
     Row {
-        sizes: LONG,
         share: 15,
-        hot: true,
-        failing: &[1, 2, 77, 350, 480, 700],
-        torn: true,
-        devices: &[
-            Stage {
-                capacity: 5,
-                next: 222,
-                blocks: (13, 21, 7),
-            },
-            Stage {
-                capacity: 48,
-                next: 446,
-                blocks: (9, 20, 10),
-            },
-            Stage {
-                capacity: 64,
-                next: 681,
-                blocks: (9, 18, 16),
-            },
-            Stage {
-                capacity: 50,
-                next: 934,
-                blocks: (9, 18, 20),
-            },
-        ],
+        devices: TORN_APART,
+        ..TORN
     },
     Row {
-        sizes: LONG,
         share: 15,
-        hot: true,
-        failing: &[9, 10, 40, 300, 500, 650],
-        torn: false,
         devices: &[
-            Stage {
-                capacity: 5,
-                next: 230,
-                blocks: (13, 21, 6),
-            },
-            Stage {
-                capacity: 48,
-                next: 458,
-                blocks: (12, 20, 19),
-            },
-            Stage {
-                capacity: 1,
-                next: 888,
-                blocks: (12, 18, 47),
-            },
-            Stage {
-                capacity: 3,
-                next: 1182,
-                blocks: (11, 18, 65),
-            },
+            Stage(5, 230, (13, 21, 6)),
+            Stage(48, 458, (12, 20, 19)),
+            Stage(1, 888, (12, 18, 47)),
+            Stage(3, 1182, (11, 18, 65)),
         ],
+        ..KEPT
     },
     Row {
-        sizes: TIGHT,
         share: 15,
-        hot: true,
-        failing: &[100, 600],
-        torn: false,
         devices: &[
-            Stage {
-                capacity: 4,
-                next: 223,
-                blocks: (11, 33, 33),
-            },
-            Stage {
-                capacity: 6,
-                next: 467,
-                blocks: (11, 33, 94),
-            },
-            Stage {
-                capacity: 5,
-                next: 717,
-                blocks: (10, 32, 156),
-            },
-            Stage {
-                capacity: 1,
-                next: 1130,
-                blocks: (10, 32, 259),
-            },
+            Stage(4, 223, (11, 33, 33)),
+            Stage(6, 467, (11, 33, 94)),
+            Stage(5, 717, (10, 32, 156)),
+            Stage(1, 1130, (10, 32, 259)),
         ],
+        ..NARROW
     },
 ];

@@ -72,8 +72,8 @@ fn give_fifty<N: Nand>(
 fn go_on<N: Nand + Drop>(
     alloc: Global,
     nand: N,
-    course: &Course,
     geometry: &Geometry,
+    course: &Course,
     script: &mut Script,
 ) -> Result<N, Fail>
     requires { (N.view.flash nand).geometry ≡ geometry.now }
@@ -95,10 +95,10 @@ fn go_over<N: Nand + Drop>(
     requires { (N.view.flash nand).geometry ≡ geometry.now }
 {
     if !course.noise {
-        return go_on(alloc, nand, course, geometry, script);
+        return go_on(alloc, nand, geometry, course, script);
     }
     let nand = noisy(alloc, nand, geometry)?;
-    quiet(go_on(alloc, nand, course, geometry, script)?)
+    quiet(go_on(alloc, nand, geometry, course, script)?)
 }
 
 // The image that is left mounts with a cache of enough entries and is accepted, its sectors are from before the call or from after it, and
@@ -332,8 +332,7 @@ const FORWARD: Course = Course {
     spare: 40,
     calls: Calls::Migrating,
     count: 128,
-    noise: false,
-    share: 0,
+    ..SCRIPT
 };
 
 static OLD: Case = Case {
@@ -348,11 +347,9 @@ static OLD: Case = Case {
 
 const COLLECTED: Course = Course {
     name: "a collection",
-    spare: 32,
     calls: Calls::Collecting,
     count: 8,
-    noise: false,
-    share: 0,
+    ..SCRIPT
 };
 
 // Eight writes and trims, of which nine pages are programmed; then nine programs and erases of a collection.
@@ -370,11 +367,24 @@ static COLLECTION: Case = Case {
 
 const WAITING: Course = Course {
     name: "sectors that wait",
-    spare: 32,
     calls: Calls::Waiting,
     count: 256,
-    noise: false,
     share: 1,
+    ..SCRIPT
+};
+
+// One in seven at the greater shares.
+const APART: Case = Case {
+    course: Course {
+        share: 3,
+        ..WAITING
+    },
+    each: 7,
+    least: Tried {
+        stops: 60,
+        changing: 20,
+        migrating: 0,
+    },
 };
 
 // As many programs and erases as `bench/device_model.py` counts, at each of these shares.
@@ -388,29 +398,13 @@ static SHARED: [Case; 3] = [
             migrating: 0,
         },
     },
-    Case {
-        course: Course {
-            share: 3,
-            ..WAITING
-        },
-        each: 7,
-        least: Tried {
-            stops: 60,
-            changing: 20,
-            migrating: 0,
-        },
-    },
+    APART,
     Case {
         course: Course {
             share: 15,
             ..WAITING
         },
-        each: 7,
-        least: Tried {
-            stops: 60,
-            changing: 20,
-            migrating: 0,
-        },
+        ..APART
     },
 ];
 

@@ -5,10 +5,11 @@ ghost use Rattle.certificate.specs.Claim.{sizes_of};
 ghost use Rattle.ftl_device.specs.Device.{IsDevice};
 
 use super::calls::Call::{Flush, Read, Trim, Turn, Write};
-use super::calls::{Call, done_on, hold_call, make};
+use super::calls::{Call, hold_call, make};
 use device_fixtures::bench::{
-    checked, driver_on, formatted_die, given_up, mounted, small, start_on,
+    after_calls, checked, driver_on, formatted_die, given_up, mounted, small, start_on,
 };
+use device_fixtures::calls::Call as Done;
 use ftl_device::{Device, DeviceFault};
 use image_check::Accepted;
 use nand_die::{CycleFuse, Die, Garble};
@@ -38,15 +39,15 @@ enum Round {
 // Calls that are done on a formatted die, and then on a new device over the bus: calls, what a read finds, and their answers.
 struct Row {
     name: &'static str,
-    before: &'static [Call],
+    before: &'static [Done],
     round: Round,
     steps: &'static [(Call, u8, Answer)],
 }
 
-const ELEVEN: &[Call] = &[Write(5, 0x11)];
+const ELEVEN: &[Done] = &[Done::Write(5, 0x11)];
 
 // The entry of sector 5 is in a translation page, and in no cache.
-const FLUSHED: &[Call] = &[Write(5, 0x11), Flush];
+const FLUSHED: &[Done] = &[Done::Write(5, 0x11), Done::Flush];
 
 // All calls of a device that is stopped, those out of range too.
 const STOPPED: &[(Call, u8, Answer)] = &[
@@ -182,12 +183,12 @@ fn hold_on<B: Bus + Drop>(
 }
 
 // The die after the calls before.
-fn prepared(rt: &impl Abort, alloc: Global, row: &Row) -> Result<(Driver<Die>, Geometry), Fail>
+fn prepared(alloc: Global, row: &Row) -> Result<(Driver<Die>, Geometry), Fail>
     ensures { IfOk result (λ pair. pair.0.geometry ≡ pair.1) }
 {
     let geometry = small()?;
     let driver = formatted_die(alloc, geometry, &[], 0)?;
-    done_on(rt, alloc, driver, &geometry, row.before)
+    after_calls(alloc, driver, &geometry, row.before)
 }
 
 // The device over the bus of a row.
@@ -215,7 +216,7 @@ fn hold_round(
 }
 
 fn hold_row(rt: &impl Abort, alloc: Global, row: &Row) -> Result<(), Fail> {
-    let (mut driver, geometry) = prepared(rt, alloc, row)?;
+    let (mut driver, geometry) = prepared(alloc, row)?;
     let certificate = mounted(alloc, &mut driver, &geometry, 4)?;
     let accepted = checked(alloc, &mut driver, &geometry, 4, &certificate)?;
     hold_round(rt, alloc, driver.into_bus(), geometry, accepted, row)

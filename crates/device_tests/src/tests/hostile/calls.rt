@@ -1,14 +1,9 @@
 //! Calls of a device whose sectors have 64 bytes.
-ghost use Rattle.std.specs.Prelude.{◌≡◌, IfOk};
 ghost use Rattle.ftl_device.specs.Device.{IsDevice};
 
-use device_fixtures::bench::{given_up, started};
 use ftl_device::{Device, DeviceFault};
 use onfi_cycles::Nand;
-use page_layout::geometry::Geometry;
-use std::alloc::Global;
 use std::process::Abort;
-use std::test::Fail;
 
 // A write of a sector with 64 bytes of one, a read, a trim, a flush, or a turn.
 #[derive(Clone, Copy, Debug)]
@@ -91,31 +86,4 @@ pub fn make<N: Nand>(
             Ok(())
         }
     }
-}
-
-// These calls are done.
-fn do_calls<N: Nand>(rt: &impl Abort, device: &mut Device<N>, calls: &[Call])
-    requires { IsDevice N.view.flash device.old }
-    ensures { IsDevice N.view.flash device.new }
-{
-    for call in calls {
-        let answer = make(rt, device, *call, 0);
-        hold_call(rt, "done", *call, answer.is_ok());
-    }
-}
-
-// The die after these calls of a device with a cache of four, and its geometry.
-pub fn done_on<N: Nand + Drop>(
-    rt: &impl Abort,
-    alloc: Global,
-    nand: N,
-    geometry: &Geometry,
-    calls: &[Call],
-) -> Result<(N, Geometry), Fail>
-    requires { (N.view.flash nand).geometry ≡ geometry.now }
-    ensures { IfOk result (λ pair. (N.view.flash pair.0).geometry ≡ pair.1) }
-{
-    let mut device = started(alloc, nand, geometry, 4)?;
-    do_calls(rt, &mut device, calls);
-    Ok(given_up(device))
 }

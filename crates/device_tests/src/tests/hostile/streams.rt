@@ -3,7 +3,7 @@ ghost use Rattle.std.specs.Prelude.{◌≡◌};
 
 use super::list::{List, SECTORS, hold_image};
 use super::noise::Noise;
-use crate::tests::serving::{Answer, serve_on};
+use crate::tests::serving::{Answer, serve_at};
 use block_server::Served;
 use device_fixtures::bench::{formatted_die, small};
 use device_fixtures::dies::image_of;
@@ -114,7 +114,7 @@ fn served(alloc: Global, geometry: &Geometry, stream: &[u8]) -> Result<Came, Fai
     let driver = formatted_die(alloc, *geometry, &[], 0)?;
     let mut reader = stream;
     let mut written = Vec::new(alloc);
-    let (answer, driver) = serve_on(alloc, driver, geometry, 4, &mut reader, &mut written)?;
+    let (answer, driver) = serve_at(alloc, driver, geometry, 0, 4, &mut reader, &mut written)?;
     let image = image_of(alloc, geometry, driver)?;
     Ok((answer, written, image))
 }

@@ -3,11 +3,12 @@ ghost use Rattle.std.specs.Prelude.{◌≡◌};
 
 use super::calls::write;
 use super::list::scanned;
+use crate::tests::serving::refusal_of;
 use certificate::Certificate;
 use device_fixtures::bench::{fresh, mounted, small};
 use device_fixtures::dies::certified_image;
 use device_fixtures::hold::hold_same;
-use image_check::{Refusal, check};
+use image_check::Refusal;
 use page_layout::geometry::Geometry;
 use page_layout::source::{ImageSlice, PageSource};
 use std::alloc::Global;
@@ -92,19 +93,6 @@ fn written(
 // Whether a certificate gives a block this class.
 fn is_class(certificate: &Certificate, block: u32, class: u8) -> bool {
     certificate.geometry().has_block(block) && certificate.block(block).class == class
-}
-
-// Why a checker refuses a certificate.
-fn refusal_of<S: PageSource>(
-    alloc: Global,
-    source: &mut S,
-    geometry: &Geometry,
-    certificate: &Certificate,
-) -> Option<Refusal>
-    requires { (S.view.flash source.old).geometry ≡ geometry.now }
-    ensures { (S.view.flash source.new).geometry ≡ geometry.now }
-{
-    check(alloc, source, geometry, 4, certificate).err()
 }
 
 // What is mounted anew gives a block this class.

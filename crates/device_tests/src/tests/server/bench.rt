@@ -2,7 +2,7 @@
 ghost use Rattle.std.specs.Prelude.{◌≡◌, IfOk};
 
 use super::streams::{Narrow, Pieces};
-use crate::tests::serving::{Answer, serve_at, serve_on};
+use crate::tests::serving::{Answer, serve_at};
 use device_fixtures::bench::{formatted_die, small};
 use device_fixtures::dies::image_of;
 use nand_die::Die;
@@ -13,6 +13,7 @@ use std::process::Abort;
 use std::test::Fail;
 
 // A stream of requests in pieces, and what is to come of it.
+#[derive(Drop)]
 pub struct Row {
     pub name: &'static str,
     pub input: &'static [u8],
@@ -67,7 +68,7 @@ fn serve_die(
 ) -> Result<Came, Fail>
     requires { driver.geometry ≡ geometry.now }
 {
-    let (answer, driver) = serve_on(alloc, driver, geometry, 4, reader, writer)?;
+    let (answer, driver) = serve_at(alloc, driver, geometry, 0, 4, reader, writer)?;
     let image = image_of(alloc, geometry, driver)?;
     Ok(Came { answer, image })
 }

@@ -8,93 +8,92 @@ use std::alloc::Global;
 use std::process::Abort;
 use std::test::Fail;
 
+// One request that is done, in pieces that are all taken.
+const ONE: Row = Row {
+    name: "one",
+    input: b"",
+    failing_read: 0,
+    failing_write: 0,
+    answer: Ok(Served {
+        replies: 1,
+        end: End::Boundary,
+    }),
+    output: b"",
+    left: 0,
+};
+
+// A bad header is answered, and nothing after it.
+const BAD: Row = Row {
+    answer: Ok(Served {
+        replies: 1,
+        end: End::BadFrame,
+    }),
+    output: b"\x64\x66\x00\x07\x00\x00\x00\x00",
+    ..ONE
+};
+
+// A read of sector 31, and the header of a write.
+const CUT: &[u8] =
+    b"\x44\x46\x01\x00\x01\x00\x00\x00\x1f\x00\x00\x00\x44\x46\x02\x00\x02\x00\x00\x00\x05\x00\x00\x00";
+
+// The reply to that read: a sector that was never written.
+const FIRST_READ: &[u8] = b"\
+        \x64\x66\x01\x00\x01\x00\x00\x00\x00\x00\x00\x00\x00\x00\x00\x00\x00\x00\x00\x00\x00\x00\x00\x00\x00\x00\
+        \x00\x00\x00\x00\x00\x00\x00\x00\x00\x00\x00\x00\x00\x00\x00\x00\x00\x00\x00\x00\x00\x00\x00\x00\x00\x00\
+        \x00\x00\x00\x00\x00\x00\x00\x00\x00\x00\x00\x00\x00\x00\x00\x00\x00\x00\x00\x00";
+
 static ROWS: &[Row] = &[
     Row {
         name: "a read, and a write cut short after its header",
-        input: b"\x44\x46\x01\x00\x01\x00\x00\x00\x1f\x00\x00\x00\x44\x46\x02\x00\x02\x00\x00\x00\x05\x00\x00\x00",
-        failing_read: 0,
-        failing_write: 0,
+        input: CUT,
         answer: Ok(Served {
             replies: 1,
             end: End::Unfinished,
         }),
-        output: b"\
-            \x64\x66\x01\x00\x01\x00\x00\x00\x00\x00\x00\x00\x00\x00\x00\x00\x00\x00\x00\x00\x00\x00\x00\x00\x00\x00\
-            \x00\x00\x00\x00\x00\x00\x00\x00\x00\x00\x00\x00\x00\x00\x00\x00\x00\x00\x00\x00\x00\x00\x00\x00\x00\x00\
-            \x00\x00\x00\x00\x00\x00\x00\x00\x00\x00\x00\x00\x00\x00\x00\x00\x00\x00\x00\x00",
-        left: 0,
+        output: FIRST_READ,
+        ..ONE
     },
     Row {
         name: "a bad header, and what follows it",
         input: b"\x44\x58\x01\x00\x00\x00\x00\x00\x00\x00\x00\x00\x44\x46\x04\x00\x09\x00\x00\x00\x00\x00\x00\x00",
-        failing_read: 0,
-        failing_write: 0,
-        answer: Ok(Served {
-            replies: 1,
-            end: End::BadFrame,
-        }),
-        output: b"\x64\x66\x00\x07\x00\x00\x00\x00",
         left: 12,
+        ..BAD
     },
     Row {
         name: "eleven bytes",
         input: b"\x44\x58\x01\x00\x00\x00\x00\x00\x00\x00\x00",
-        failing_read: 0,
-        failing_write: 0,
         answer: Ok(Served {
             replies: 0,
             end: End::Unfinished,
         }),
-        output: b"",
-        left: 0,
+        ..ONE
     },
     Row {
         name: "nothing",
         input: b"",
-        failing_read: 0,
-        failing_write: 0,
         answer: Ok(Served {
             replies: 0,
             end: End::Boundary,
         }),
-        output: b"",
-        left: 0,
+        ..ONE
     },
     Row {
         name: "a flush",
         input: b"\x44\x46\x04\x00\x09\x00\x00\x00\x00\x00\x00\x00",
-        failing_read: 0,
-        failing_write: 0,
-        answer: Ok(Served {
-            replies: 1,
-            end: End::Boundary,
-        }),
         output: b"\x64\x66\x04\x00\x09\x00\x00\x00",
-        left: 0,
+        ..ONE
     },
     Row {
         name: "a turn, whose sector is not looked at",
         input: b"\x44\x46\x05\x00\x09\x00\x00\x00\x4d\x00\x00\x00",
-        failing_read: 0,
-        failing_write: 0,
-        answer: Ok(Served {
-            replies: 1,
-            end: End::Boundary,
-        }),
         output: b"\x64\x66\x05\x00\x09\x00\x00\x00",
-        left: 0,
+        ..ONE
     },
     Row {
         name: "a read past the last sector",
         input: b"\x44\x46\x01\x00\x07\x00\x00\x00\x20\x00\x00\x00",
-        failing_read: 0,
-        failing_write: 0,
-        answer: Ok(Served {
-            replies: 1,
-            end: End::Boundary,
-        }),
         output: b"\x64\x66\x01\x01\x07\x00\x00\x00",
-        left: 0,
+        ..ONE
     },
     Row {
         name: "a write past the last sector, and the request after it",
@@ -103,8 +102,6 @@ static ROWS: &[Row] = &[
             \x11\x11\x11\x11\x11\x11\x11\x11\x11\x11\x11\x11\x11\x11\x11\x11\x11\x11\x11\x11\x11\x11\x11\x11\x11\x11\
             \x11\x11\x11\x11\x11\x11\x11\x11\x11\x11\x11\x11\x11\x11\x11\x11\x11\x11\x11\x11\x11\x11\x11\x11\x44\x46\
             \x01\x00\x04\x00\x00\x00\x1f\x00\x00\x00",
-        failing_read: 0,
-        failing_write: 0,
         answer: Ok(Served {
             replies: 2,
             end: End::Boundary,
@@ -114,7 +111,7 @@ static ROWS: &[Row] = &[
             \x00\x00\x00\x00\x00\x00\x00\x00\x00\x00\x00\x00\x00\x00\x00\x00\x00\x00\x00\x00\x00\x00\x00\x00\x00\x00\
             \x00\x00\x00\x00\x00\x00\x00\x00\x00\x00\x00\x00\x00\x00\x00\x00\x00\x00\x00\x00\x00\x00\x00\x00\x00\x00\
             \x00\x00",
-        left: 0,
+        ..ONE
     },
     Row {
         name: "a write, a read, a trim and a read",
@@ -124,8 +121,6 @@ static ROWS: &[Row] = &[
             \x11\x11\x11\x11\x11\x11\x11\x11\x11\x11\x11\x11\x11\x11\x11\x11\x11\x11\x11\x11\x11\x11\x11\x11\x44\x46\
             \x01\x00\x01\x00\x00\x00\x05\x00\x00\x00\x44\x46\x03\x00\x02\x00\x00\x00\x05\x00\x00\x00\x44\x46\x01\x00\
             \x03\x00\x00\x00\x05\x00\x00\x00",
-        failing_read: 0,
-        failing_write: 0,
         answer: Ok(Served {
             replies: 4,
             end: End::Boundary,
@@ -138,43 +133,22 @@ static ROWS: &[Row] = &[
             \x00\x00\x00\x00\x00\x00\x00\x00\x00\x00\x00\x00\x00\x00\x00\x00\x00\x00\x00\x00\x00\x00\x00\x00\x00\x00\
             \x00\x00\x00\x00\x00\x00\x00\x00\x00\x00\x00\x00\x00\x00\x00\x00\x00\x00\x00\x00\x00\x00\x00\x00\x00\x00\
             \x00\x00\x00\x00",
-        left: 0,
+        ..ONE
     },
     Row {
         name: "a header with the sixth operation",
         input: b"\x44\x46\x06\x00\x01\x00\x00\x00\x01\x00\x00\x00",
-        failing_read: 0,
-        failing_write: 0,
-        answer: Ok(Served {
-            replies: 1,
-            end: End::BadFrame,
-        }),
-        output: b"\x64\x66\x00\x07\x00\x00\x00\x00",
-        left: 0,
+        ..BAD
     },
     Row {
         name: "a header with the operation 0",
         input: b"\x44\x46\x00\x00\x01\x00\x00\x00\x01\x00\x00\x00",
-        failing_read: 0,
-        failing_write: 0,
-        answer: Ok(Served {
-            replies: 1,
-            end: End::BadFrame,
-        }),
-        output: b"\x64\x66\x00\x07\x00\x00\x00\x00",
-        left: 0,
+        ..BAD
     },
     Row {
         name: "a header whose fourth byte is not 00h",
         input: b"\x44\x46\x01\x01\x00\x00\x00\x00\x00\x00\x00\x00",
-        failing_read: 0,
-        failing_write: 0,
-        answer: Ok(Served {
-            replies: 1,
-            end: End::BadFrame,
-        }),
-        output: b"\x64\x66\x00\x07\x00\x00\x00\x00",
-        left: 0,
+        ..BAD
     },
 ];
 
@@ -182,42 +156,37 @@ static ROWS: &[Row] = &[
 static FAULTS: &[Row] = &[
     Row {
         name: "the 13th read of one byte fails",
-        input: b"\x44\x46\x01\x00\x01\x00\x00\x00\x1f\x00\x00\x00\x44\x46\x02\x00\x02\x00\x00\x00\x05\x00\x00\x00",
+        input: CUT,
         failing_read: 13,
-        failing_write: 0,
         answer: Err(ServeFault::Read),
-        output: b"\
-            \x64\x66\x01\x00\x01\x00\x00\x00\x00\x00\x00\x00\x00\x00\x00\x00\x00\x00\x00\x00\x00\x00\x00\x00\x00\x00\
-            \x00\x00\x00\x00\x00\x00\x00\x00\x00\x00\x00\x00\x00\x00\x00\x00\x00\x00\x00\x00\x00\x00\x00\x00\x00\x00\
-            \x00\x00\x00\x00\x00\x00\x00\x00\x00\x00\x00\x00\x00\x00\x00\x00\x00\x00\x00\x00",
+        output: FIRST_READ,
         left: 12,
+        ..ONE
     },
     Row {
         name: "the tenth write of one byte fails",
-        input: b"\x44\x46\x01\x00\x01\x00\x00\x00\x1f\x00\x00\x00\x44\x46\x02\x00\x02\x00\x00\x00\x05\x00\x00\x00",
-        failing_read: 0,
+        input: CUT,
         failing_write: 10,
         answer: Err(ServeFault::Write),
         output: b"\x64\x66\x01\x00\x01\x00\x00\x00\x00",
         left: 12,
+        ..ONE
     },
     Row {
         name: "the fourth write of one byte fails, of the answer to a bad header",
         input: b"\x44\x58\x01\x00\x00\x00\x00\x00\x00\x00\x00\x00",
-        failing_read: 0,
         failing_write: 4,
         answer: Err(ServeFault::Write),
         output: b"\x64\x66\x00",
-        left: 0,
+        ..ONE
     },
     Row {
         name: "the first read fails",
         input: b"\x44\x46\x01\x00\x01\x00\x00\x00\x1f\x00\x00\x00",
         failing_read: 1,
-        failing_write: 0,
         answer: Err(ServeFault::Read),
-        output: b"",
         left: 12,
+        ..ONE
     },
 ];
 

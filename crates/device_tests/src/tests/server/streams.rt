@@ -6,8 +6,8 @@ use std::io::{self, ErrorKind, Read, Write};
 // whoever tries it again is given the bytes; 0 for none.
 #[derive(Drop)]
 pub struct Pieces<'a> {
-    pub left: &'a [u8],
     pub piece: usize,
+    pub left: &'a [u8],
     pub failing: usize,
     pub reads: usize,
 }
@@ -18,11 +18,8 @@ impl Read for Pieces<'_> {
         if self.failing != 0 && self.reads == self.failing {
             return Err(io::Error::from(ErrorKind::Interrupted));
         }
-        let n = buf.len().min(self.piece).min(self.left.len());
-        let (now, later) = self.left.split_at(n);
-        buf[..n].copy_from_slice(now);
-        self.left = later;
-        Ok(n)
+        let n = buf.len().min(self.piece);
+        self.left.read(&mut buf[..n])
     }
 }
 
