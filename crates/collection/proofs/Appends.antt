@@ -1,5 +1,5 @@
 -- A page of a cached sector is written.
-use Rattle.std.proofs.Common.{◌≡◌, ℕ, ◌<◌, List, Option, Some, None, IsSome, ap, sym, ◌∙◌, subst}
+use Rattle.std.proofs.Common.{◌≡◌, ℕ, ◌<◌, List, length, Option, Some, None, IsSome, ap, sym, ◌∙◌, subst, arith}
 use Rattle.mapping_cache.specs.Mapping.{MappingState, slot_of}
 use Rattle.page_layout.specs.declared.geometry.Geometry.{Geometry}
 use Rattle.page_layout.specs.declared.record.Kind.{Kind}
@@ -13,8 +13,10 @@ use Rattle.collection.specs.Pages.{newest_row}
 use Rattle.collection.specs.Maps.{IsPageFor}
 use Rattle.collection.specs.Truth.{IsTrue}
 use Rattle.collection.specs.Safe.{IsOutside}
-use Rattle.collection.specs.Settle.{SetsRow, SetsMapping, SetsDirectory, HasSettled}
+use Rattle.collection.specs.Settle.{HasPlace, HasNoMore, SetsRow, SetsMapping, SetsDirectory, HasSettled}
 use Rattle.collection.specs.Results.{MayPut, IsReplaced, IsWritten}
+use Rattle.collection.proofs.Copies.{keys_set}
+use Rattle.collection.proofs.Follows.{some_or_none}
 use Rattle.collection.proofs.Puts.{leaves_written}
 
 pub may_append : (r : Ram) (image : Image) (kind : Kind) (n : ℕ) (old_row : Option ℕ) (body : List ℕ) → IsTrue None r image → key_from kind n ≡ Sector n → old_row ≡ newest_row image (Sector n) → MayPut kind n old_row body r image
@@ -42,3 +44,13 @@ has_settled g n row old new key is sets directory = by (subst (λ (k : Key). Set
   where
     by : SetsMapping (Sector n) row old.mapping new.mapping × SetsDirectory g (Sector n) row old.directory new.directory → HasSettled n old new
     by both = record { row = row; sets = both.0; directory = both.1 }
+
+pub no_more_set : (key : Key) (n row : ℕ) (m m' : MappingState) → key ≡ Sector n → IsSome (slot_of m n) → SetsMapping key row m m' → HasNoMore m m'
+no_more_set key n row m m' is some s = record {
+  limits = (keys_set key row m m' s).limits;
+  moved = (let l = ap (λ (l : List (ℕ × ℕ)). length l) (moved_still key n row m m' is some s) in omega arith);
+}
+
+-- a cached sector's row has its place
+pub place_cached : (m : MappingState) (n : ℕ) → IsSome (slot_of m n) → HasPlace m (Sector n)
+place_cached m n some = λ none. absurd (some_or_none (slot_of m n) some none)

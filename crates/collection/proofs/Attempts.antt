@@ -1,5 +1,5 @@
 -- One attempt to program a page, by its outcome.
-use Rattle.std.proofs.Common.{◌≡◌, ◌≢◌, ℕ, ◌+◌, ◌-◌, ◌/◌, ◌<◌, ◌^◌, true, List, length, slice_get, Option, None, refl, ap, sym, ◌∙◌, subst}
+use Rattle.std.proofs.Common.{◌≡◌, ◌≢◌, ℕ, ◌+◌, ◌-◌, ◌/◌, ◌<◌, ◌≤◌, ◌^◌, true, List, length, slice_get, Option, None, Result, Err, refl, ap, sym, ◌∙◌, subst}
 use Rattle.std.proofs.Common.{arith}
 use Rattle.std.specs.Option.{ForSome}
 use Rattle.page_layout.specs.declared.geometry.Geometry.{Geometry}
@@ -11,11 +11,15 @@ use Rattle.page_layout.specs.Geometry.{row_count}
 use Rattle.page_layout.specs.Live.{IsKeyOf}
 use Rattle.page_layout.specs.Flash.{Flash}
 use Rattle.page_layout.specs.Recording.{Recording}
+use Rattle.page_layout.specs.View.{View}
+use Rattle.page_layout.specs.Counter.{HasRisen}
+use Rattle.page_layout.specs.DieCalls.{AsksOnly}
 use Rattle.page_layout.specs.Change.{Keeps, Writes}
 use Rattle.page_layout.proofs.FlashLemmas.{program_other}
 use Rattle.bad_blocks.specs.Table.{is_good_at, wear_at}
 use Rattle.budget.specs.declared.stream.Stream.{Stream}
 use Rattle.budget.specs.Counts.{TakesOne, FailsOne}
+use Rattle.allocation.specs.declared.blocks.Blocks.{Blocks}
 use Rattle.allocation.specs.State.{State, free_count}
 use Rattle.allocation.specs.Step.{Takes, taken, without}
 use Rattle.allocation.specs.Counts.{counts_of}
@@ -23,7 +27,12 @@ use Rattle.onfi_cycles.specs.declared.nand.Outcome.{Outcome}
 use Rattle.onfi_cycles.specs.declared.nand.Outcome.TheVariants.{Passed, Failed}
 use Rattle.onfi_cycles.specs.Outcomes.{is_passed}
 use Rattle.collection.specs.State.{Ram}
-use Rattle.collection.specs.Safe.{IsRam}
+use Rattle.collection.specs.declared.engine.Buffer.{Buffer}
+use Rattle.collection.specs.declared.engine.Engine.{Engine}
+use Rattle.collection.specs.declared.fault.EngineFault.{EngineFault}
+use Rattle.collection.specs.declared.fault.EngineFault.TheVariants.{Bus}
+use Rattle.collection.specs.Acts.{EngineActs}
+use Rattle.collection.specs.Safe.{IsRam, IsSafe, IsBuffer, ram}
 use Rattle.collection.specs.Cost.{moved_live, FailsTry, PassesTry}
 use Rattle.collection.specs.Log.{Went}
 use Rattle.collection.specs.Results.{CanProgram, IsStep, MayPut, IsImageKept, IsPut, GoesPut, last_record}
@@ -37,6 +46,10 @@ use Rattle.collection.proofs.Logs.{went_one}
 -- the record of an attempt
 abbrev pub next_record : Kind → ℕ → ℕ → ℕ → Record
 next_record kind n sequence wear = record { kind = kind; number = n; sequence = sequence; wear = wear }
+
+-- the step of a program, as its caller sees it
+abbrev pub StepOf : {N : Type 0} → View N → (row sequence : ℕ) → (old new : N) → Outcome → Type 0
+StepOf view row sequence old new outcome = IsStep row sequence outcome (view.flash old) (view.recorded old) (view.flash new) (view.recorded new)
 
 -- ---- the row that was taken
 
@@ -158,3 +171,27 @@ module _ (stream : Stream) (block row : ℕ) (r : Ram) (t : State) (s : IsRam r)
                 of_key within m.old_row_is m.page_for w;
             writes = (let P : Record → Type 0 = λ x. Writes r.geometry x row body old new in subst P (sym same) w);
           }
+
+-- the row that was taken may be programmed
+pub can_take : (r : Ram) (stream : Stream) (row block : ℕ) (t : State) → IsRam r → Takes stream row r.blocks t → block ≡ row / r.geometry.pages → (kind : Kind) (n : ℕ) (o : Option ℕ) (body : List ℕ) (old : Image)
+    → MayPut kind n o body r old → IsKeyOf r.geometry (key_from kind n) → (wear : ℕ) → CanProgram r.geometry row (next_record kind n r.next wear) old
+can_take r stream row block t s takes at kind n o body old may of_key wear = may_program stream block row r t s (taken_by r stream row block t s takes at) kind n o body old may of_key wear
+
+-- ---- the engine, once the die was asked for the program
+
+pub asked_acts : {A N : Type 0} (view : View N) (a : Engine N) (nand : N) (left : Blocks) (next : ℕ) (page : Buffer) (result : Result A EngineFault)
+    → IsRam (ram (record a { nand = nand; blocks = left; next = next; page = page })) → IsSafe view.flash a → IsBuffer a.geometry page
+    → (view.flash nand).geometry ≡ (view.flash a.nand).geometry → view.honest nand ≡ view.honest a.nand → view.calm nand ≡ view.calm a.nand
+    → AsksOnly view.called a.nand nand → view.failed a.nand ≤ view.failed nand → (result ≡ Err Bus → HasRisen (view.failed a.nand) (view.failed nand))
+    → (view.honest a.nand ≡ true → result ≢ Err Bus → Went (ram a) (view.flash a.nand) (view.recorded a.nand) (ram (record a { nand = nand; blocks = left; next = next; page = page })) (view.flash nand) (view.recorded nand))
+    → EngineActs view a (record a { nand = nand; blocks = left; next = next; page = page }) result
+asked_acts view a nand left next page result memory safe buffer sized honest calm asked failed rose went = record {
+  safe = record { memory = memory; geometry = sized ∙ safe.geometry; page = buffer; scratch = safe.scratch };
+  fault = refl;
+  honest_is = honest;
+  calm_is = calm;
+  asked = asked;
+  failed_is = failed;
+  rose = rose;
+  went = went;
+}

@@ -1,30 +1,32 @@
 -- A page of a block that is collected is brought out: copied, or written back.
-use Rattle.std.proofs.Common.{◌≡◌, ◌≢◌, ◌↔◌, ℕ, ◌+◌, ◌/◌, ◌%◌, ◌<◌, ◌≤◌, Bool, true, false, List, length, Option, Some, None, MatchResult, Result, Ok, Err, OnOk, refl, ap, sym, ◌∙◌, subst, arith}
+use Rattle.std.proofs.Common.{◌≡◌, ℕ, ◌/◌, ◌%◌, ◌<◌, ◌≤◌, Bool, true, List, length, Some, MatchResult, Result, Ok, Err, OnOk, OnErr, refl, ap, sym, ◌∙◌, subst, arith}
 use Rattle.page_layout.specs.declared.geometry.Geometry.{Geometry}
 use Rattle.page_layout.specs.declared.record.Record.{Record}
+use Rattle.page_layout.specs.declared.record.Kind.{Kind}
+use Rattle.page_layout.specs.declared.record.Kind.TheVariants as kind
 use Rattle.page_layout.specs.declared.record.Key.{Key}
 use Rattle.page_layout.specs.declared.record.Key.TheVariants.{Sector, Translation, Table}
 use Rattle.page_layout.specs.Page.{Page, Image}
 use Rattle.page_layout.specs.Key.{key_of, key_from}
 use Rattle.page_layout.specs.Geometry.{translation_pages, entries}
-use Rattle.page_layout.specs.Live.{IsKeyOf}
 use Rattle.translation_pages.specs.TranslationPage.{entry_at}
-use Rattle.mapping_cache.specs.Mapping.{MappingState, cleaned}
+use Rattle.mapping_cache.specs.Mapping.{MappingState, per_page, cleaned}
 use Rattle.budget.specs.declared.stream.Stream.TheVariants.{Meta}
 use Rattle.collection.specs.declared.fault.EngineFault.{EngineFault}
 use Rattle.collection.specs.declared.fault.EngineFault.TheVariants.{ReadOnly, SequenceSpent, Damaged, Bus}
-use Rattle.collection.specs.State.{Ram}
+use Rattle.collection.specs.State.{Ram, Pin}
 use Rattle.collection.specs.Safe.{is_shut}
 use Rattle.collection.specs.Left.{TouchesNoMore}
 use Rattle.collection.specs.Pages.{newest_row}
 use Rattle.collection.specs.Live.{IsLivePage}
-use Rattle.collection.specs.Looks.{IsLoaded, HoldsNewest}
-use Rattle.collection.specs.Cost.{HasPut, PageCosts}
+use Rattle.collection.specs.Looks.{HoldsNewest}
+use Rattle.collection.specs.Cost.{PageCosts}
 use Rattle.collection.specs.Results.{IsLastPage, IsWrittenBack, Refused}
-use Rattle.collection.specs.Settle.{SetsMapping, BringsOut, HasNoMore}
-use Rattle.collection.specs.Collect.{HasCopied, HasBroughtOut, IsBroughtOut, IsMovedOut, FaultCosts}
+use Rattle.collection.specs.Settle.{SetsMapping, BringsOut, Cleans}
+use Rattle.collection.specs.Collect.{HasCopied, HasBroughtOut, IsMovedOut, FaultCosts, Refreshes}
 use Rattle.collection.proofs.MapLemmas.{entry_here}
-use Rattle.collection.proofs.Dues.{HasCleaned, cleaned_due}
+use Rattle.collection.proofs.Copies.{refreshes_same}
+use Rattle.collection.proofs.Dues.{cleaned_due, cleaned_refreshes}
 use Rattle.collection.proofs.Lefts.{cleaned_touches}
 
 -- ---- the mapping
@@ -90,7 +92,31 @@ written_out flushing key t a b (Ok done) is some lt same pin fewer cost clean = 
 }
 written_out flushing key t a b (Err fault) is some lt same pin fewer cost clean = fault_written a b fault cost
 
+-- what it leaves of the mapping
+pub written_brings : (key : Key) (t : ℕ) (a b : Ram) (result : Result (Unit {0}) EngineFault) → key ≡ Translation t → 0 < a.mapping.share → OnOk result (b.mapping ≡ cleaned a.mapping t)
+    → OnOk result ((at : ℕ) × BringsOut key at a.mapping b.mapping)
+written_brings key t a b (Ok done) is some clean = (0, brings_written key t 0 a.mapping b.mapping is some clean)
+written_brings key t a b (Err fault) is some clean = tt
+
+pub written_fresh : (t : ℕ) (a b : Ram) (result : Result (Unit {0}) EngineFault) → b.geometry ≡ a.geometry → b.pin ≡ a.pin → OnOk result (b.mapping ≡ cleaned a.mapping t)
+    → OnOk result (Cleans (per_page a.mapping) t a.mapping b.mapping) → OnErr result (b.mapping ≡ a.mapping) → Refreshes a b
+written_fresh t a b (Ok done) same pin clean cleans kept = cleaned_refreshes t a b (record { geometry = same; mapping = clean; marks = ap (λ (p : Pin). p.marks) pin }) cleans
+written_fresh t a b (Err fault) same pin clean cleans kept = refreshes_same a b kept pin
+
 -- ---- the page in the buffer
+
+-- what kind a translation page is of
+kind_of_page : (k : Kind) (n t : ℕ) → key_from k n ≡ Translation t → (kind.Translation ≡ k) × (t ≡ n)
+kind_of_page kind.Sector n t is = (let never : ⊥ = cc in absurd never)
+kind_of_page kind.Trim n t is = (let never : ⊥ = cc in absurd never)
+kind_of_page kind.Translation n t is = (refl, cc)
+kind_of_page kind.Table n t is = (let never : ⊥ = cc in absurd never)
+
+pub written_last : (rec : Record) (t : ℕ) (b : Ram) (p : Page) (result : Result (Unit {0}) EngineFault) → key_of rec ≡ Translation t → OnOk result (IsLastPage kind.Translation t b p) → OnOk result (IsLastPage rec.kind rec.number b p)
+written_last rec t b p (Ok done) is last =
+    let e = kind_of_page rec.kind rec.number t is in
+    subst (λ k. IsLastPage k rec.number b p) e.0 (subst (λ n. IsLastPage kind.Translation n b p) e.1 last)
+written_last rec t b p (Err fault) is last = tt
 
 -- the newest page of a key, where that is a translation page
 pub holds_live : (g : Geometry) (image : Image) (t row : ℕ) (rec : Record) (body : List ℕ) → key_of rec ≡ Translation t → IsLivePage row body rec image → HoldsNewest t (Some row) body g image

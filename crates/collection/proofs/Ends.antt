@@ -78,9 +78,6 @@ one_more_set key at a b m m' is sets same =
 pub has_room : (r : Ram) → IsRam r → length r.mapping.moved < moved_room r.mapping.geometry r.mapping.share → length r.mapping.moved < waiting r + r.geometry.pages
 has_room r s lt = (let room = moved_places r s in omega arith)
 
-pub has_no_room : {A : Type 0} (r : Ram) → IsRam r → length r.mapping.moved < moved_room r.mapping.geometry r.mapping.share → length r.mapping.moved ≡ waiting r + r.geometry.pages → A
-has_no_room {A} r s lt is = absurd (let room = moved_places r s in omega arith)
-
 pub some_room : (r : Ram) → IsRam r → length r.mapping.moved < waiting r + r.geometry.pages → length r.mapping.moved < moved_room r.mapping.geometry r.mapping.share
 some_room r s lt = (let room = moved_places r s in omega arith)
 

@@ -1,13 +1,16 @@
 -- A block is erased, or fails.
 use Rattle.std.proofs.Common.{◌≡◌, ◌≢◌, inl, inr, ℕ, ◌+◌, ◌*◌, ◌/◌, ◌<◌, ◌≤◌, ◌&&◌, ◌==◌, min, Bool, true, false, not, List, [], ◌∷◌, length, get_or}
-use Rattle.std.proofs.Common.{Option, None, IsSome, refl, ap, sym, ◌∙◌, subst, arith, get_or-set_same}
+use Rattle.std.proofs.Common.{Vec, Global, replicate, Option, None, Ok, IsSome, refl, ap, sym, ◌∙◌, subst, arith, get_or-set_same}
 use Rattle.std.proofs.lemmas.Bool.{cases_eq, eq-eqb, ne_eqb}
+use Rattle.std.proofs.lemmas.List.{length-replicate}
 use Rattle.std.proofs.lemmas.Nat.{div-mul-add}
 use Rattle.page_layout.specs.declared.geometry.Geometry.{Geometry}
 use Rattle.page_layout.specs.Geometry.{translation_pages, table_pages, row_count}
 use Rattle.page_layout.specs.Page.{Image, Page, IsImage}
 use Rattle.page_layout.specs.Array.{marks}
-use Rattle.page_layout.specs.Flash.{Flash, Erase, Steps}
+use Rattle.page_layout.specs.View.{View}
+use Rattle.page_layout.specs.DieCalls.{AsksOnly}
+use Rattle.page_layout.specs.Flash.{Flash, Erase, Steps, IsWhole, block_at}
 use Rattle.page_layout.specs.Recording.{Recording, Records}
 use Rattle.page_layout.specs.Change.{HoldsNone, Keeps, LosesIn, ErasesIn, IsErasedAt, one_if}
 use Rattle.page_layout.proofs.FlashLemmas.{Leads-one, erase_keeps, erase_loses, erase_erases}
@@ -20,19 +23,25 @@ use Rattle.promises.specs.Log.{passed_erases_of}
 use Rattle.promises.specs.Legal.{Account, account_at, noted, accounted, LegalFrom}
 use Rattle.promises.proofs.AccountLemmas.{length-accounted, accounted-same, accounted-other}
 use Rattle.allocation.specs.declared.fill.Fill.{Fill}
+use Rattle.allocation.specs.declared.blocks.Blocks.{Blocks}
+use Rattle.allocation.specs.View.{state}
 use Rattle.allocation.specs.State as blocks
-use Rattle.allocation.specs.State.{State, pointer_at, live_at, is_closed, is_free, free_count, fill_at}
+use Rattle.allocation.specs.State.{State, pointer_at, live_at, is_closed, free_count}
 use Rattle.allocation.specs.Step.{erased, without}
 use Rattle.allocation.proofs.SafeLemmas.{fill_same, fill_other, safe_erased, safe_without, closed_parts, good_erased, good_retired}
 use Rattle.allocation.proofs.OtherLemmas.{failed_others, erased_others}
 use Rattle.collection.specs.State.{Ram}
-use Rattle.collection.specs.Safe.{IsRam}
+use Rattle.collection.specs.Safe.{IsRam, IsSafe, ram, image_in}
+use Rattle.collection.specs.declared.engine.Engine.{Engine}
+use Rattle.collection.specs.Acts.{EngineActs}
 use Rattle.collection.specs.Truth.{IsTrue, AreFilled, HasTable}
 use Rattle.collection.specs.Log.{IsAccounted, Follows, Went}
 use Rattle.collection.specs.Maps.{Maps}
 use Rattle.collection.specs.Results.{IsImageKept}
 use Rattle.collection.specs.Collect.{GoesBut, IsReleased}
 use Rattle.collection.proofs.Blocks.{IsMade, safe_counted}
+use Rattle.collection.proofs.Logs.{barred_by}
+use Rattle.collection.proofs.Looks.{ok_not_bus}
 use Rattle.collection.proofs.MapLemmas.{maps_stays}
 use Rattle.collection.proofs.Wears.{worn_grown}
 use Rattle.collection.proofs.Truths.{sound_same, erased_same, tables_kept}
@@ -168,10 +177,7 @@ module _ (pages block : ℕ) (passed : Bool) (left : List Page) (old new : State
       there b ne = accounted-other pages accounts (Erase block passed left) b (λ e. ne (sym e))
 
       barred : (b : ℕ) → b < old.geometry.blocks → (after b).barred ≡ not (is_good_at new.table b)
-      barred b within = elim (cases_eq b block) [
-        | inl same ↦ ap (λ k. (after k).barred) same ∙ (ap (λ (x : Account). x.barred) here ∙ (ap not (sym h.good) ∙ ap (λ k. not (is_good_at new.table k)) (sym same)))
-        | inr ne ↦ ap (λ (x : Account). x.barred) (there b ne) ∙ (a.barred b within ∙ ap (λ (x : TableRow). not (is_good x)) (sym (h.made.others b ne).row))
-      ]
+      barred b within = barred_by block passed old new accounts after h.made h.good (ap (λ (x : Account). x.barred) here) there a b within
 
       next : (b : ℕ) → b < old.geometry.blocks → is_good_at new.table b ≡ true → (after b).next ≡ pointer_at new b
       next b within good = elim (cases_eq b block) [
@@ -313,3 +319,47 @@ ended_kept r r' before after block passed left s w same none step whole t h = re
       where
         live_kept : (b : ℕ) → Rattle.page_layout.specs.Live.live r.blocks.geometry (marks after.image) b ≡ Rattle.page_layout.specs.Live.live r.blocks.geometry (marks before.image) b
         live_kept b = (let P : Geometry → Type 0 = λ g. Rattle.page_layout.specs.Live.live g (marks after.image) b ≡ Rattle.page_layout.specs.Live.live g (marks before.image) b in subst P (sym s.blocks_of) (k.live_same b))
+
+-- ---- the engine, once the erase of a closed block has ended
+
+module _ {N : Type 0} (view : View N) (passed : Bool) (block : ℕ) (a : Engine N) (nand : N) (left : Blocks) (marks : Vec Bool Global) (safe : IsSafe view.flash a)
+    (within : block < a.geometry.blocks) (closed : is_closed (ram a).blocks block ≡ true) (is : state left ≡ ended passed block (ram a).blocks)
+    (clear : marks.items ≡ replicate (length a.marks.items) false) (sized : (view.flash nand).geometry ≡ (view.flash a.nand).geometry) where
+  its_end : HasEnded block passed (ram a).blocks (state left)
+  its_end = ended_by passed (ram a) block (state left) safe.memory within closed is
+
+  its_rest : IsCleared (ram a) (ram (record a { nand = nand; blocks = left; marks = marks }))
+  its_rest = record { geometry = refl; directory = refl; mapping = refl; next = refl; block = refl; marks = ap length clear ∙ length-replicate (length a.marks.items) false }
+
+  pub erase_acts : view.honest nand ≡ view.honest a.nand → view.calm nand ≡ view.calm a.nand → AsksOnly view.called a.nand nand → view.failed a.nand ≤ view.failed nand
+      → (view.honest a.nand ≡ true → Steps (view.flash a.nand) (Erase block passed (block_at (view.flash nand) block)) (view.flash nand))
+      → (view.honest a.nand ≡ true → Records (view.recorded a.nand) (Erase block passed (block_at (view.flash nand) block) ∷ []) (view.recorded nand))
+      → EngineActs {A = Unit {0}} view a (record a { nand = nand; blocks = left; marks = marks }) (Ok tt)
+  erase_acts honest calm asked failed step records = record {
+    safe = record {
+      memory = cleared_ram block (ram a) _ safe.memory its_rest its_end.made;
+      geometry = sized ∙ safe.geometry;
+      page = safe.page;
+      scratch = safe.scratch;
+    };
+    fault = refl;
+    honest_is = honest;
+    calm_is = calm;
+    asked = asked;
+    failed_is = failed;
+    rose = λ e. absurd (ok_not_bus tt e);
+    went = λ known ne. went_erase (ram a) _ (view.flash a.nand) (view.flash nand) _ _ block passed (block_at (view.flash nand) block) (step known) (records known) its_end refl;
+  }
+
+  pub erase_goes : GoesBut block (ram a) (ram (record a { nand = nand; blocks = left; marks = marks }))
+  erase_goes = cleared_goes block (ram a) _ its_rest its_end.made
+
+  pub erase_released : IsReleased block (ram a).blocks (state left)
+  erase_released = released passed block (ram a).blocks (state left) its_end
+
+  pub erase_holds : Steps (view.flash a.nand) (Erase block passed (block_at (view.flash nand) block)) (view.flash nand) → IsWhole (view.flash nand)
+      → IsTrue None (ram a) (image_in view.flash a) → HoldsNone a.geometry.pages block (image_in view.flash a)
+      → IsImageKept (ram a) (image_in view.flash a) (ram (record a { nand = nand; blocks = left; marks = marks })) (view.flash nand).image
+  erase_holds step whole w none =
+      let its : IsImage a.geometry (view.flash nand).image = subst (λ (x : Geometry). IsImage x (view.flash nand).image) (sized ∙ safe.geometry) whole.image_whole in
+      ended_kept (ram a) _ (view.flash a.nand) (view.flash nand) block passed (block_at (view.flash nand) block) safe.memory w safe.geometry none step its its_rest its_end

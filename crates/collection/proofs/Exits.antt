@@ -20,8 +20,7 @@ use Rattle.page_layout.specs.Live.{IsKeyOf}
 use Rattle.page_layout.specs.Counter.{counted, HasRisen}
 use Rattle.page_layout.specs.View.{View}
 use Rattle.page_layout.specs.OnlyReads.{OnlyReads}
-use Rattle.page_layout.specs.Recording.{Recording, EndsAt}
-use Rattle.page_layout.specs.Flash.{Flash}
+use Rattle.page_layout.specs.Recording.{EndsAt}
 use Rattle.page_layout.specs.DieCalls.{AsksOnly}
 use Rattle.translation_pages.specs.TranslationPage.{entry_at}
 use Rattle.page_layout.specs.Geometry.{translation_pages, entries}
@@ -40,7 +39,6 @@ use Rattle.collection.specs.declared.engine.Pinned.{Pinned}
 use Rattle.collection.specs.State.{Ram, Pin}
 use Rattle.collection.specs.Acts.{EngineLooks, EngineActs}
 use Rattle.collection.specs.Pages.{newest_row}
-use Rattle.collection.specs.Log.{Went}
 use Rattle.collection.specs.Safe.{IsRam, IsSafe, IsBuffer, ram, is_shut}
 use Rattle.collection.specs.Truth.{IsTrue}
 use Rattle.collection.specs.Cost.{PageCosts, WriteBackCosts}
@@ -50,7 +48,7 @@ use Rattle.collection.specs.Results.{IsLastPage, IsWritten, Refused, Goes}
 use Rattle.collection.specs.Settle.{BringsOut, HasNoMore, HasSettled}
 use Rattle.collection.specs.Collect.{waiting, excess, FaultCosts, KeepsKeys, Refreshes, IsBroughtOut, IsLowestDue, OwesNone, IsStepped, HasNoneAiling}
 use Rattle.collection.proofs.Costs.{err_as}
-use Rattle.collection.proofs.Acts.{ok_as, looks_ok}
+use Rattle.collection.proofs.Acts.{ok_as, looks_ok, looks_as, looks_into, acts_but}
 use Rattle.collection.proofs.Looks.{ok_not_bus}
 use Rattle.collection.proofs.Gates.{true_noted, refused_noted}
 use Rattle.collection.proofs.Memory.{goes_same}
@@ -385,40 +383,17 @@ module _ {N : Type 0} {view : View N} where
       → (view.honest a.nand ≡ true → result ≢ Err Bus → view.recorded nand ≡ view.recorded a.nand)
       → (view.honest a.nand ≡ true → result ≡ Err Bus → EndsAt [] (view.recorded a.nand) (view.recorded nand))
       → EngineLooks view a (record a { nand = nand; scratch = scratch }) result
-  looks_scratch a nand scratch result safe buffer reads asked faults rose same told cut = record {
-    safe = record { memory = safe.memory; geometry = reads.geometry_is ∙ safe.geometry; page = safe.page; scratch = buffer };
-    memory = refl;
-    only_reads = reads;
-    asked = asked;
-    faults = faults;
-    rose = rose;
-    same = same;
-    told = told;
-    cut = cut;
-  }
+  looks_scratch a nand scratch result safe buffer reads asked faults rose same told cut = looks_into a nand a.page scratch result safe safe.page buffer reads asked faults rose same told cut
 
   -- and what it holds was tested
   pub looks_tested : {A B : Type 0} (a b : Engine N) (x : A) (result : Result B EngineFault) → IfErr result (λ fault. fault ≡ Damaged) → EngineLooks view a b (Ok x) → EngineLooks view a b result
   looks_tested a b x (Ok y) tested p = looks_ok a b x y p
-  looks_tested a b x (Err fault) tested p = record {
-    safe = p.safe;
-    memory = p.memory;
-    only_reads = p.only_reads;
-    asked = p.asked;
-    faults = subst (λ k. IsReadFault k) (sym tested) tt;
-    rose = λ is. absurd (tested_not_bus fault tested is);
-    same = λ known ne. p.same known (ok_not_bus x);
-    told = λ known ne. p.told known (ok_not_bus x);
-    cut = λ known is. absurd (tested_not_bus fault tested is);
-  }
+  looks_tested a b x (Err fault) tested p = looks_as a b (ok_as x) (err_as _ fault) (subst (λ k. IsReadFault k) (sym tested) tt) (λ is. absurd (tested_not_bus fault tested is)) (λ ne. ok_not_bus x) p
 
 -- ---- the marks, or the pin, are set after a call
 
 ram_pinned : (r : Ram) (p : Pin) → length p.marks ≡ length r.pin.marks → IsRam r → IsRam (record r { pin = p })
 ram_pinned r p same s = record { directory = s.directory; directory_rows = s.directory_rows; mapping = s.mapping; mapping_of = s.mapping_of; blocks = s.blocks; blocks_of = s.blocks_of; next = s.next; marks = same ∙ s.marks }
-
-went_pinned : (a b : Ram) (p : Pin) (x y : Flash) (told told' : Option Recording) → Went a x told b y told' → Went a x told (record b { pin = p }) y told'
-went_pinned a b p x y told told' w = record { log = w.log; leads = w.leads; records = w.records; follows = w.follows; next = w.next; wears = w.wears; numbers = w.numbers }
 
 module _ {N : Type 0} {view : View N} where
   pub acts_marked : {A : Type 0} (a b : Engine N) (marks : Vec Bool Global) (t : ℕ) (mark : Bool) (result : Result A EngineFault) → marks.items ≡ set b.marks.items t mark
@@ -426,27 +401,9 @@ module _ {N : Type 0} {view : View N} where
   acts_marked a b marks t mark result is p =
       let pin : Pin = record { block = b.pinned; marks = marks.items } in
       let many : length marks.items ≡ length b.marks.items = ap length is ∙ simp length-set in
-      record {
-        safe = record { memory = ram_pinned (ram b) pin many p.safe.memory; geometry = p.safe.geometry; page = p.safe.page; scratch = p.safe.scratch };
-        fault = p.fault;
-        honest_is = p.honest_is;
-        calm_is = p.calm_is;
-        asked = p.asked;
-        failed_is = p.failed_is;
-        rose = p.rose;
-        went = λ known ne. went_pinned (ram a) (ram b) pin _ _ _ _ (p.went known ne);
-      }
+      acts_but a b a.page a.pinned b.pinned marks result result (record { memory = ram_pinned (ram b) pin many p.safe.memory; geometry = p.safe.geometry; page = p.safe.page; scratch = p.safe.scratch }) (λ is. is) (λ ne. ne) p
 
   pub acts_pinned : {A : Type 0} (a b : Engine N) (to : Option Pinned) (result : Result A EngineFault) → EngineActs view a b result → EngineActs view a (record b { pinned = to }) result
   acts_pinned a b to result p =
       let pin : Pin = record { block = to; marks = b.marks.items } in
-      record {
-        safe = record { memory = ram_pinned (ram b) pin refl p.safe.memory; geometry = p.safe.geometry; page = p.safe.page; scratch = p.safe.scratch };
-        fault = p.fault;
-        honest_is = p.honest_is;
-        calm_is = p.calm_is;
-        asked = p.asked;
-        failed_is = p.failed_is;
-        rose = p.rose;
-        went = λ known ne. went_pinned (ram a) (ram b) pin _ _ _ _ (p.went known ne);
-      }
+      acts_but a b a.page a.pinned to b.marks result result (record { memory = ram_pinned (ram b) pin refl p.safe.memory; geometry = p.safe.geometry; page = p.safe.page; scratch = p.safe.scratch }) (λ is. is) (λ ne. ne) p

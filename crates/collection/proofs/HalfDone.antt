@@ -25,7 +25,7 @@ use Rattle.collection.specs.declared.fault.EngineFault.{EngineFault}
 use Rattle.collection.specs.declared.fault.EngineFault.TheVariants.{ReadOnly, SequenceSpent, Damaged, Bus}
 use Rattle.collection.specs.State.{Ram}
 use Rattle.collection.specs.declared.engine.Engine.{Engine}
-use Rattle.collection.specs.Safe.{IsRam, IsIdle, ram}
+use Rattle.collection.specs.Safe.{IsRam, IsIdle}
 use Rattle.collection.specs.Acts.{EngineActs, RestsOrErases}
 use Rattle.collection.specs.Log.{Went}
 use Rattle.collection.specs.Room.{IsFundedOn, IsWorth, Collects}
@@ -39,6 +39,7 @@ use Rattle.collection.proofs.Dues.{moved_count, length_keys}
 use Rattle.collection.proofs.Lowest.{shut_closed}
 use Rattle.collection.proofs.Rooms.{shut_fewer, on_same, erased_more, room_tells, rearranged_same, rearranged_then, room_refused, funded_same, funded_then, refused_room}
 use Rattle.collection.proofs.Finds.{none_yet}
+use Rattle.collection.proofs.Acts.{acts_but}
 
 -- ---- what is due at first
 
@@ -128,7 +129,7 @@ module _ (a b : Ram) (to : Option Pinned) where
   lead_from flushing (steps.WroteBack ∷ before) now l = (l.0, lead_from flushing before l.0 l.1, l.2)
   lead_from flushing (steps.Erased ∷ before) now l = l
 
-  ledger_from : (flushing : Bool) → Ledger flushing (pinned_to to a) b → Ledger flushing a b
+  abbrev ledger_from : (flushing : Bool) → Ledger flushing (pinned_to to a) b → Ledger flushing a b
   ledger_from flushing l = record {
     steps_taken = l.steps_taken;
     lead = lead_from flushing l.steps_taken b l.lead;
@@ -176,26 +177,8 @@ cost_from a b to flushing block (Err Bus) k = k
 pub sparing_from : (a b : Ram) (to : Option Pinned) (flushing : Bool) (block : ℕ) (result : Result (Unit {0}) EngineFault) → OnOk result (CollectsFew flushing block (pinned_to to a) b) → OnOk result (CollectsFew flushing block a b)
 sparing_from a b to flushing block (Ok u) k =
     let c = k.collected in
-    let l = c.ledger in
     record {
-      collected = record {
-        mid = c.mid;
-        ledger = record {
-          steps_taken = l.steps_taken;
-          lead = lead_from a c.mid to flushing l.steps_taken c.mid l.lead;
-          copies_are = l.copies_are;
-          written_are = l.written_are;
-          copies = l.copies;
-          written = l.written;
-          data_pages = l.data_pages;
-          meta_pages = l.meta_pages;
-          pages = l.pages;
-          programmed = record { account = l.programmed.account; next = l.programmed.next };
-          account = record { flushed = l.account.flushed; share = l.account.share; moved = l.account.moved; last = l.account.last; once = l.account.once };
-        };
-        none = c.none;
-        erase = c.erase;
-      };
+      collected = record { mid = c.mid; ledger = ledger_from a c.mid to flushing c.ledger; none = c.none; erase = c.erase };
       copies = k.copies;
       written = k.written;
     }
@@ -204,16 +187,7 @@ sparing_from a b to flushing block (Err fault) k = tt
 pub acts_from : {A N : Type 0} {view : View N} (a b : Engine N)
     (to : Option Pinned) (result : Result A EngineFault) → EngineActs view (record a { pinned = to }) b result
     → EngineActs view a b result
-acts_from a b to result p = record {
-  safe = p.safe;
-  fault = p.fault;
-  honest_is = p.honest_is;
-  calm_is = p.calm_is;
-  asked = p.asked;
-  failed_is = p.failed_is;
-  rose = p.rose;
-  went = λ known ne. went_from (ram a) (ram b) to _ _ _ _ (p.went known ne);
-}
+acts_from a b to result p = acts_but a b a.page to b.pinned b.marks result result p.safe (λ is. is) (λ ne. ne) p
 
 -- ---- a block is pinned
 

@@ -19,6 +19,7 @@ pub mod Noted
 pub mod Made
 pub mod Renews
 pub mod Rescues
+pub mod Moves
 pub mod Rescued
 pub mod Blocks
 pub mod Memory

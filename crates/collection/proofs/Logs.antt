@@ -35,6 +35,14 @@ pub record HasFollowed (block : ℕ) (passed : Bool) (old new : State) : Type 0 
   pub pointer : pointer_at new block ≡ pointer_at old block + 1
   pub wear : wear_at new.table block ≡ wear_at old.table block
 
+-- by the accounts afterwards the bad blocks are barred, where the block's account tells whether the operation of it passed and the other accounts stay
+pub barred_by : (block : ℕ) (passed : Bool) (old new : State) (accounts : List Account) (after : ℕ → Account) → IsMade block old new → is_good_at new.table block ≡ passed → (after block).barred ≡ not passed
+    → ((b : ℕ) → b ≢ block → after b ≡ account_at accounts b) → IsAccounted accounts old → (b : ℕ) → b < old.geometry.blocks → (after b).barred ≡ not (is_good_at new.table b)
+barred_by block passed old new accounts after made good here there a b within = elim (cases_eq b block) [
+  | inl same ↦ ap (λ k. (after k).barred) same ∙ (here ∙ (ap not (sym good) ∙ ap (λ k. not (is_good_at new.table k)) (sym same)))
+  | inr ne ↦ ap (λ (x : Account). x.barred) (there b ne) ∙ (a.barred b within ∙ ap (λ (x : TableRow). not (is_good x)) (sym (made.others b ne).row))
+]
+
 module _ (block row : ℕ) (p left : Page) (passed : Bool) (old new : State) (h : HasFollowed block passed old new) (row_is : row ≡ block * old.geometry.pages + pointer_at old block) where
   op : Operation
   op = Program row p passed left
@@ -71,10 +79,7 @@ module _ (block row : ℕ) (p left : Page) (passed : Bool) (old new : State) (h 
       there b ne = accounted-other old.geometry.pages accounts (Program row p passed left) b (λ e. ne (sym e ∙ block_is))
 
       barred : (b : ℕ) → b < old.geometry.blocks → (after b).barred ≡ not (is_good_at new.table b)
-      barred b within = elim (cases_eq b block) [
-        | inl same ↦ ap (λ k. (after k).barred) same ∙ (ap (λ (x : Account). x.barred) here ∙ (ap not (sym h.good) ∙ ap (λ k. not (is_good_at new.table k)) (sym same)))
-        | inr ne ↦ ap (λ (x : Account). x.barred) (there b ne) ∙ (a.barred b within ∙ ap (λ (x : TableRow). not (is_good x)) (sym (h.made.others b ne).row))
-      ]
+      barred b within = barred_by block passed old new accounts after h.made h.good (ap (λ (x : Account). x.barred) here) there a b within
 
       next : (b : ℕ) → b < old.geometry.blocks → is_good_at new.table b ≡ true → (after b).next ≡ pointer_at new b
       next b within good = elim (cases_eq b block) [

@@ -1,28 +1,31 @@
 -- A page of version 1 is found and copied.
-use Rattle.std.proofs.Common.{◌≡◌, inl, inr, ℕ, ◌+◌, ◌<◌, ◌≤◌, not, Bool, true, false, ◌/◌, List, Option, Some, None, is_some, refl, ap, sym, ◌∙◌, subst, arith}
+use Rattle.std.proofs.Common.{◌≡◌, inl, inr, ℕ, ◌+◌, ◌<◌, ◌≤◌, not, Bool, true, false, List, length, Result, Option, Some, None, is_some, refl, ap, sym, ◌∙◌, subst, arith}
 use Rattle.std.specs.Prelude.{slice_get}
 use Rattle.std.proofs.lemmas.Bool.{cases_eq, and_parts, and_from, eqb-true, not_from_false}
 use Rattle.page_layout.specs.declared.record.Record.{Record}
 use Rattle.page_layout.specs.declared.record.Key.{Key}
-use Rattle.page_layout.specs.declared.record.Key.TheVariants.{Sector, Translation}
-use Rattle.std.specs.Map.{keys_of}
 use Rattle.page_layout.specs.Page.{Page, Image}
-use Rattle.page_layout.specs.Geometry.{row_count, entries}
-use Rattle.page_layout.specs.Sound.{version_of, version_for}
+use Rattle.page_layout.specs.Geometry.{row_count}
+use Rattle.page_layout.specs.Sound.{version_of}
 use Rattle.page_layout.specs.Key.{key_of}
 use Rattle.page_layout.specs.Array.{marks}
-use Rattle.page_layout.specs.Version.{is_1, is_old, HasOldAt}
+use Rattle.page_layout.specs.Version.{is_1, is_old}
 use Rattle.page_layout.proofs.NewestLemmas.{newest-record}
 use Rattle.page_layout.proofs.VersionLemmas.{version_page, old_from}
+use Rattle.page_layout.specs.View.{View}
+use Rattle.collection.specs.declared.engine.Engine.{Engine}
+use Rattle.collection.specs.declared.fault.EngineFault.{EngineFault}
 use Rattle.collection.specs.State.{Ram}
+use Rattle.collection.specs.Safe.{IsSafe, ram, image_in}
+use Rattle.collection.specs.Acts.{EngineLooks}
+use Rattle.collection.specs.Collect.{waiting}
+use Rattle.collection.specs.Moves.{IsMovedPage, MovesPage, MovesOne, moved_answer}
+use Rattle.collection.proofs.Acts.{ok_as}
+use Rattle.collection.proofs.Moves.{moves_found}
 use Rattle.collection.specs.Pages.{newest_row}
 use Rattle.collection.specs.Truth.{IsTrue}
 use Rattle.collection.specs.Live.{NotAt, IsLivePage}
-use Rattle.collection.specs.Results.{IsSame, Goes}
-use Rattle.collection.specs.Collect.{FollowsCopy, IsRenewed, IsFollowedBy}
 use Rattle.collection.specs.Renew.{is_table, is_due_page, HasNoneDue, IsDuePage, LooksAtDue, IsNextDue, IsRenewedAt}
-use Rattle.collection.proofs.Follows.{follows_by}
-use Rattle.collection.proofs.Puts.{same_then, keeps_page_then}
 use Rattle.collection.proofs.Lowest.{same_here}
 use Rattle.collection.proofs.Truths.{newest_in}
 
@@ -97,47 +100,40 @@ next_due from row image body r ge below due = record {
 
 -- ---- the copy
 
--- no page follows a copy of itself
-apart_behind : (r : Ram) (key : Key) → ¬ FollowsCopy r key key
-apart_behind r key follows =
-    let e : Sector follows.sector ≡ Translation (follows.sector / entries r.geometry) = sym follows.of_sector ∙ follows.page_is in
-    let no : ⊥ = cc in no
-
-module _ (a b : Ram) (x x1 : Image) (row : ℕ) (found : Record) (body : List ℕ) (due : Option Record) (same : b ≡ a) (still : x1 ≡ x) (w : IsTrue None a x) (finds : LooksAtDue row body x due) (is : due ≡ Some found) where
+module _ (a : Ram) (x : Image) (row : ℕ) (found : Record) (body : List ℕ) (due : Option Record) (finds : LooksAtDue row body x due) (is : due ≡ Some found) where
   page_found : IsDuePage row body found x
   page_found = (let P : Option Record → Type 0 = λ o. LooksAtDue row body x o in subst P is finds)
 
-  -- it is live after the look as before
-  pub due_known : IsTrue None b x1 × IsLivePage row body found x1
-  due_known = (rw (same, still) w, (let l = page_found.live in rw still l))
+  -- it is live
+  pub due_live : IsLivePage row body found x
+  due_live = page_found.live
 
-  -- what is known of the copy, by what the look found
-  pub renewed_as : (Q : Ram → Image → Type 0) → (IsTrue None b x1 → IsLivePage row body found x1 → Q b x1) → Q a x
-  renewed_as Q call =
-      let k : Q b x1 = call due_known.0 due_known.1 in
-      let P : Ram → Type 0 = λ z. Q z x in
-      subst P same (subst (Q b) still k)
+  pub renewed_at : (d : Ram) (z : Image) → IsMovedPage (key_of found) row a x d z → IsRenewedAt row a x d z true
+  renewed_at d z m = record {
+    key = key_of found;
+    no_table = page_found.no_table;
+    due = page_found.old;
+    same = m.same;
+    renewed = m.renewed;
+    followed = m.followed;
+    others = m.others;
+    none = λ two key no_table old.
+        let of_key : key_of found ≡ key = one_key x key row found body due_live (m.same.leaves.versions two key row old).newest_is in
+        let is_so : is_old z key ≡ true = old_from z key (row, old) in
+        let is_not : is_old z key ≡ false = ap (is_old z) (sym of_key) ∙ m.renewed two in
+        let never : true ≡ false = sym is_so ∙ is_not in
+        cc;
+  }
 
-  pub renewed_at : (c d : Ram) (y z : Image) → Goes a c → keys_of c.mapping.cached ≡ keys_of a.mapping.cached → d.geometry ≡ c.geometry → IsRenewed (key_of found) a x c y → (IsTrue None c y → IsFollowedBy (key_of found) c y d z) → IsRenewedAt row a x d z true
-  renewed_at c d y z goes keys after m follow =
-      let f : IsFollowedBy (key_of found) c y d z = follow m.same.truth in
-      let all : IsSame a x d z = same_then a c d x y z goes after m.same f.same in
-      record {
-        key = key_of found;
-        no_table = page_found.no_table;
-        due = page_found.old;
-        same = all;
-        renewed = λ two. (f.others (key_of found) (apart_behind c (key_of found))).version ∙ m.renewed two;
-        followed = λ two other follows. f.renewed (ap version_for goes.geometry ∙ two) other (follows_by c a (key_of found) other (sym goes.geometry) (sym keys) follows);
-        others = λ other ne far. keeps_page_then other x y z (m.others other ne) (f.others other (λ follows. far (follows_by a c (key_of found) other goes.geometry keys follows)));
-        none = λ two key no_table old.
-            let of_key : key_of found ≡ key = one_key x key row found body page_found.live (all.leaves.versions two key row old).newest_is in
-            let copied : HasOldAt y key row = f.same.leaves.versions (ap version_for goes.geometry ∙ two) key row old in
-            let is_so : is_old y key ≡ true = old_from y key (row, copied) in
-            let is_not : is_old y key ≡ false = ap (is_old y) (sym of_key) ∙ m.renewed two in
-            let never : true ≡ false = sym is_so ∙ is_not in
-            cc;
-      }
+-- what is told of the page that was found, whatever became of it
+pub renewal_found : {N : Type 0} {view : View N} (a b d : Engine N) (row : ℕ) (found : Record) (due : Option Record) (result : Result (Unit {0}) EngineFault) → IsSafe view.flash a
+    → length a.mapping.moved < waiting (ram a) + a.geometry.pages → EngineLooks view a b (ok_as due)
+    → (view.honest a.nand ≡ true → IsTrue None (ram a) (image_in view.flash a) → LooksAtDue row b.page.body.items (image_in view.flash a) due)
+    → due ≡ Some found → MovesPage view found row b d result → MovesOne view (IsRenewedAt row) a d (moved_answer result)
+renewal_found a b d row found due result safe room p finds is m = moves_found (IsRenewedAt row) a b safe room due found row d result p
+    (λ honest w. due_live (ram a) _ row found _ due (finds honest w) is)
+    (λ honest w. renewed_at (ram a) _ row found _ due (finds honest w) is (ram d) _)
+    m
 
 pub none_renewed : (a b : Ram) (x x1 : Image) (row : ℕ) (body : List ℕ) (due : Option Record) → b ≡ a → x1 ≡ x → IsTrue None a x → LooksAtDue row body x due → due ≡ None → IsRenewedAt row a x b x1 false
 none_renewed a b x x1 row body due same still w finds is =

@@ -1,5 +1,5 @@
 -- A page is found in a bad block, and leaves it.
-use Rattle.std.proofs.Common.{◌≡◌, ◌≢◌, inl, inr, ℕ, ◌+◌, ◌*◌, ◌/◌, ◌<◌, ◌≤◌, true, false, List, Option, Some, None, Ok, Err, refl, ap, sym, ◌∙◌, subst, arith}
+use Rattle.std.proofs.Common.{◌≡◌, ◌≢◌, inl, inr, ℕ, ◌+◌, ◌*◌, ◌/◌, ◌<◌, true, false, List, length, Option, Some, None, Ok, Err, refl, ap, sym, ◌∙◌, subst, arith}
 use Rattle.std.proofs.lemmas.Bool.{cases_lt, cases_eq}
 use Rattle.std.proofs.lemmas.Nat.{div-mul-add}
 use Rattle.page_layout.specs.declared.geometry.Geometry.{Geometry}
@@ -10,39 +10,34 @@ use Rattle.allocation.specs.State.{live_at}
 use Rattle.collection.specs.State.{Ram}
 use Rattle.collection.specs.Safe.{IsRam, is_shut}
 use Rattle.collection.specs.declared.fault.EngineFault.{EngineFault}
-use Rattle.collection.specs.declared.fault.EngineFault.TheVariants.{ReadOnly, SequenceSpent, Damaged, Bus}
-use Rattle.budget.specs.declared.stream.Stream.TheVariants.{Meta}
-use Rattle.budget.specs.Spending.{data_of, meta_of}
-use Rattle.budget.proofs.AccountLemmas.{no_page}
-use Rattle.allocation.specs.Counts.{counts_of}
-use Rattle.allocation.specs.Laws.{IsLeftButLive}
+use Rattle.collection.specs.declared.fault.EngineFault.TheVariants.{Bus}
 use Rattle.page_layout.specs.Geometry.{row_count, entries}
 use Rattle.page_layout.proofs.GeometryLemmas.{row_within}
-use Rattle.collection.specs.Cost.{HasPut}
-use Rattle.collection.specs.Looks.{IsReadFault}
-use Rattle.collection.specs.Results.{IsSame, IsWrittenBack, Goes, Refused}
+use Rattle.collection.specs.Results.{IsWrittenBack, Goes, Refused}
 use Rattle.collection.specs.Truth.{IsTrue}
 use Rattle.collection.specs.Live.{NotAt, HoldsNoneIn, LooksAt, FindsFirst, IsFirstLive, IsFoundIn, IsLivePage}
-use Rattle.collection.specs.Collect.{IsAiling, HasNoneAiling, IsFirstAiling, FindsAiling, IsMovedOut, HasCopied, HasProgrammed, StreamRunsOut}
-use Rattle.collection.specs.Collect.{StreamSpends, FaultCosts, FollowCosts, PutsBehind, HasRescuedPage, RescueCosts, IsRescued}
-use Rattle.collection.specs.Collect.{KeepsKeys, FollowsCopy, IsFollowed, IsFollowedBy, LeavesLowest}
-use Rattle.collection.specs.Settle.{SetsMapping}
-use Rattle.collection.specs.Left.{LeavesPin}
+use Rattle.collection.specs.Collect.{IsAiling, HasNoneAiling, IsFirstAiling, FindsAiling}
+use Rattle.collection.specs.Collect.{IsRescued}
+use Rattle.collection.specs.Collect.{waiting, FollowsCopy, IsFollowedBy}
+use Rattle.page_layout.specs.View.{View}
+use Rattle.collection.specs.declared.engine.Engine.{Engine}
+use Rattle.collection.specs.Safe.{IsSafe, ram, image_in}
+use Rattle.collection.specs.Pages.{newest_row}
+use Rattle.collection.specs.Acts.{EngineLooks}
+use Rattle.collection.specs.Moves.{IsMovedPage, MovesPage, MovesOne, moved_answer}
+use Rattle.collection.proofs.Acts.{ok_as}
+use Rattle.collection.proofs.Moves.{moves_found}
 use Rattle.page_layout.specs.declared.record.Key.{Key}
-use Rattle.page_layout.specs.declared.record.Key.TheVariants.{Sector, Translation, Table}
+use Rattle.page_layout.specs.declared.record.Key.TheVariants.{Sector, Translation}
 use Rattle.page_layout.specs.Version.{is_old}
 use Rattle.mapping_cache.specs.Mapping.{slot_of}
-use Rattle.std.specs.Map.{keys_of}
-use Rattle.std.specs.Prelude.{◌⊎◌, IsSome, Result, MatchResult}
+use Rattle.std.specs.Prelude.{IsSome, Result, MatchResult}
 use Rattle.page_layout.specs.Key.{key_of}
 use Rattle.std.proofs.Math.Nat.{div-lt_iff_lt-mul}
 use Rattle.collection.proofs.Finds.{none_all, none_more}
-use Rattle.collection.proofs.Copies.{keys_then}
-use Rattle.collection.proofs.Follows.{follows_by, followed_beside, some_or_none}
-use Rattle.collection.proofs.Puts.{same_then}
+use Rattle.collection.proofs.Follows.{some_or_none}
 use Rattle.collection.proofs.Lowest.{some_pages, holds_none, same_here}
-use Rattle.collection.proofs.Ledgers.{fit, one_of, programmed_more}
-use Rattle.collection.proofs.Rooms.{bad_shut, still_bad, shut_fewer}
+use Rattle.collection.proofs.Rooms.{bad_shut, shut_fewer}
 use Rattle.collection.proofs.Steps.{live_none}
 
 -- what was found by a memory that is as it was
@@ -129,60 +124,36 @@ row_found r r1 block page row found x same lb lp at e =
 pub goes_from : (a b c : Ram) → b ≡ a → Goes b c → Goes a c
 goes_from a b c same goes = (let P : Ram → Type 0 = λ r. Goes r c in subst P same goes)
 
-module _ (a b : Ram) (x x1 : Image) (row : ℕ) (found : Record) (body : List ℕ) (live : Option (ℕ × Record)) (s : IsRam a) (same : b ≡ a) (still : x1 ≡ x) (w : IsTrue None a x) (finds : FindsAiling a.blocks body x live) (is : live ≡ Some (row, found)) where
+module _ (a : Ram) (x : Image) (row : ℕ) (found : Record) (body : List ℕ) (live : Option (ℕ × Record)) (s : IsRam a) (w : IsTrue None a x) (finds : FindsAiling a.blocks body x live) (is : live ≡ Some (row, found)) where
   first_found : IsFirstAiling a.blocks row body found x
   first_found = (let P : Option (ℕ × Record) → Type 0 = λ o. FindsAiling a.blocks body x o in subst P is finds)
 
   of_bad : IsAiling a.blocks (row / a.geometry.pages)
   of_bad = (let P : Geometry → Type 0 = λ g. IsAiling a.blocks (row / g.pages) in subst P s.blocks_of first_found.ailing)
 
-  -- what is known of the copy, by what the look found
-  pub copied_as : (Q : Ram → Image → Type 0) → (IsTrue None b x1 → is_shut b.blocks (row / b.geometry.pages) ≡ true → IsLivePage row body found x1 → Q b x1) → Q a x
-  copied_as Q call =
-      let k : Q b x1 = call (rw (same, still) w) (rw same (bad_shut a.blocks (row / a.geometry.pages) of_bad.bad)) (let l = first_found.live in rw still l) in
-      let P : Ram → Type 0 = λ z. Q z x in
-      subst P same (subst (Q b) still k)
-
-  -- it is live after the look as before
-  pub ailing_known : IsTrue None b x1 × IsLivePage row body found x1
-  ailing_known = (rw (same, still) w, (let l = first_found.live in rw still l))
+  -- it is live
+  pub ailing_live : IsLivePage row body found x
+  ailing_live = first_found.live
 
   -- the one that was found has left its row, and the others are where they were
-  left_lowest : (c d : Ram) (y z : Image) → Goes a c → keys_of c.mapping.cached ≡ keys_of a.mapping.cached → IsMovedOut row a x c y → IsFollowedBy (key_of found) c y d z → LeavesLowest a x z
-  left_lowest c d y z goes keys m f =
-      let within : row / a.geometry.pages < a.geometry.blocks = (let P : Geometry → Type 0 = λ g. row / a.geometry.pages < g.blocks in subst P s.blocks_of of_bad.within) in
-      let left : IsLeftButLive a.blocks c.blocks (row / a.geometry.pages) = goes.shut (row / a.geometry.pages) within (bad_shut a.blocks (row / a.geometry.pages) of_bad.bad) in
-      let shut : is_shut c.blocks (row / c.geometry.pages) ≡ true = ap (λ (g : Geometry). is_shut c.blocks (row / g.pages)) goes.geometry ∙ bad_shut c.blocks (row / a.geometry.pages) (still_bad a.blocks c.blocks (row / a.geometry.pages) left of_bad.bad) in
+  pub rescued : (d : Ram) (z : Image) → IsRam d → d.geometry ≡ a.geometry → IsMovedPage (key_of found) row a x d z → IsRescued a x d z true
+  rescued d z sd after m =
+      let shut : is_shut a.blocks (row / a.geometry.pages) ≡ true = bad_shut a.blocks (row / a.geometry.pages) of_bad.bad in
       let L : Geometry → Type 0 = λ g. (i p : ℕ) → i < g.blocks → is_good_at a.blocks.table i ≡ false → p < g.pages → i * g.pages + p < row → NotAt (i * g.pages + p) x in
       record {
-        row = row;
-        key = key_of found;
-        ailing = of_bad;
-        newest = first_found.live.newest;
-        lowest = subst L s.blocks_of first_found.lowest;
-        gone = λ key q. elim (f.same.leaves.each key) [
-          | inl stayed ↦ m.gone key (sym stayed ∙ q)
-          | inr out ↦ (let no : true ≡ false = sym shut ∙ out row q in let never : ⊥ = cc in never)
-        ];
-        others = λ other ne far. (f.others other (λ follows. far (follows_by a c (key_of found) other goes.geometry keys follows))).row ∙ m.others other ne;
-      }
-
-  pub rescued : (c d : Ram) (y z : Image) → IsRam c → IsRam d → Goes a c → keys_of c.mapping.cached ≡ keys_of a.mapping.cached → d.geometry ≡ c.geometry → IsMovedOut row a x c y → (IsTrue None c y → IsFollowedBy (key_of found) c y d z) → IsRescued a x d z true
-  rescued c d y z sc sd goes keys after m follow =
-      let f : IsFollowedBy (key_of found) c y d z = follow m.same.truth in
-      let k : IsSame c y d z = f.same in
-      let all : IsSame a x d z = same_then a c d x y z goes after m.same k in
-      let within : row / a.geometry.pages < a.geometry.blocks = (let P : Geometry → Type 0 = λ g. row / a.geometry.pages < g.blocks in subst P s.blocks_of of_bad.within) in
-      let left : IsLeftButLive a.blocks c.blocks (row / a.geometry.pages) = goes.shut (row / a.geometry.pages) within (bad_shut a.blocks (row / a.geometry.pages) of_bad.bad) in
-      let less : live_at d.blocks (row / a.geometry.pages) ≤ live_at c.blocks (row / a.geometry.pages) = shut_fewer c d y z (row / a.geometry.pages)
-      sc sd after m.same.truth k.truth k.leaves (rw goes.geometry within)
-      (bad_shut c.blocks (row / a.geometry.pages) (still_bad a.blocks c.blocks (row / a.geometry.pages) left of_bad.bad)) in
-      record {
-        same = all;
-        lowest = λ t. left_lowest c d y z goes keys m f;
-        some = λ t. (row / a.geometry.pages, of_bad, omega (arith, m.fewer, less));
+        same = m.same;
+        lowest = λ t. record {
+          row = row;
+          key = key_of found;
+          ailing = of_bad;
+          newest = ailing_live.newest;
+          lowest = subst L s.blocks_of first_found.lowest;
+          gone = m.gone shut;
+          others = λ other ne far. (m.others other (λ e. ne (ap (newest_row x) e ∙ ailing_live.newest)) far).row;
+        };
+        some = λ t. (row / a.geometry.pages, of_bad, m.fewer shut);
         none = λ f. (let never : ⊥ = cc in absurd never);
-        bad = λ i lt bad. shut_fewer a d x z i s sd (after ∙ goes.geometry) w k.truth all.leaves lt (bad_shut a.blocks i bad);
+        bad = λ i lt bad. shut_fewer a d x z i s sd after w m.same.truth m.same.leaves lt (bad_shut a.blocks i bad);
       }
 
 pub none_rescued : (a b : Ram) (x x1 : Image) (body : List ℕ) (live : Option (ℕ × Record)) → b ≡ a → x1 ≡ x → IsTrue None a x → FindsAiling a.blocks body x live → live ≡ None → IsRescued a x b x1 false
@@ -197,15 +168,15 @@ none_rescued a b x x1 body live same still w finds is =
     } in
     rw (same, still) r
 
--- no sector more is moved, and the pin stays
-pub rescued_beside : (key key' : Key) (a b c d : Ram) → b ≡ a → Goes a d → ((at : ℕ) × SetsMapping key at b.mapping c.mapping)
-    → KeepsKeys b.mapping c.mapping → c.pin ≡ b.pin → key' ≡ key → IsFollowed key' c.mapping d.mapping → KeepsKeys c.mapping d.mapping
-    → d.pin ≡ c.pin → LeavesPin a d
-rescued_beside key key' a b c d same goes sets keeps pin is follows keeps' pin' =
-    let P : Ram → Type 0 = λ r. SetsMapping key sets.0 r.mapping c.mapping in
-    let Q : Ram → Type 0 = λ r. KeepsKeys r.mapping c.mapping in
-    let F : Key → Type 0 = λ k. IsFollowed k c.mapping d.mapping in
-    followed_beside key sets.0 a d c.mapping (pin' ∙ (pin ∙ ap (λ (r : Ram). r.pin) same)) goes (keys_then a.mapping c.mapping d.mapping (subst Q same keeps) keeps') (subst P same sets.1) (subst F is follows)
+-- what is told of the page that was found, whatever became of it
+pub rescue_found : {N : Type 0} {view : View N} (a b d : Engine N) (row : ℕ) (found : Record) (live : Option (ℕ × Record)) (result : Result (Unit {0}) EngineFault) → IsSafe view.flash a
+    → length a.mapping.moved < waiting (ram a) + a.geometry.pages → EngineLooks view a b (ok_as live)
+    → (view.honest a.nand ≡ true → IsTrue None (ram a) (image_in view.flash a) → FindsAiling (ram a).blocks b.page.body.items (image_in view.flash a) live)
+    → live ≡ Some (row, found) → MovesPage view found row b d result → MovesOne view IsRescued a d (moved_answer result)
+rescue_found a b d row found live result safe room p finds is m = moves_found IsRescued a b safe room live found row d result p
+    (λ honest w. ailing_live (ram a) _ row found _ live safe.memory w (finds honest w) is)
+    (λ honest w. rescued (ram a) _ row found _ live safe.memory w (finds honest w) is (ram d) _ m.moves.acts.safe.memory (m.moves.goes.geometry ∙ ap (λ r. r.geometry) p.memory))
+    m
 
 -- where its translation page was written, or no page was
 pub followed_none : (key : Key) (r : Ram) (x : Image) → ((other : Key) → ¬ FollowsCopy r key other) → IsTrue None r x → IsFollowedBy key r x r x
@@ -244,85 +215,6 @@ pub followed_result : (key : Key) (n e : ℕ) (a b : Ram) (x y : Image) (result 
     → MatchResult result (λ _. IsFollowedBy key a x b y) (Refused a x b y)
 followed_result key n e a b x y (Ok done) is none same k = followed_by key n a b x y is none (subst (λ s. IsWrittenBack (n / s) a x b y) same k)
 followed_result key n e a b x y (Err fault) is none same k = k
-
--- ---- what it costs
-
--- nothing was programmed so far
-none_programmed : (a : Ram) → IsRam a → HasProgrammed a a 0 0
-none_programmed a s = record { account = no_page a.geometry.pages (counts_of a.blocks) (fit a s); next = omega arith }
-
--- one page was
-pub one_programmed : (a b c : Ram) → IsRam a → b ≡ a → (cost : HasCopied false b c) → HasProgrammed a c (0 + data_of cost.stream) (0 + meta_of cost.stream)
-one_programmed a b c s same cost =
-    let one : HasPut cost.stream a c = (let P : Ram → Type 0 = λ z. HasPut cost.stream z c in subst P same cost.put) in
-    programmed_more cost.stream a a c 0 0 refl (none_programmed a s) one
-
--- nothing was written behind it, or a translation page
-behind_or : (key : Key) (c d : Ram) → PutsBehind key c d → (d ≡ c) ⊎ HasPut Meta c d
-behind_or (Sector n) c d (inl x) = inl x.1
-behind_or (Sector n) c d (inr x) = inr x.1
-behind_or (Translation t) c d x = inl x
-behind_or (Table u) c d x = inl x
-
-rescued_page : (key : Key) (a c d : Ram) → IsRam a → c.geometry ≡ a.geometry → HasCopied false a c → ((at : ℕ) × SetsMapping key at a.mapping c.mapping) → PutsBehind key c d → IsFollowed key c.mapping d.mapping → HasRescuedPage a d
-rescued_page key a c d s g cost sets behind mapping =
-    let copied : HasCopied false a c = record { stream = cost.stream; put = cost.put; key = key; row = sets.0; sets = sets.1; moved = cost.moved; due = cost.due } in
-    let p = one_programmed a a c s refl cost in
-    let P : Ram → Type 0 = λ z. HasProgrammed a z (0 + data_of cost.stream) (0 + meta_of cost.stream) in
-    elim (behind_or key c d behind) [
-      | inl stays ↦ record {
-        mid = c;
-        copied = copied;
-        behind = behind;
-        mapping = mapping;
-        data_pages = 0 + data_of cost.stream;
-        meta_pages = 0 + meta_of cost.stream;
-        some = omega (arith, one_of cost.stream);
-        few = omega (arith, one_of cost.stream);
-        programmed = subst P (sym stays) p;
-      }
-      | inr put ↦ record {
-        mid = c;
-        copied = copied;
-        behind = behind;
-        mapping = mapping;
-        data_pages = 0 + data_of cost.stream + data_of Meta;
-        meta_pages = 0 + meta_of cost.stream + meta_of Meta;
-        some = omega (arith, one_of cost.stream, one_of Meta);
-        few = omega (arith, one_of cost.stream, one_of Meta);
-        programmed = programmed_more Meta a c d (0 + data_of cost.stream) (0 + meta_of cost.stream) g p put;
-      }
-    ]
-
-pub rescued_cost : (key key' : Key) (a b c d : Ram) → IsRam a → b ≡ a → c.geometry ≡ b.geometry → HasCopied false b c
-    → ((at : ℕ) × SetsMapping key at b.mapping c.mapping) → key' ≡ key → FollowCosts key' c d (Ok tt) → IsFollowed key' c.mapping d.mapping
-    → RescueCosts a d (Ok true)
-rescued_cost key key' a b c d s same g cost sets is behind mapping =
-    let P : Ram → Type 0 = λ z. HasCopied false z c in
-    let Q : Ram → Type 0 = λ z. (at : ℕ) × SetsMapping key at z.mapping c.mapping in
-    let B : Key → Type 0 = λ k. PutsBehind k c d in
-    let F : Key → Type 0 = λ k. IsFollowed k c.mapping d.mapping in
-    rescued_page key a c d s (g ∙ ap (λ (z : Ram). z.geometry) same) (subst P same cost) (subst Q same sets) (subst B is behind) (subst F is mapping)
-
--- the copy was refused
-pub uncopied_cost : (a b c : Ram) (fault : EngineFault) → IsRam a → b ≡ a → FaultCosts b c fault → RescueCosts a c (Err fault)
-uncopied_cost a b c ReadOnly s same out = record { mid = a; data_pages = 0; meta_pages = 0; few = omega arith; programmed = none_programmed a s; out = (let P : Ram → Type 0 = λ z. StreamRunsOut z c in subst P same out) }
-uncopied_cost a b c SequenceSpent s same spent = record { mid = a; data_pages = 0; meta_pages = 0; few = omega arith; programmed = none_programmed a s; spent = (let P : Ram → Type 0 = λ z. StreamSpends z c in subst P same spent) }
-uncopied_cost a b c Damaged s same k = tt
-uncopied_cost a b c Bus s same k = tt
-
--- or the translation page
-pub unfollowed_cost : (a b c d : Ram) (fault : EngineFault) → IsRam a → b ≡ a → HasCopied false b c → FaultCosts c d fault → RescueCosts a d (Err fault)
-unfollowed_cost a b c d ReadOnly s same cost out = record { mid = c; data_pages = 0 + data_of cost.stream; meta_pages = 0 + meta_of cost.stream; few = omega (arith, one_of cost.stream); programmed = one_programmed a b c s same cost; out = out }
-unfollowed_cost a b c d SequenceSpent s same cost spent = record { mid = c; data_pages = 0 + data_of cost.stream; meta_pages = 0 + meta_of cost.stream; few = omega (arith, one_of cost.stream); programmed = one_programmed a b c s same cost; spent = spent }
-unfollowed_cost a b c d Damaged s same cost k = tt
-unfollowed_cost a b c d Bus s same cost k = tt
-
-pub unread_rescue : (a b : Ram) (fault : EngineFault) → IsReadFault fault → RescueCosts a b (Err fault)
-unread_rescue a b ReadOnly is = absurd is
-unread_rescue a b SequenceSpent is = absurd is
-unread_rescue a b Damaged is = tt
-unread_rescue a b Bus is = tt
 
 pub unread_refused : (a b : Ram) (x y : Image) (fault : EngineFault) → fault ≡ Bus → Refused a x b y fault
 unread_refused a b x y fault is = (let P : EngineFault → Type 0 = λ f. Refused a x b y f in subst P (sym is) tt)

@@ -31,8 +31,12 @@ bytes_formed n blocks u rows size counted = record {
 }
 
 -- the bytes that were written into a page buffer
-pub spelled_by : (lent items : List ℕ) (g : Geometry) (rows its : List TableRow) (u : ℕ) → lent ≡ items → length items ≡ g.data_bytes → rows ≡ its → table_bytes (length lent / 4) rows u ≡ table_bytes (entries g) its u
+spelled_by : (lent items : List ℕ) (g : Geometry) (rows its : List TableRow) (u : ℕ) → lent ≡ items → length items ≡ g.data_bytes → rows ≡ its → table_bytes (length lent / 4) rows u ≡ table_bytes (entries g) its u
 spelled_by lent items g rows its u same whole is = ap (λ n. table_bytes (n / 4) rows u) (ap length same ∙ whole) ∙ ap (λ x. table_bytes (entries g) x u) is
+
+pub spelled_on : (now written lent items : List ℕ) (g : Geometry) (rows its : List TableRow) (u : ℕ) → now ≡ written → written ≡ table_bytes (length lent / 4) rows u → lent ≡ items → length items ≡ g.data_bytes → rows ≡ its
+    → now ≡ table_bytes (entries g) its u
+spelled_on now written lent items g rows its u set is same whole of_rows = set ∙ (is ∙ spelled_by lent items g rows its u same whole of_rows)
 
 -- what a table page must be for it to be put
 pub may_table : (r : Ram) (image : Image) (u : ℕ) (old_row : Option ℕ) (body : List ℕ) → IsRam r → IsTrue None r image → body ≡ table_bytes (entries r.geometry) r.blocks.table u → old_row ≡ newest_row image (Table u) → MayPut kind.Table u old_row body r image

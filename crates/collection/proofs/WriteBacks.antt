@@ -10,7 +10,7 @@ use Rattle.page_layout.specs.declared.geometry.Geometry.{Geometry}
 use Rattle.page_layout.specs.declared.record.Kind.TheVariants as kind
 use Rattle.page_layout.specs.declared.record.Key.TheVariants.{Sector, Translation}
 use Rattle.page_layout.specs.Page.{Image, Page, body_at}
-use Rattle.page_layout.specs.Geometry.{entries}
+use Rattle.page_layout.specs.Geometry.{entries, translation_pages}
 use Rattle.page_layout.specs.Flash.{Flash}
 use Rattle.page_layout.specs.Recording.{Recording}
 use Rattle.page_layout.proofs.ArrayLemmas.{body_page}
@@ -28,12 +28,13 @@ use Rattle.collection.specs.Maps.{Maps}
 use Rattle.collection.specs.Looks.{IsLoaded, HoldsNewest, IsFilled, IsPadded, StartsFrom, IsBroughtUp, IsReadFault}
 use Rattle.collection.specs.Truth.{IsTrue}
 use Rattle.collection.specs.Safe.{IsOutside}
-use Rattle.collection.specs.Cost.{HasPut, HasRunOut, HasSpent, PutCosts, PageCosts, WriteBackCosts}
+use Rattle.collection.specs.Cost.{HasPut, HasRunOut, HasSpent, PageCosts, WriteBackCosts}
 use Rattle.collection.specs.Log.{Went}
 use Rattle.collection.specs.Settle.{Cleans}
-use Rattle.collection.specs.Results.{MayPut, IsReplaced, IsWrittenBack, Refused, Goes}
+use Rattle.collection.specs.Results.{MayPut, IsReplaced, IsWrittenBack, Refused}
 use Rattle.collection.proofs.MapLemmas.{entry_here, entry_none, none_not, maps_clean}
 use Rattle.collection.proofs.Logs.{went_same}
+use Rattle.collection.proofs.Looks.{directory_row}
 use Rattle.collection.proofs.Puts.{leaves_written, written_keeps}
 use Rattle.page_layout.proofs.VersionLemmas.{written_not_old}
 
@@ -135,11 +136,17 @@ loaded_costs a b c (Err SequenceSpent) same cost = (let P : Ram → Type 0 = λ 
 loaded_costs a b c (Err Damaged) same cost = absurd cost
 loaded_costs a b c (Err Bus) same cost = tt
 
-pub holds_loaded : (a b : Ram) (x y : Image) (t : ℕ) (row : Option ℕ) (body : List ℕ) → b ≡ a → y ≡ x → newest_row x (Translation t) ≡ row → IsLoaded t body a.geometry x → HoldsNewest t row body b.geometry y
+holds_loaded : (a b : Ram) (x y : Image) (t : ℕ) (row : Option ℕ) (body : List ℕ) → b ≡ a → y ≡ x → newest_row x (Translation t) ≡ row → IsLoaded t body a.geometry x → HoldsNewest t row body b.geometry y
 holds_loaded a b x y t row body same still newest_is loaded = rw (same, still) (record { newest = newest_is; loaded = loaded })
 
-pub true_loaded : (a b : Ram) (x y : Image) → b ≡ a → y ≡ x → IsTrue None a x → IsTrue None b y
+true_loaded : (a b : Ram) (x y : Image) → b ≡ a → y ≡ x → IsTrue None a x → IsTrue None b y
 true_loaded a b x y same still w = rw (same, still) w
+
+pub loaded_known : (a b : Ram) (x y : Image) (t : ℕ) (row : Option ℕ) (body : List ℕ) → b ≡ a → y ≡ x → IsTrue None a x → t < translation_pages a.geometry → slice_get a.directory t ≡ Some row
+    → (newest_row x (Translation t) ≡ row → IsLoaded t body a.geometry x) → IsTrue None b y × HoldsNewest t row body b.geometry y
+loaded_known a b x y t row body same still w within is loads =
+    let newest_is : newest_row x (Translation t) ≡ row = directory_row a.geometry x a.directory a.mapping t row w.maps within is in
+    (true_loaded a b x y same still w, holds_loaded a b x y t row body same still newest_is (loads newest_is))
 
 pub written_loaded : (a b c : Ram) (x y z : Image) (t : ℕ) (result : Result (Unit {0}) EngineFault) → b ≡ a → y ≡ x
     → MatchResult result (λ _. IsWrittenBack t b y c z) (Refused b y c z) → MatchResult result (λ _. IsWrittenBack t a x c z) (Refused a x c z)

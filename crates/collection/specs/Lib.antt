@@ -18,5 +18,6 @@ pub mod Renew
 pub mod Rescued
 pub mod Whole
 pub mod Left
+pub mod Moves
 pub mod Turns
 pub mod Room

@@ -1,11 +1,11 @@
 -- Blocks that are taken one after another.
-use Rattle.std.proofs.Common.{◌≡◌, ◌≢◌, ◌⊎◌, inl, inr, ◌<◌, ◌≤◌, ◌+◌, ◌/◌, ◌%◌, ℕ, Bool, true, false, List, length, get_or, refl, sym, ap, ◌∙◌, subst, arith}
+use Rattle.std.proofs.Common.{◌≡◌, inl, inr, ◌<◌, ◌≤◌, ◌+◌, ◌/◌, ◌%◌, ℕ, Bool, true, false, List, length, get_or, sym, ap, ◌∙◌, subst, arith}
 use Rattle.std.proofs.lemmas.Bool.{both_ways, cases_eq}
 use Rattle.page_layout.specs.declared.geometry.Geometry.{Geometry}
 use Rattle.page_layout.specs.Geometry.{row_count}
-use Rattle.file_die.specs.Store.{Held, AreImages, Syncs}
+use Rattle.file_die.specs.Store.{Held}
 use Rattle.crash_recovery.specs.Torn.{IsBehind}
-use Rattle.crash_recovery.specs.Taken.{HasTaken, IsInTail, IsOf, LeavesErased, Takes}
+use Rattle.crash_recovery.specs.Taken.{IsInTail, IsOf, LeavesErased, Takes}
 use Rattle.crash_recovery.proofs.CutLemmas.{block_of}
 use Rattle.crash_recovery.proofs.TakesLemmas.{erased_either, erased_stays, takes_more, takes_then}
 

@@ -1,5 +1,5 @@
 -- The rows that are cut, by what was found of each block.
-use Rattle.std.proofs.Common.{◌≡◌, ◌⊎◌, inl, inr, ◌<◌, ◌≤◌, ◌+◌, ◌/◌, ◌%◌, ℕ, Bool, true, false, List, length, get_or, Option, Some, None, IsSome, refl, sym, ap, ◌∙◌, subst, arith}
+use Rattle.std.proofs.Common.{◌≡◌, ◌⊎◌, inl, inr, ◌<◌, ◌≤◌, ◌/◌, ℕ, Bool, true, false, List, length, get_or, Option, Some, None, IsSome, refl, sym, ap, ◌∙◌, subst, arith}
 use Rattle.std.proofs.lemmas.Bool.{both_ways, cases_Bool, cases_lt, cases_order}
 use Rattle.std.proofs.lemmas.List.{get_or_past}
 use Rattle.std.proofs.lemmas.Nat.{div_below}
@@ -8,7 +8,7 @@ use Rattle.page_layout.specs.declared.record.Record.{Record}
 use Rattle.page_layout.specs.Geometry.{row_count}
 use Rattle.page_layout.specs.Page.{Image}
 use Rattle.page_layout.specs.Array.{marks}
-use Rattle.crash_recovery.specs.Torn.{FindsCut, FindsCuts, FindsDead, HasSoundRun, IsBehind, IsCut, IsCutFrom, IsDead, IsDeadRow, IsFirstUnsound, IsTorn, NoneIsMarked, row_in}
+use Rattle.crash_recovery.specs.Torn.{FindsCut, FindsCuts, FindsDead, HasSoundRun, IsBehind, IsCut, IsDead, IsDeadRow, IsFirstUnsound, IsTorn, NoneIsMarked, row_in}
 use Rattle.file_die.specs.Store.{Held, Syncs}
 use Rattle.crash_recovery.specs.Taken.{HasTaken, IsOf, LeavesErased, Recovers, RecoversSome, Takes, lasting}
 use Rattle.crash_recovery.proofs.Rows.{page_below}

@@ -1,4 +1,5 @@
 pub mod Rows
+mod Kept
 pub mod TakesLemmas
 mod CutLemmas
 mod LookLemmas

@@ -1,8 +1,7 @@
 -- What a look at a page says of a block.
-use Rattle.std.proofs.Common.{◌≡◌, ◌≢◌, ◌⊎◌, inl, inr, ◌<◌, ◌≤◌, ◌+◌, ◌-◌, ◌*◌, ◌/◌, ◌%◌, ℕ, Bool, true, false, not, List, length, get_or, slice_get, take, drop, Option, Some, None, IsSome, is_some, refl, sym, ap, ◌∙◌, subst, arith}
+use Rattle.std.proofs.Common.{◌≡◌, ◌≢◌, inl, inr, ◌<◌, ◌≤◌, ◌+◌, ◌*◌, ◌/◌, ◌%◌, ℕ, Bool, true, false, not, List, length, get_or, slice_get, take, Option, Some, None, IsSome, refl, sym, ap, ◌∙◌, subst, arith}
 use Rattle.std.specs.Prelude.{◌==◌, slice_set, is_ok, OnOk, OnErr, IfOk, Result, Ok, Err}
 use Rattle.std.proofs.lemmas.List.{get_or-set_same, get_or-set_other}
-use Rattle.std.specs.Int.{div_ceil}
 use Rattle.std.proofs.lemmas.Bool.{both_ways, cases_eq, eqb-true}
 use Rattle.std.proofs.lemmas.Grind.{div_ceil_times}
 use Rattle.std.proofs.lemmas.Nat.{div_below}
@@ -18,7 +17,6 @@ use Rattle.page_layout.specs.Newest.{newest}
 use Rattle.page_layout.specs.Live.{live}
 use Rattle.page_layout.specs.Array.{marks}
 use Rattle.page_layout.specs.Word.{word_at}
-use Rattle.page_layout.specs.Change.{IsUnsoundAt}
 use Rattle.page_layout.proofs.ArrayLemmas.{body_page}
 use Rattle.page_layout.proofs.GeometryLemmas.{row_within}
 use Rattle.page_layout.proofs.NewestLemmas.{newest-record}
@@ -29,7 +27,6 @@ use Rattle.file_die.specs.Store.{page_in}
 use Rattle.image_check.specs.Agrees.{Agrees}
 use Rattle.image_check.specs.Blocks.{body_in, class, table_body, table_class, word_of_block}
 use Rattle.crash_recovery.specs.Torn.{FindsCut, FindsCuts, FindsDead, HasSoundRun, IsDead, IsTorn, NoneIsMarked, NoneTorn, row_in}
-use Rattle.crash_recovery.proofs.CutLemmas.{has_it}
 use Rattle.crash_recovery.proofs.Rows.{mark_in, mark_within}
 
 -- ---- the table
@@ -108,6 +105,9 @@ whole_named g image block false is denied torn = absurd (cc)
 
 abbrev pub SoundBelow : Geometry → Image → (block below : ℕ) → Type 0
 SoundBelow g image block below = (k : ℕ) → k < below → IsSome (get_or (marks image) (row_in g block k) None)
+
+pub sound_start : (g : Geometry) (image : Image) (block : ℕ) → SoundBelow g image block 0
+sound_start g image block k less = absurd (omega (arith, less))
 
 mark_of : (g : Geometry) (image : Image) (block k row : ℕ) (its : Option Record) → length image ≡ row_count g → block < g.blocks → k < g.pages → row ≡ row_in g block k → its ≡ record_of (page_in image row)
     → get_or (marks image) (row_in g block k) None ≡ its
@@ -203,6 +203,9 @@ cuts_more g image mark k from cuts within before found = record {
 pub cuts_all : (g : Geometry) (image : Image) (mark n : ℕ) (cuts : List ℕ) → g.blocks ≤ n → FindsCuts g image mark n cuts → FindsCuts g image mark g.blocks cuts
 cuts_all g image mark n cuts most found = record { each = λ block below. found.each block (omega (arith, below, most)) }
 
+pub dead_start : (g : Geometry) (image : Image) (dead : List Bool) → FindsDead g image 0 dead
+dead_start g image dead = record { is = λ block below told. absurd (omega (arith, below)); not = λ block below told. absurd (omega (arith, below)) }
+
 pub dead_more : (g : Geometry) (image : Image) (k : ℕ) (is : Bool) (dead : List Bool) → k < length dead → FindsDead g image k dead → (is ≡ true → IsDead g image k) → (is ≡ false → ¬ IsDead g image k)
     → FindsDead g image (k + 1) (slice_set dead k is)
 dead_more g image k is dead within before told_so isnt = record {
@@ -215,6 +218,17 @@ dead_more g image k is dead within before told_so isnt = record {
     | inr apart ↦ before.not block (omega (arith, below, apart)) (sym (get_or-set_other dead k block is false apart) ∙ told)
   ];
 }
+
+-- by the pages that live in it, and whether it is torn
+pub dead_spared : (g : Geometry) (capacity : ℕ) (image : Image) (c : Claim) (k : ℕ) (s : BlockState) (dead : List Bool) → k < length dead → k < g.blocks → Agrees g capacity image c → slice_get c.blocks k ≡ Some s → s.live ≢ 0 → FindsDead g image k dead
+    → FindsDead g image (k + 1) (slice_set dead k false)
+dead_spared g capacity image c k s dead within inside agrees at some before =
+    dead_more g image k false dead within before (λ never. absurd (cc)) (λ e its. some (live_told g capacity image c k s agrees inside at ∙ its.none))
+
+pub dead_torn : (g : Geometry) (capacity : ℕ) (image : Image) (c : Claim) (k : ℕ) (s : BlockState) (torn : Bool) (dead : List Bool) → k < length dead → k < g.blocks → Agrees g capacity image c → slice_get c.blocks k ≡ Some s → s.live ≡ 0
+    → (torn ≡ true → IsTorn g image k) → (torn ≡ false → ¬ IsTorn g image k) → FindsDead g image k dead → FindsDead g image (k + 1) (slice_set dead k torn)
+dead_torn g capacity image c k s torn dead within inside agrees at none told_so isnt before = dead_more g image k torn dead within before
+    (λ e. record { torn = told_so e; none = sym (live_told g capacity image c k s agrees inside at) ∙ none }) (λ e its. isnt e its.torn)
 
 pub dead_all : (g : Geometry) (image : Image) (n : ℕ) (dead : List Bool) → g.blocks ≤ n → FindsDead g image n dead → FindsDead g image g.blocks dead
 dead_all g image n dead most found = record {

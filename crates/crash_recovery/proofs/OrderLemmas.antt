@@ -1,5 +1,5 @@
 -- What was cut was not stored, and shows no damage after.
-use Rattle.std.proofs.Common.{◌≡◌, ◌≢◌, ◌⊎◌, inl, inr, ◌<◌, ◌≤◌, ◌+◌, ◌*◌, ◌/◌, ◌%◌, ℕ, Bool, true, false, not, ◌&&◌, ◌||◌, if◌then◌else◌, List, length, get_or, slice_get, Option, Some, None, IsSome, is_some, refl, sym, ap, ◌∙◌, subst, arith}
+use Rattle.std.proofs.Common.{◌≡◌, ◌⊎◌, inl, inr, ◌<◌, ◌≤◌, ◌/◌, ◌%◌, ℕ, Bool, true, false, not, ◌&&◌, ◌||◌, if◌then◌else◌, List, length, get_or, slice_get, Option, Some, None, IsSome, is_some, refl, sym, ap, ◌∙◌, subst, arith}
 use Rattle.std.specs.Prelude.{◌==◌}
 use Rattle.std.specs.List.{list_any}
 use Rattle.std.proofs.lemmas.Bool.{cases_Bool, cases_lt, cases_order, both_ways}
@@ -9,7 +9,7 @@ use Rattle.std.proofs.lemmas.Option.{get_or_from_slice_get, slice_get-get_or, sl
 use Rattle.page_layout.specs.declared.geometry.Geometry.{Geometry}
 use Rattle.page_layout.specs.declared.record.Record.{Record}
 use Rattle.page_layout.specs.Geometry.{row_count}
-use Rattle.page_layout.specs.Page.{Image, Page, IsImage}
+use Rattle.page_layout.specs.Page.{Image, Page}
 use Rattle.page_layout.specs.Flash.{no_page}
 use Rattle.page_layout.specs.Sound.{record_of, is_erased_page}
 use Rattle.page_layout.specs.Block.{HasGap, block_pages, has_gap, is_broken}
@@ -23,11 +23,10 @@ use Rattle.nand_die.proofs.NextLemmas.{block_page, length-block_pages}
 use Rattle.nand_die.proofs.PagesLemmas.{block_within}
 use Rattle.file_die.specs.Store.{Held, AreImages, page_in}
 use Rattle.image_check.specs.Blocks.{class, is_factory, is_grown, table_class}
-use Rattle.image_laws.specs.Power.{LosesPower}
 use Rattle.image_laws.proofs.PowerLemmas.{both, stays, which}
 use Rattle.crash_recovery.specs.Torn.{IsCut, IsCutFrom, IsFirstUnsound, row_in}
-use Rattle.crash_recovery.specs.Taken.{HasTaken, Takes}
-use Rattle.crash_recovery.specs.Laws.{AgainLaw, CutLaw, GoodInOrderLaw, HealedLaw, IsInOrder, OrderLaw}
+use Rattle.crash_recovery.specs.Taken.{HasTaken}
+use Rattle.crash_recovery.specs.Laws.{AgainLaw, CutLaw, GoodInOrderLaw, HealedLaw, OrderLaw}
 use Rattle.crash_recovery.proofs.CutLemmas.{has_it, not_before}
 use Rattle.crash_recovery.proofs.TakesLemmas.{spared_same}
 use Rattle.crash_recovery.proofs.Rows.{mark_in, page_below, row_split, unsound_in}

@@ -28,6 +28,9 @@ takes_none taken s = record {
   whole = λ w. w;
 }
 
+pub takes_same : (taken : ℕ → Type 0) (s t : Held) → t ≡ s → Takes taken s t
+takes_same taken s t same = subst (Takes taken s) (sym same) (takes_none taken s)
+
 pub takes_more : (a b : ℕ → Type 0) (s t : Held) → ((row : ℕ) → a row → b row) → Takes a s t → Takes b s t
 takes_more a b s t more takes = record {
   geometry = takes.geometry;

@@ -1,9 +1,8 @@
 -- WHAT THE TAKING OF PAGES COMES TO, as far as it came: so also where it was stopped at any write.
-use Rattle.std.specs.Prelude.{◌≡◌, ◌≢◌, ◌<◌, ◌≤◌, ◌/◌, ◌%◌, ℕ, false, Some}
+use Rattle.std.specs.Prelude.{◌≡◌, ◌≢◌, ◌<◌, ◌≤◌, ℕ, false, Some}
 use Rattle.std.specs.List.{list_any}
 use Rattle.page_layout.specs.declared.geometry.Geometry.{Geometry}
 use Rattle.page_layout.specs.declared.record.Key.{Key}
-use Rattle.page_layout.specs.Geometry.{row_count}
 use Rattle.page_layout.specs.Page.{Image, IsImage}
 use Rattle.page_layout.specs.Block.{block_pages, has_gap, is_broken}
 use Rattle.page_layout.specs.Newest.{newest}

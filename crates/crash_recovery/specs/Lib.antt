@@ -4,3 +4,5 @@ pub mod Torn
 pub mod Taken
 -- what that comes to
 pub mod Laws
+-- what a call over a store wants, and what it leaves of it
+pub mod Asked

@@ -1,5 +1,5 @@
 //! Blocks are cut back: their last pages are made erased.
-ghost use Rattle.std.specs.Prelude.{◌≡◌, ◌<◌, ◌≤◌, ◌/◌, ◌%◌, ℕ, List, true, false, length, get_or, IfOk, IfErr, OnOk, OnErr, IsErrOf};
+ghost use Rattle.std.specs.Prelude.{◌≡◌, ◌<◌, ◌≤◌, ◌/◌, ◌%◌, ℕ, List, true, false, length, get_or, IfOk, IfErr, OnOk, IsErrOf, is_ok};
 ghost use Rattle.page_layout.specs.Counter.{HasRisen};
 ghost use Rattle.page_layout.specs.Geometry.{row_count, page_bytes};
 ghost use Rattle.page_layout.specs.Change.{erased_page};
@@ -7,6 +7,7 @@ ghost use Rattle.onfi_cycles.specs.Cycles.{page_of};
 ghost use Rattle.certificate.specs.Claim.{sizes_of};
 ghost use Rattle.file_die.specs.Store.{AreImages, page_in};
 ghost use Rattle.image_check.specs.Agrees.{Agrees, IsCertificateOf};
+ghost use Rattle.crash_recovery.specs.Asked.{IsClaimOf, KeepsAsked, TakesAway};
 ghost use Rattle.crash_recovery.specs.Torn.{IsBehind, IsCut};
 ghost use Rattle.crash_recovery.specs.Taken.{HasTaken, IsInTail, LeavesErased, Takes};
 
@@ -33,10 +34,7 @@ fn cut_block<S: Store>(
     requires images { S.honest store.old ≡ true → AreImages (S.held store.old) }
     ensures takes { S.honest store.old ≡ true → Takes (IsInTail geometry.now block from) (S.held store.old) (S.held store.new) }
     ensures erased { OnOk result (S.honest store.old ≡ true → LeavesErased (IsInTail geometry.now block from) (S.held store.new)) }
-    ensures geometry { (S.held store.new).geometry ≡ geometry.now }
-    ensures honest { S.honest store.new ≡ S.honest store.old }
-    ensures settled { OnOk result (S.failed store.new ≡ S.failed store.old) }
-    ensures rose { OnErr result (HasRisen (S.failed store.old) (S.failed store.new)) }
+    ensures keeps { KeepsAsked S.held S.honest S.failed store.old (is_ok result) store.new }
 {
     let mut next = geometry.pages();
     while next > from {
@@ -60,10 +58,7 @@ fn cut_blocks<S: Store>(
     requires images { S.honest store.old ≡ true → AreImages (S.held store.old) }
     ensures takes { S.honest store.old ≡ true → Takes (IsBehind geometry.now cuts.now) (S.held store.old) (S.held store.new) }
     ensures erased { OnOk result (S.honest store.old ≡ true → LeavesErased (IsBehind geometry.now cuts.now) (S.held store.new)) }
-    ensures geometry { (S.held store.new).geometry ≡ geometry.now }
-    ensures honest { S.honest store.new ≡ S.honest store.old }
-    ensures settled { OnOk result (S.failed store.new ≡ S.failed store.old) }
-    ensures rose { OnErr result (HasRisen (S.failed store.old) (S.failed store.new)) }
+    ensures keeps { KeepsAsked S.held S.honest S.failed store.old (is_ok result) store.new }
 {
     for block in 0..geometry.blocks() {
         cut_block(store, geometry, block, cuts[block as usize], erased)?;
@@ -92,23 +87,15 @@ fn cut_found<S: Store>(
     erased: &[u8],
     cuts: &mut [u32],
 ) -> Result<bool, StoreFault>
-    requires sizes { certificate.now.sizes ≡ sizes_of (S.held store.old).geometry }
-    requires whole { IsCertificateOf (S.held store.old).geometry certificate.now }
+    requires claim { IsClaimOf (S.held store.old).geometry certificate.now }
     requires room { length page.old ≡ page_bytes (S.held store.old).geometry }
     requires long { length erased.now ≡ page_bytes (S.held store.old).geometry }
     requires erased { page_of (S.held store.old).geometry erased.now ≡ erased_page (S.held store.old).geometry }
     requires blocks { length cuts.old ≡ (S.held store.old).geometry.blocks }
-    ensures takes { S.honest store.old ≡ true → (capacity : ℕ) → Agrees (S.held store.old).geometry capacity (S.held store.old).pages certificate.now →
-        Takes (IsCut (S.held store.old).geometry (S.held store.old).pages mark) (S.held store.old) (S.held store.new) }
-    ensures cut { IfOk result (λ cut. S.honest store.old ≡ true → (capacity : ℕ) → Agrees (S.held store.old).geometry capacity (S.held store.old).pages certificate.now →
-        cut ≡ true → HasTaken (IsCut (S.held store.old).geometry (S.held store.old).pages mark) (S.held store.old) (S.held store.new)) }
-    ensures uncut { IfOk result (λ cut. S.honest store.old ≡ true → cut ≡ false → S.held store.new ≡ S.held store.old) }
-    ensures none { IfOk result (λ cut. S.honest store.old ≡ true → (capacity : ℕ) → Agrees (S.held store.old).geometry capacity (S.held store.old).pages certificate.now →
-        cut ≡ false → (row : ℕ) → row < row_count (S.held store.old).geometry → ¬ IsCut (S.held store.old).geometry (S.held store.old).pages mark row) }
-    ensures geometry { (S.held store.new).geometry ≡ (S.held store.old).geometry }
-    ensures honest { S.honest store.new ≡ S.honest store.old }
-    ensures settled { OnOk result (S.failed store.new ≡ S.failed store.old) }
-    ensures rose { OnErr result (HasRisen (S.failed store.old) (S.failed store.new)) }
+    ensures away { S.honest store.old ≡ true → TakesAway certificate.now (Takes (IsCut (S.held store.old).geometry (S.held store.old).pages mark) (S.held store.old) (S.held store.new))
+        (HasTaken (IsCut (S.held store.old).geometry (S.held store.old).pages mark) (S.held store.old) (S.held store.new))
+        ((row : ℕ) → row < row_count (S.held store.old).geometry → ¬ IsCut (S.held store.old).geometry (S.held store.old).pages mark row) (S.held store.old) result (S.held store.new) }
+    ensures keeps { KeepsAsked S.held S.honest S.failed store.old (is_ok result) store.new }
 {
     let geometry = store.geometry();
     find_cuts(store, &geometry, certificate, mark, page, cuts)?;

@@ -1,11 +1,11 @@
 //! Blocks are erased again whose erase was cut short.
-ghost use Rattle.std.specs.Prelude.{◌≡◌, ◌⊎◌, ◌<◌, ◌/◌, ℕ, true, false, length, get_or, IfOk, OnOk, OnErr, IsErrOf};
+ghost use Rattle.std.specs.Prelude.{◌≡◌, ◌⊎◌, ◌<◌, ◌/◌, ℕ, true, false, length, get_or, IfOk, OnOk, IsErrOf, is_ok};
 ghost use Rattle.page_layout.specs.Counter.{HasRisen};
-ghost use Rattle.page_layout.specs.Geometry.{row_count, page_bytes};
+ghost use Rattle.page_layout.specs.Geometry.{page_bytes};
 ghost use Rattle.certificate.specs.Claim.{sizes_of};
 ghost use Rattle.file_die.specs.Store.{AreImages, Syncs};
-ghost use Rattle.file_die.specs.Open.{OnlyLooks};
 ghost use Rattle.image_check.specs.Agrees.{Agrees, IsCertificateOf};
+ghost use Rattle.crash_recovery.specs.Asked.{CanBeLookedAt, HasLooked, IsClaimOf, KeepsAsked, TakesAway};
 ghost use Rattle.crash_recovery.specs.Torn.{FindsDead, IsDead, IsDeadRow};
 ghost use Rattle.crash_recovery.specs.Taken.{HasTaken, IsOf, LeavesErased, Takes, lasting};
 
@@ -17,35 +17,7 @@ use nand_die::page_length;
 use page_layout::geometry::Geometry;
 use std::alloc::Global;
 
-// Whether a block is torn and has no live page.
-fn is_dead<S: Store>(
-    store: &mut S,
-    geometry: &Geometry,
-    certificate: &Certificate,
-    block: u32,
-    page: &mut [u8],
-) -> Result<bool, StoreFault>
-    requires geometry { (S.held store.old).geometry ≡ geometry.now }
-    requires sizes { certificate.now.sizes ≡ sizes_of geometry.now }
-    requires whole { IsCertificateOf geometry.now certificate.now }
-    requires images { S.honest store.old ≡ true → length (S.held store.old).pages ≡ row_count geometry.now }
-    requires in_range { block < geometry.now.blocks }
-    requires room { length page.old ≡ page_bytes geometry.now }
-    ensures is { IfOk result (λ is. S.honest store.old ≡ true → (capacity : ℕ) → Agrees geometry.now capacity (S.held store.old).pages certificate.now →
-        is ≡ true → IsDead geometry.now (S.held store.old).pages block) }
-    ensures not { IfOk result (λ is. S.honest store.old ≡ true → (capacity : ℕ) → Agrees geometry.now capacity (S.held store.old).pages certificate.now →
-        is ≡ false → ¬ IsDead geometry.now (S.held store.old).pages block) }
-    ensures looks { OnlyLooks S.held S.honest store.old store.new }
-    ensures settled { OnOk result (S.failed store.new ≡ S.failed store.old) }
-    ensures rose { OnErr result (HasRisen (S.failed store.old) (S.failed store.new)) }
-{
-    if certificate.block(block).live != 0 {
-        return Ok(false);
-    }
-    is_torn(store, geometry, certificate, block, page)
-}
-
-// Finds the blocks that are to be erased again.
+// Finds the blocks that are torn and have no live page.
 fn find_dead<S: Store>(
     store: &mut S,
     geometry: &Geometry,
@@ -53,20 +25,19 @@ fn find_dead<S: Store>(
     page: &mut [u8],
     dead: &mut [bool],
 ) -> Result<(), StoreFault>
-    requires geometry { (S.held store.old).geometry ≡ geometry.now }
-    requires sizes { certificate.now.sizes ≡ sizes_of geometry.now }
-    requires whole { IsCertificateOf geometry.now certificate.now }
-    requires images { S.honest store.old ≡ true → length (S.held store.old).pages ≡ row_count geometry.now }
-    requires room { length page.old ≡ page_bytes geometry.now }
+    requires look { CanBeLookedAt S.held S.honest geometry.now store.old page.old }
+    requires claim { IsClaimOf geometry.now certificate.now }
     requires blocks { length dead.old ≡ geometry.now.blocks }
     ensures finds { OnOk result (S.honest store.old ≡ true → (capacity : ℕ) → Agrees geometry.now capacity (S.held store.old).pages certificate.now →
         FindsDead geometry.now (S.held store.old).pages geometry.now.blocks dead.new) }
-    ensures looks { OnlyLooks S.held S.honest store.old store.new }
-    ensures settled { OnOk result (S.failed store.new ≡ S.failed store.old) }
-    ensures rose { OnErr result (HasRisen (S.failed store.old) (S.failed store.new)) }
+    ensures looks { HasLooked S.held S.honest S.failed store.old (is_ok result) store.new }
 {
     for block in 0..geometry.blocks() {
-        dead[block as usize] = is_dead(store, geometry, certificate, block, page)?;
+        if certificate.block(block).live != 0 {
+            dead[block as usize] = false;
+            continue;
+        }
+        dead[block as usize] = is_torn(store, geometry, certificate, block, page)?;
     }
     Ok(())
 }
@@ -78,10 +49,7 @@ fn clear_block<S: Store>(store: &mut S, geometry: &Geometry, block: u32) -> Resu
     requires images { S.honest store.old ≡ true → AreImages (S.held store.old) }
     ensures takes { S.honest store.old ≡ true → Takes (λ row. row / geometry.now.pages ≡ block) (S.held store.old) (S.held store.new) }
     ensures erased { OnOk result (S.honest store.old ≡ true → LeavesErased (λ row. row / geometry.now.pages ≡ block) (S.held store.new)) }
-    ensures geometry { (S.held store.new).geometry ≡ geometry.now }
-    ensures honest { S.honest store.new ≡ S.honest store.old }
-    ensures settled { OnOk result (S.failed store.new ≡ S.failed store.old) }
-    ensures rose { OnErr result (HasRisen (S.failed store.old) (S.failed store.new)) }
+    ensures keeps { KeepsAsked S.held S.honest S.failed store.old (is_ok result) store.new }
 {
     store.clear(block)
 }
@@ -97,10 +65,7 @@ fn clear_blocks<S: Store>(
     requires images { S.honest store.old ≡ true → AreImages (S.held store.old) }
     ensures takes { S.honest store.old ≡ true → Takes (IsOf geometry.now dead.now) (S.held store.old) (S.held store.new) }
     ensures erased { OnOk result (S.honest store.old ≡ true → LeavesErased (IsOf geometry.now dead.now) (S.held store.new)) }
-    ensures geometry { (S.held store.new).geometry ≡ geometry.now }
-    ensures honest { S.honest store.new ≡ S.honest store.old }
-    ensures settled { OnOk result (S.failed store.new ≡ S.failed store.old) }
-    ensures rose { OnErr result (HasRisen (S.failed store.old) (S.failed store.new)) }
+    ensures keeps { KeepsAsked S.held S.honest S.failed store.old (is_ok result) store.new }
 {
     for block in 0..geometry.blocks() {
         if dead[block as usize] {
@@ -129,22 +94,14 @@ fn erase_found<S: Store>(
     page: &mut [u8],
     dead: &mut [bool],
 ) -> Result<bool, StoreFault>
-    requires sizes { certificate.now.sizes ≡ sizes_of (S.held store.old).geometry }
-    requires whole { IsCertificateOf (S.held store.old).geometry certificate.now }
+    requires claim { IsClaimOf (S.held store.old).geometry certificate.now }
     requires room { length page.old ≡ page_bytes (S.held store.old).geometry }
     requires blocks { length dead.old ≡ (S.held store.old).geometry.blocks }
-    ensures takes { S.honest store.old ≡ true → (capacity : ℕ) → Agrees (S.held store.old).geometry capacity (S.held store.old).pages certificate.now →
-        (Syncs (S.held store.old) false (S.held store.new)) ⊎ ((S.held store.new ≡ S.held store.old)
-        ⊎ Takes (IsDeadRow (S.held store.old).geometry (S.held store.old).pages) (lasting (S.held store.old)) (S.held store.new)) }
-    ensures erased { IfOk result (λ erased. S.honest store.old ≡ true → (capacity : ℕ) → Agrees (S.held store.old).geometry capacity (S.held store.old).pages certificate.now →
-        erased ≡ true → HasTaken (IsDeadRow (S.held store.old).geometry (S.held store.old).pages) (lasting (S.held store.old)) (S.held store.new)) }
-    ensures untouched { IfOk result (λ erased. S.honest store.old ≡ true → erased ≡ false → S.held store.new ≡ S.held store.old) }
-    ensures none { IfOk result (λ erased. S.honest store.old ≡ true → (capacity : ℕ) → Agrees (S.held store.old).geometry capacity (S.held store.old).pages certificate.now →
-        erased ≡ false → (block : ℕ) → block < (S.held store.old).geometry.blocks → ¬ IsDead (S.held store.old).geometry (S.held store.old).pages block) }
-    ensures geometry { (S.held store.new).geometry ≡ (S.held store.old).geometry }
-    ensures honest { S.honest store.new ≡ S.honest store.old }
-    ensures settled { OnOk result (S.failed store.new ≡ S.failed store.old) }
-    ensures rose { OnErr result (HasRisen (S.failed store.old) (S.failed store.new)) }
+    ensures away { S.honest store.old ≡ true → TakesAway certificate.now ((Syncs (S.held store.old) false (S.held store.new)) ⊎ ((S.held store.new ≡ S.held store.old)
+        ⊎ Takes (IsDeadRow (S.held store.old).geometry (S.held store.old).pages) (lasting (S.held store.old)) (S.held store.new)))
+        (HasTaken (IsDeadRow (S.held store.old).geometry (S.held store.old).pages) (lasting (S.held store.old)) (S.held store.new))
+        ((block : ℕ) → block < (S.held store.old).geometry.blocks → ¬ IsDead (S.held store.old).geometry (S.held store.old).pages block) (S.held store.old) result (S.held store.new) }
+    ensures keeps { KeepsAsked S.held S.honest S.failed store.old (is_ok result) store.new }
 {
     let geometry = store.geometry();
     find_dead(store, &geometry, certificate, page, dead)?;
@@ -180,11 +137,11 @@ pub fn erase_dead<S: Store>(
     ensures untouched { IfOk result (λ erased. S.honest store.old ≡ true → erased ≡ false → S.held store.new ≡ S.held store.old) }
     ensures none { IfOk result (λ erased. S.honest store.old ≡ true → (capacity : ℕ) → Agrees (S.held store.old).geometry capacity (S.held store.old).pages certificate.now →
         erased ≡ false → (block : ℕ) → block < (S.held store.old).geometry.blocks → ¬ IsDead (S.held store.old).geometry (S.held store.old).pages block) }
+    ensures unasked { IsErrOf result RecoveryFault.OutOfMemory → store.new ≡ store.old }
     ensures geometry { (S.held store.new).geometry ≡ (S.held store.old).geometry }
     ensures honest { S.honest store.new ≡ S.honest store.old }
     ensures settled { OnOk result (S.failed store.new ≡ S.failed store.old) }
     ensures rose { IsErrOf result RecoveryFault.Store → HasRisen (S.failed store.old) (S.failed store.new) }
-    ensures unasked { IsErrOf result RecoveryFault.OutOfMemory → store.new ≡ store.old }
 {
     let geometry = store.geometry();
     let mut page = vec![in alloc; 0xFFu8; page_length(&geometry)]?;

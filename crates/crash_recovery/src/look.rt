@@ -1,14 +1,15 @@
 //! What the pages of a store show of the blocks that a crash left torn.
-ghost use Rattle.std.specs.Prelude.{◌≡◌, ◌<◌, ◌≤◌, ◌*◌, ◌%◌, ◌==◌, ℕ, true, false, length, IfOk, IfSome, OnOk, OnErr};
-ghost use Rattle.page_layout.specs.Counter.{HasRisen};
-ghost use Rattle.page_layout.specs.Geometry.{entries, row_count, page_bytes};
+ghost use Rattle.std.specs.Prelude.{◌≡◌, ◌<◌, ◌≤◌, ◌*◌, ◌/◌, ◌%◌, ◌==◌, ℕ, Some, true, false, length, is_ok, IfOk, IfSome, OnOk};
+ghost use Rattle.page_layout.specs.declared.record.Key.TheVariants.{Table};
+ghost use Rattle.page_layout.specs.Geometry.{entries, row_count};
 ghost use Rattle.page_layout.specs.Word.{word_at};
 ghost use Rattle.page_layout.specs.Sound.{record_of};
-ghost use Rattle.certificate.specs.Claim.{sizes_of};
+ghost use Rattle.page_layout.specs.Array.{marks};
+ghost use Rattle.page_layout.specs.Newest.{newest};
 ghost use Rattle.file_die.specs.Store.{page_in};
-ghost use Rattle.file_die.specs.Open.{OnlyLooks};
-ghost use Rattle.image_check.specs.Agrees.{Agrees, IsCertificateOf};
+ghost use Rattle.image_check.specs.Agrees.{Agrees};
 ghost use Rattle.image_check.specs.Blocks.{table_class};
+ghost use Rattle.crash_recovery.specs.Asked.{CanBeLookedAt, HasLooked, IsClaimOf};
 ghost use Rattle.crash_recovery.specs.Torn.{FindsCut, FindsCuts, HasSoundRun, IsTableRow, IsTorn, NoneIsMarked};
 
 use certificate::Certificate;
@@ -30,13 +31,10 @@ fn record_at<S: Store>(
     row: u32,
     page: &mut [u8],
 ) -> Result<Option<Record>, StoreFault>
-    requires geometry { (S.held store.old).geometry ≡ geometry.now }
+    requires look { CanBeLookedAt S.held S.honest geometry.now store.old page.old }
     requires in_range { row < row_count geometry.now }
-    requires room { length page.old ≡ page_bytes geometry.now }
     ensures found { IfOk result (λ its. S.honest store.old ≡ true → its ≡ record_of (page_in (S.held store.old).pages row)) }
-    ensures looks { OnlyLooks S.held S.honest store.old store.new }
-    ensures settled { OnOk result (S.failed store.new ≡ S.failed store.old) }
-    ensures rose { OnErr result (HasRisen (S.failed store.old) (S.failed store.new)) }
+    ensures looks { HasLooked S.held S.honest S.failed store.old (is_ok result) store.new }
 {
     store.load(row, page)?;
     let (body, spare) = page.split_at(geometry.data_bytes());
@@ -45,8 +43,7 @@ fn record_at<S: Store>(
 
 // The row of the newest table page that tells the class of a block, where the certificate knows one.
 pub(crate) fn table_row(geometry: &Geometry, certificate: &Certificate, block: u32) -> Option<u32>
-    requires sizes { certificate.now.sizes ≡ sizes_of geometry.now }
-    requires whole { IsCertificateOf geometry.now certificate.now }
+    requires claim { IsClaimOf geometry.now certificate.now }
     requires in_range { block < geometry.now.blocks }
     ensures row { IfSome result (λ row. row < row_count geometry.now) }
     ensures is { IsTableRow geometry.now certificate.now block result }
@@ -63,35 +60,26 @@ pub(crate) fn names_grown(geometry: &Geometry, body: &[u8], block: u32) -> bool
     read_word(body, block % geometry.entries()) % 256 == NAMED_GROWN
 }
 
-// Whether the newest table of blocks names a block as one that has grown bad. It does where the certificate knows no such table page.
+// Whether the table page at a row names a block as one that has grown bad.
 fn is_named<S: Store>(
     store: &mut S,
     geometry: &Geometry,
-    certificate: &Certificate,
+    row: u32,
     block: u32,
     page: &mut [u8],
 ) -> Result<bool, StoreFault>
-    requires geometry { (S.held store.old).geometry ≡ geometry.now }
-    requires sizes { certificate.now.sizes ≡ sizes_of geometry.now }
-    requires whole { IsCertificateOf geometry.now certificate.now }
-    requires images { S.honest store.old ≡ true → length (S.held store.old).pages ≡ row_count geometry.now }
-    requires in_range { block < geometry.now.blocks }
-    requires room { length page.old ≡ page_bytes geometry.now }
-    ensures named { IfOk result (λ named. S.honest store.old ≡ true → (capacity : ℕ) → Agrees geometry.now capacity (S.held store.old).pages certificate.now →
+    requires look { CanBeLookedAt S.held S.honest geometry.now store.old page.old }
+    requires in_range { row < row_count geometry.now }
+    ensures named { IfOk result (λ named. S.honest store.old ≡ true → newest (marks (S.held store.old).pages) (Table (block / entries geometry.now)) ≡ Some row →
         named ≡ (table_class geometry.now (S.held store.old).pages block == 2)) }
-    ensures looks { OnlyLooks S.held S.honest store.old store.new }
-    ensures settled { OnOk result (S.failed store.new ≡ S.failed store.old) }
-    ensures rose { OnErr result (HasRisen (S.failed store.old) (S.failed store.new)) }
+    ensures looks { HasLooked S.held S.honest S.failed store.old (is_ok result) store.new }
 {
-    let Some(row) = table_row(geometry, certificate, block) else {
-        return Ok(true);
-    };
     store.load(row, page)?;
     let (body, _) = page.split_at(geometry.data_bytes());
     Ok(names_grown(geometry, body, block))
 }
 
-/// Whether a block is torn.
+/// Whether a block is torn. None is where the certificate knows no table page of it.
 pub fn is_torn<S: Store>(
     store: &mut S,
     geometry: &Geometry,
@@ -99,24 +87,22 @@ pub fn is_torn<S: Store>(
     block: u32,
     page: &mut [u8],
 ) -> Result<bool, StoreFault>
-    requires geometry { (S.held store.old).geometry ≡ geometry.now }
-    requires sizes { certificate.now.sizes ≡ sizes_of geometry.now }
-    requires whole { IsCertificateOf geometry.now certificate.now }
-    requires images { S.honest store.old ≡ true → length (S.held store.old).pages ≡ row_count geometry.now }
+    requires look { CanBeLookedAt S.held S.honest geometry.now store.old page.old }
+    requires claim { IsClaimOf geometry.now certificate.now }
     requires in_range { block < geometry.now.blocks }
-    requires room { length page.old ≡ page_bytes geometry.now }
     ensures torn { IfOk result (λ torn. S.honest store.old ≡ true → (capacity : ℕ) → Agrees geometry.now capacity (S.held store.old).pages certificate.now →
         torn ≡ true → IsTorn geometry.now (S.held store.old).pages block) }
     ensures fine { IfOk result (λ torn. S.honest store.old ≡ true → (capacity : ℕ) → Agrees geometry.now capacity (S.held store.old).pages certificate.now →
         torn ≡ false → ¬ IsTorn geometry.now (S.held store.old).pages block) }
-    ensures looks { OnlyLooks S.held S.honest store.old store.new }
-    ensures settled { OnOk result (S.failed store.new ≡ S.failed store.old) }
-    ensures rose { OnErr result (HasRisen (S.failed store.old) (S.failed store.new)) }
+    ensures looks { HasLooked S.held S.honest S.failed store.old (is_ok result) store.new }
 {
     if certificate.block(block).class != SHOWN_BAD {
         return Ok(false);
     }
-    Ok(!is_named(store, geometry, certificate, block, page)?)
+    let Some(row) = table_row(geometry, certificate, block) else {
+        return Ok(false);
+    };
+    Ok(!is_named(store, geometry, row, block, page)?)
 }
 
 // How many pages of a block are sound at its start.
@@ -126,15 +112,11 @@ fn sound_run<S: Store>(
     block: u32,
     page: &mut [u8],
 ) -> Result<u32, StoreFault>
-    requires geometry { (S.held store.old).geometry ≡ geometry.now }
-    requires images { S.honest store.old ≡ true → length (S.held store.old).pages ≡ row_count geometry.now }
+    requires look { CanBeLookedAt S.held S.honest geometry.now store.old page.old }
     requires in_range { block < geometry.now.blocks }
-    requires room { length page.old ≡ page_bytes geometry.now }
     ensures most { IfOk result (λ count. count ≤ geometry.now.pages) }
     ensures run { IfOk result (λ count. S.honest store.old ≡ true → HasSoundRun geometry.now (S.held store.old).pages block count) }
-    ensures looks { OnlyLooks S.held S.honest store.old store.new }
-    ensures settled { OnOk result (S.failed store.new ≡ S.failed store.old) }
-    ensures rose { OnErr result (HasRisen (S.failed store.old) (S.failed store.new)) }
+    ensures looks { HasLooked S.held S.honest S.failed store.old (is_ok result) store.new }
 {
     for k in 0..geometry.pages() {
         let Some(_) = record_at(store, geometry, geometry.row(block, k), page)? else {
@@ -153,15 +135,11 @@ fn none_is_marked<S: Store>(
     from: u32,
     page: &mut [u8],
 ) -> Result<bool, StoreFault>
-    requires geometry { (S.held store.old).geometry ≡ geometry.now }
-    requires images { S.honest store.old ≡ true → length (S.held store.old).pages ≡ row_count geometry.now }
+    requires look { CanBeLookedAt S.held S.honest geometry.now store.old page.old }
     requires in_range { block < geometry.now.blocks }
-    requires room { length page.old ≡ page_bytes geometry.now }
     ensures none { IfOk result (λ none. S.honest store.old ≡ true → none ≡ true → NoneIsMarked geometry.now (S.held store.old).pages mark block from) }
     ensures some { IfOk result (λ none. S.honest store.old ≡ true → none ≡ false → ¬ NoneIsMarked geometry.now (S.held store.old).pages mark block from) }
-    ensures looks { OnlyLooks S.held S.honest store.old store.new }
-    ensures settled { OnOk result (S.failed store.new ≡ S.failed store.old) }
-    ensures rose { OnErr result (HasRisen (S.failed store.old) (S.failed store.new)) }
+    ensures looks { HasLooked S.held S.honest S.failed store.old (is_ok result) store.new }
 {
     for k in from..geometry.pages() {
         if let Some(found) = record_at(store, geometry, geometry.row(block, k), page)? {
@@ -181,16 +159,12 @@ fn cut_of_torn<S: Store>(
     block: u32,
     page: &mut [u8],
 ) -> Result<u32, StoreFault>
-    requires geometry { (S.held store.old).geometry ≡ geometry.now }
-    requires images { S.honest store.old ≡ true → length (S.held store.old).pages ≡ row_count geometry.now }
+    requires look { CanBeLookedAt S.held S.honest geometry.now store.old page.old }
     requires in_range { block < geometry.now.blocks }
-    requires room { length page.old ≡ page_bytes geometry.now }
     ensures most { IfOk result (λ from. from ≤ geometry.now.pages) }
     ensures finds { IfOk result (λ from. S.honest store.old ≡ true → IsTorn geometry.now (S.held store.old).pages block →
         FindsCut geometry.now (S.held store.old).pages mark block from) }
-    ensures looks { OnlyLooks S.held S.honest store.old store.new }
-    ensures settled { OnOk result (S.failed store.new ≡ S.failed store.old) }
-    ensures rose { OnErr result (HasRisen (S.failed store.old) (S.failed store.new)) }
+    ensures looks { HasLooked S.held S.honest S.failed store.old (is_ok result) store.new }
 {
     let from = sound_run(store, geometry, block, page)?;
     if !none_is_marked(store, geometry, mark, block, from, page)? {
@@ -208,18 +182,13 @@ fn cut_of<S: Store>(
     block: u32,
     page: &mut [u8],
 ) -> Result<u32, StoreFault>
-    requires geometry { (S.held store.old).geometry ≡ geometry.now }
-    requires sizes { certificate.now.sizes ≡ sizes_of geometry.now }
-    requires whole { IsCertificateOf geometry.now certificate.now }
-    requires images { S.honest store.old ≡ true → length (S.held store.old).pages ≡ row_count geometry.now }
+    requires look { CanBeLookedAt S.held S.honest geometry.now store.old page.old }
+    requires claim { IsClaimOf geometry.now certificate.now }
     requires in_range { block < geometry.now.blocks }
-    requires room { length page.old ≡ page_bytes geometry.now }
     ensures most { IfOk result (λ from. from ≤ geometry.now.pages) }
     ensures finds { IfOk result (λ from. S.honest store.old ≡ true → (capacity : ℕ) → Agrees geometry.now capacity (S.held store.old).pages certificate.now →
         FindsCut geometry.now (S.held store.old).pages mark block from) }
-    ensures looks { OnlyLooks S.held S.honest store.old store.new }
-    ensures settled { OnOk result (S.failed store.new ≡ S.failed store.old) }
-    ensures rose { OnErr result (HasRisen (S.failed store.old) (S.failed store.new)) }
+    ensures looks { HasLooked S.held S.honest S.failed store.old (is_ok result) store.new }
 {
     if !is_torn(store, geometry, certificate, block, page)? {
         return Ok(geometry.pages());
@@ -240,17 +209,12 @@ pub fn find_cuts<S: Store>(
     page: &mut [u8],
     cuts: &mut [u32],
 ) -> Result<(), StoreFault>
-    requires geometry { (S.held store.old).geometry ≡ geometry.now }
-    requires sizes { certificate.now.sizes ≡ sizes_of geometry.now }
-    requires whole { IsCertificateOf geometry.now certificate.now }
-    requires images { S.honest store.old ≡ true → length (S.held store.old).pages ≡ row_count geometry.now }
-    requires room { length page.old ≡ page_bytes geometry.now }
+    requires look { CanBeLookedAt S.held S.honest geometry.now store.old page.old }
+    requires claim { IsClaimOf geometry.now certificate.now }
     requires blocks { length cuts.old ≡ geometry.now.blocks }
     ensures finds { OnOk result (S.honest store.old ≡ true → (capacity : ℕ) → Agrees geometry.now capacity (S.held store.old).pages certificate.now →
         FindsCuts geometry.now (S.held store.old).pages mark geometry.now.blocks cuts.new) }
-    ensures looks { OnlyLooks S.held S.honest store.old store.new }
-    ensures settled { OnOk result (S.failed store.new ≡ S.failed store.old) }
-    ensures rose { OnErr result (HasRisen (S.failed store.old) (S.failed store.new)) }
+    ensures looks { HasLooked S.held S.honest S.failed store.old (is_ok result) store.new }
 {
     for block in 0..geometry.blocks() {
         cuts[block as usize] = cut_of(store, geometry, certificate, mark, block, page)?;

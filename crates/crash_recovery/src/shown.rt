@@ -1,9 +1,13 @@
 //! Whether a die that was mounted shows a torn block.
-ghost use Rattle.std.specs.Prelude.{◌≡◌, ◌<◌, ◌==◌, ℕ, true, false, length, IfOk, OnOk};
+ghost use Rattle.std.specs.Prelude.{◌≡◌, ◌<◌, ◌/◌, ◌==◌, ℕ, Some, true, false, IfOk, OnOk};
+ghost use Rattle.page_layout.specs.declared.record.Key.TheVariants.{Table};
+ghost use Rattle.page_layout.specs.Geometry.{entries, row_count};
+ghost use Rattle.page_layout.specs.Array.{marks};
+ghost use Rattle.page_layout.specs.Newest.{newest};
 ghost use Rattle.page_layout.specs.OnlyReads.{OnlyReads};
-ghost use Rattle.certificate.specs.Claim.{sizes_of};
-ghost use Rattle.image_check.specs.Agrees.{Agrees, IsCertificateOf};
+ghost use Rattle.image_check.specs.Agrees.{Agrees};
 ghost use Rattle.image_check.specs.Blocks.{table_class};
+ghost use Rattle.crash_recovery.specs.Asked.{CanBeRead, IsClaimOf};
 ghost use Rattle.crash_recovery.specs.Torn.{IsTorn, NoneTorn};
 
 use crate::fault::RecoveryFault;
@@ -14,29 +18,22 @@ use page_layout::geometry::Geometry;
 use page_layout::source::{PageSource, SourceFault};
 use std::alloc::Global;
 
-// Whether the newest table of blocks names a block as one that has grown bad. It does where the certificate knows no such table page.
+// Whether the table page at a row names a block as one that has grown bad.
 fn is_told_bad<N: PageSource>(
     source: &mut N,
     geometry: &Geometry,
-    certificate: &Certificate,
+    row: u32,
     block: u32,
     body: &mut [u8],
     spare: &mut [u8],
 ) -> Result<bool, SourceFault>
-    requires geometry { (N.view.flash source.old).geometry ≡ geometry.now }
-    requires whole { IsCertificateOf geometry.now certificate.now }
-    requires sizes { certificate.now.sizes ≡ sizes_of geometry.now }
-    requires in_range { block < geometry.now.blocks }
-    requires body { length body.old ≡ geometry.now.data_bytes }
-    requires spare { length spare.old ≡ geometry.now.spare_bytes }
-    ensures named { IfOk result (λ named. N.view.honest source.old ≡ true → (capacity : ℕ) → Agrees geometry.now capacity (N.view.flash source.old).image certificate.now →
+    requires reads { CanBeRead N.view geometry.now source.old body.old spare.old }
+    requires in_range { row < row_count geometry.now }
+    ensures named { IfOk result (λ named. N.view.honest source.old ≡ true → newest (marks (N.view.flash source.old).image) (Table (block / entries geometry.now)) ≡ Some row →
         named ≡ (table_class geometry.now (N.view.flash source.old).image block == 2)) }
     ensures same { OnOk result (N.view.honest source.old ≡ true → N.view.flash source.new ≡ N.view.flash source.old) }
     ensures only_reads { OnlyReads N.view source.old source.new }
 {
-    let Some(row) = table_row(geometry, certificate, block) else {
-        return Ok(true);
-    };
     source.read_page(row, body, spare)?;
     Ok(names_grown(geometry, body, block))
 }
@@ -50,12 +47,9 @@ fn shows_it<N: PageSource>(
     body: &mut [u8],
     spare: &mut [u8],
 ) -> Result<bool, SourceFault>
-    requires geometry { (N.view.flash source.old).geometry ≡ geometry.now }
-    requires whole { IsCertificateOf geometry.now certificate.now }
-    requires sizes { certificate.now.sizes ≡ sizes_of geometry.now }
+    requires reads { CanBeRead N.view geometry.now source.old body.old spare.old }
+    requires claim { IsClaimOf geometry.now certificate.now }
     requires in_range { block < geometry.now.blocks }
-    requires body { length body.old ≡ geometry.now.data_bytes }
-    requires spare { length spare.old ≡ geometry.now.spare_bytes }
     ensures torn { IfOk result (λ torn. N.view.honest source.old ≡ true → (capacity : ℕ) → Agrees geometry.now capacity (N.view.flash source.old).image certificate.now →
         torn ≡ true → IsTorn geometry.now (N.view.flash source.old).image block) }
     ensures fine { IfOk result (λ torn. N.view.honest source.old ≡ true → (capacity : ℕ) → Agrees geometry.now capacity (N.view.flash source.old).image certificate.now →
@@ -66,7 +60,10 @@ fn shows_it<N: PageSource>(
     if certificate.block(block).class != SHOWN_BAD {
         return Ok(false);
     }
-    Ok(!is_told_bad(source, geometry, certificate, block, body, spare)?)
+    let Some(row) = table_row(geometry, certificate, block) else {
+        return Ok(false);
+    };
+    Ok(!is_told_bad(source, geometry, row, block, body, spare)?)
 }
 
 // Whether any block is torn.
@@ -77,11 +74,8 @@ fn shows_any<N: PageSource>(
     body: &mut [u8],
     spare: &mut [u8],
 ) -> Result<bool, SourceFault>
-    requires geometry { (N.view.flash source.old).geometry ≡ geometry.now }
-    requires whole { IsCertificateOf geometry.now certificate.now }
-    requires sizes { certificate.now.sizes ≡ sizes_of geometry.now }
-    requires body { length body.old ≡ geometry.now.data_bytes }
-    requires spare { length spare.old ≡ geometry.now.spare_bytes }
+    requires reads { CanBeRead N.view geometry.now source.old body.old spare.old }
+    requires claim { IsClaimOf geometry.now certificate.now }
     ensures none { IfOk result (λ torn. N.view.honest source.old ≡ true → (capacity : ℕ) → Agrees geometry.now capacity (N.view.flash source.old).image certificate.now →
         torn ≡ false → NoneTorn geometry.now (N.view.flash source.old).image geometry.now.blocks) }
     ensures same { OnOk result (N.view.honest source.old ≡ true → N.view.flash source.new ≡ N.view.flash source.old) }

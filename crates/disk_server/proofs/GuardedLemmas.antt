@@ -1,8 +1,8 @@
 -- The bytes that a device shows of which some sectors are lost.
-use Rattle.std.proofs.Common.{◌≡◌, ◌≢◌, ◌+◌, ◌-◌, ◌*◌, ◌/◌, ◌<◌, ◌≤◌, inl, inr, zero, suc, ℕ, Bool, true, false, List, [], ◌∷◌, length, get_or, take, drop, set, Result, Ok, Err, refl, sym, ap, ◌∙◌, subst, arith, add-zero, zero-add, length-drop}
+use Rattle.std.proofs.Common.{◌≡◌, ◌≢◌, ◌+◌, ◌-◌, ◌*◌, ◌/◌, ◌<◌, ◌≤◌, inl, inr, zero, suc, ℕ, Bool, true, false, List, [], ◌∷◌, length, replicate, get_or, take, drop, set, Result, Ok, Err, refl, sym, ap, ◌∙◌, subst, arith, add-zero, zero-add, length-drop}
 use Rattle.std.specs.Prelude.{slice_index, slice_range, slice_set, IfErr, IfOk, OnOk, OnErr, if◌then◌else◌}
 use Rattle.std.proofs.lemmas.Bool.{cases_lt}
-use Rattle.std.proofs.lemmas.List.{ext_get_or, get_or_past, get_or-drop, get_or-set_same, get_or-set_other, get_or-take, length-take-le}
+use Rattle.std.proofs.lemmas.List.{ext_get_or, get_or_past, get_or-drop, get_or-set_same, get_or-set_other, get_or-take, length-replicate, length-take-le}
 use Rattle.std.proofs.lemmas.Nat.{div-mul-add}
 use Rattle.std.proofs.Math.Nat.{div-mul-le_self, lt-div-mul-add}
 use Rattle.nbd_stream.specs.declared.fault.DiskFault.{DiskFault}
@@ -10,7 +10,7 @@ use Rattle.nbd_stream.specs.declared.fault.DiskFault.TheVariants as fault
 use Rattle.nbd_stream.specs.declared.reply.RequestError.{RequestError}
 use Rattle.nbd_stream.specs.declared.reply.RequestError.TheVariants.{InputOutput}
 use Rattle.nbd_stream.specs.declared.task.Task.{Task}
-use Rattle.nbd_stream.specs.declared.task.Task.TheVariants.{Flush, Read}
+use Rattle.nbd_stream.specs.declared.task.Task.TheVariants.{Flush, Read, Trim}
 use Rattle.nbd_stream.specs.Disk.{Contents, Idles, IsEither, MayAnswer, PerformsTask, answer_from, error_for, TaskSteps, bytes_after, bytes_given, count_given, with_bytes}
 use Rattle.nbd_stream.proofs.DiskLemmas.{before_it, inside_it, length-with_bytes, past_it}
 use Rattle.disk_server.specs.declared.guarded.GuardedSectors.{GuardedSectors}
@@ -345,6 +345,22 @@ module _ {S K : Type 0} (contents : S → Contents) (size : S → ℕ) (honest :
       call_shown task body old (Err e) new same p.sized tt p.back p.fault tt
       (λ h. subst (λ l. TaskSteps task body (lasting (guarded_from (size old.sectors) old.lost.items 0 (contents old.sectors).bytes)) (Err e) (lasting (guarded_from (size old.sectors) l 0 (contents new.sectors).bytes))) (sym lost)
       (failed_steps (size old.sectors) n task body set leaves gives some long old.lost.items (contents old.sectors) (contents new.sectors) (sector_fits n count (size old.sectors) (length (contents old.sectors).bytes) within whole) e p.sized (p.steps h)))
+
+  -- a sector that was set to zeros: the device has done it, or has failed
+  pub zeros_shown : (kept : K → List Bool) (calm : S → Bool) (n : ℕ) (old : GuardedSectors S K) → 0 < size old.sectors → (count : ℕ) → n < count → length (contents old.sectors).bytes ≡ count * size old.sectors
+      → (mid : S) (new : GuardedSectors S K) → size mid ≡ size old.sectors → new.sectors ≡ mid → PerformsTask contents honest calm (Trim (n * size old.sectors) (size old.sectors) false) [] old.sectors (Ok []) mid
+      → (result : Result (Unit {0}) DiskFault) → OnOk result (HealsIfListed kept n (record old { sectors = mid }) new) → (is_listed old n ≡ false → (result ≡ Ok tt) × (new ≡ record old { sectors = mid }))
+      → (is_listed old n ≡ true → new.lost.items ≡ slice_set old.lost.items n false) → IfErr result (λ e. e ≡ fault.Failed)
+      → PerformsTask (guarded_contents contents size) (λ d. honest d.sectors) (λ d. false) (Trim (n * size old.sectors) (size old.sectors) false) [] old (answer_from result []) new
+  zeros_shown kept calm n old some count within whole mid new same sectors p =
+      change_shown kept calm n (Trim (n * size old.sectors) (size old.sectors) false) [] (replicate (size old.sectors) 0) old (λ l. refl) (λ l. refl) (inl refl) some (length-replicate {A = ℕ} (size old.sectors) 0) count within whole mid new same sectors p
+
+  pub zeros_failed : (calm : S → Bool) (n : ℕ) (old : GuardedSectors S K) → 0 < size old.sectors → (count : ℕ) → n < count → length (contents old.sectors).bytes ≡ count * size old.sectors
+      → (new : GuardedSectors S K) (e : RequestError) → size new.sectors ≡ size old.sectors → new.lost.items ≡ old.lost.items
+      → PerformsTask contents honest calm (Trim (n * size old.sectors) (size old.sectors) false) [] old.sectors (Err e) new.sectors
+      → PerformsTask (guarded_contents contents size) (λ d. honest d.sectors) (λ d. false) (Trim (n * size old.sectors) (size old.sectors) false) [] old (Err e) new
+  zeros_failed calm n old some count within whole new e same lost p =
+      failed_shown calm n (Trim (n * size old.sectors) (size old.sectors) false) [] (replicate (size old.sectors) 0) old (λ l. refl) (λ l. refl) some (length-replicate {A = ℕ} (size old.sectors) 0) count within whole new e same lost p
 
 -- ---- laws of its list
 

@@ -37,6 +37,7 @@ use
       after_sync,
     }
 use Rattle.disk_server.proofs.Joining.{as_task}
+use Rattle.disk_server.proofs.Tasks.{performed}
 use Rattle.disk_server.proofs.SyncLemmas.{no_less, none_then, then_failed, unflushed}
 use Rattle.disk_server.specs.declared.synced.SyncedDisk.{SyncedDisk}
 
@@ -46,16 +47,12 @@ Lasts {D} contents = (d : D) → (contents d).durable ≡ (contents d).bytes
 -- a call of the disk, of the joined one
 pub joined_call : {D Y : Type 0} (contents : D → Contents) (honest calm : D → Bool) (task : Task) (body : List ℕ) (old new : SyncedDisk D Y) (answer : Result (List ℕ) RequestError)
     → PerformsTask contents honest calm task body old.disk answer new.disk → PerformsTask (λ s. contents s.disk) (λ s. honest s.disk) (λ _. false) task body old answer new
-joined_call contents honest calm task body old new answer p = record {
-  sized = p.sized;
-  kept = p.kept;
-  back = p.back;
-  calm_is = refl;
-  fault = p.fault;
-  given = p.given;
-  calmly = λ never. (let no : ⊥ = cc in absurd no);
-  steps = p.steps;
-}
+joined_call contents honest calm task body old new answer p = performed (λ s. contents s.disk) (λ s. honest s.disk) task body old new answer p.sized p.kept p.back p.fault p.given p.steps
+
+-- and of the joined one, of the disk
+pub as_disk : {D Y : Type 0} (contents : D → Contents) (honest : D → Bool) (task : Task) (body : List ℕ) (old new : SyncedDisk D Y) (answer : Result (List ℕ) RequestError)
+    → PerformsTask (λ s. contents s.disk) (λ s. honest s.disk) (λ _. false) task body old answer new → PerformsTask contents honest (λ _. false) task body old.disk answer new.disk
+as_disk contents honest task body old new answer p = performed contents honest task body old.disk new.disk answer p.sized p.kept p.back p.fault p.given p.steps
 
 module _ {D : Type 0} (contents : D → Contents) (honest calm : D → Bool) (lasts : Lasts contents) (o n : ℕ) (durable : Bool) (old : D) where
   -- a trim that is done lasts, and one that failed is one that was to last
@@ -91,19 +88,6 @@ pub and_synced : {D : Type 0} (contents : D → Contents) (honest calm : D → B
     → MayAnswer task InputOutput → calm old ≡ false → PerformsTask contents honest calm task body old (Ok []) new → PerformsTask contents honest calm task body old (answer_from result []) new
 and_synced contents honest calm task body old new (Ok done) is may never p = p
 and_synced contents honest calm task body old new (Err e) is may never p = failed_then contents honest calm task body old new e is may never p
-
-pub as_disk : {D Y : Type 0} (contents : D → Contents) (honest : D → Bool) (task : Task) (body : List ℕ) (old new : SyncedDisk D Y) (answer : Result (List ℕ) RequestError)
-    → PerformsTask (λ s. contents s.disk) (λ s. honest s.disk) (λ _. false) task body old answer new → PerformsTask contents honest (λ _. false) task body old.disk answer new.disk
-as_disk contents honest task body old new answer p = record {
-  sized = p.sized;
-  kept = p.kept;
-  back = p.back;
-  calm_is = refl;
-  fault = p.fault;
-  given = p.given;
-  calmly = p.calmly;
-  steps = p.steps;
-}
 
 -- ---- a task
 

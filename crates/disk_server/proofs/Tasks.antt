@@ -34,19 +34,26 @@ steps_of task body s (Err e) t its = record {
   lasts = tt;
 }
 
+-- a call of a disk that promises no calm
+pub performed : {D : Type 0} (contents : D → Contents) (honest : D → Bool) (task : Task) (body : List ℕ) (old new : D) (answer : Answer) → length (contents new).bytes ≡ length (contents old).bytes
+    → OnOk answer (honest new ≡ honest old) → (honest new ≡ true → honest old ≡ true) → IfErr answer (MayAnswer task) → IfOk answer (λ bytes. length bytes ≡ count_given task)
+    → (honest new ≡ true → TaskSteps task body (contents old) answer (contents new)) → PerformsTask contents honest (λ _. false) task body old answer new
+performed contents honest task body old new answer sized kept back fault given steps = record {
+  sized = sized;
+  kept = kept;
+  back = back;
+  calm_is = refl;
+  fault = fault;
+  given = given;
+  calmly = λ never. (let no : ⊥ = cc in absurd no);
+  steps = steps;
+}
+
 -- ONE CALL of such a disk, which promises no calm
 module _ {D : Type 0} (bytes : D → List ℕ) (honest : D → Bool) (task : Task) (body : List ℕ) (old : D) (answer : Answer) (new : D) where
   pub performs_by : length (bytes new) ≡ length (bytes old) → OnOk answer (honest new ≡ honest old) → (honest new ≡ true → honest old ≡ true)
       → IfErr answer (MayAnswer task) → IfOk answer (λ given. length given ≡ count_given task)
       → (honest new ≡ true → Sets task body (bytes old) answer (bytes new))
       → PerformsTask (λ d. lasting (bytes d)) honest (λ d. false) task body old answer new
-  performs_by sized kept back fault given sets = record {
-    sized = sized;
-    kept = kept;
-    back = back;
-    calm_is = refl;
-    fault = fault;
-    given = given;
-    calmly = λ never. (let no : ⊥ = cc in absurd no);
-    steps = λ h. steps_of task body (bytes old) answer (bytes new) (sets h);
-  }
+  performs_by sized kept back fault given sets =
+      performed (λ d. lasting (bytes d)) honest task body old new answer sized kept back fault given (λ h. steps_of task body (bytes old) answer (bytes new) (sets h))

@@ -74,8 +74,8 @@ pub fn serve_reading<S: Sectors, R: Incoming, W: Outgoing>(
     reader: &mut R,
     writer: &mut W,
 ) -> Result<StreamEnd, ServeFault>
-    requires room { offer.maximum ≤ length buffer.old }
     requires read_only { offer.read_only ≡ true }
+    requires room { offer.maximum ≤ length buffer.old }
     ensures serves { Serves S.contents S.honest (λ _. false) (OnlyAsksReads S.reads) RestsNever
         (export_of offer (length (S.contents disk.old).bytes)) (length buffer.new) disk.old disk.new (R.remaining reader.old) (R.remaining reader.new)
         (W.contents writer.old) (W.contents writer.new) result }

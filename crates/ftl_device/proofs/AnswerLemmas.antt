@@ -14,28 +14,29 @@ use Rattle.collection.specs.declared.engine.Engine.{Engine}
 use Rattle.collection.specs.declared.fault.EngineFault.{EngineFault}
 use Rattle.collection.specs.declared.fault.EngineFault.TheVariants.{ReadOnly, SequenceSpent, Damaged, Bus}
 use Rattle.collection.specs.State.{Ram}
-use Rattle.collection.specs.Safe.{ram, image_in}
+use Rattle.collection.specs.Safe.{IsSafe, ram, image_in}
 use Rattle.collection.proofs.Looks.{ok_not_bus}
 use Rattle.collection.specs.Truth.{IsTrue}
 use Rattle.collection.specs.declared.engine.room.Reserve.TheVariants as reserve
 use Rattle.collection.specs.Room.{wanted}
-use Rattle.collection.specs.Left.{IsCalm}
-use Rattle.collection.specs.Collect.{KeepsKeys}
+use Rattle.collection.specs.Left.{IsCalm, PinIsFew}
+use Rattle.collection.specs.Acts.{RestsOrErases}
+use Rattle.collection.specs.Collect.{KeepsKeys, IsRearranged, RoomRefused}
 use Rattle.collection.proofs.Gates.{true_noted}
 use Rattle.collection.specs.Renew.{FindsDue}
 use Rattle.collection.specs.Results.{IsSame, IsWrittenBack, KeepsTable, Refused, fault_after}
 use Rattle.collection.specs.Settle.{HasNoMore, Cleans}
 use Rattle.ftl_device.specs.declared.fault.CallFault.{CallFault}
 use Rattle.ftl_device.specs.declared.fault.CallFault.TheVariants as call
-use Rattle.ftl_device.specs.declared.fault.DeviceFault.{DeviceFault}
-use Rattle.ftl_device.specs.Calls.{Knows, KeepsArray, CallRefused, CallTells}
+use Rattle.ftl_device.specs.Calls.{Knows, KeepsArray, CallRefused, CallTells, HasMadeRoom}
 use Rattle.ftl_device.specs.Flush.{IsClean}
 use Rattle.ftl_device.specs.FlushSteps.{HasCleared}
-use Rattle.ftl_device.specs.Changes.{EngineLeaves, EndsCall}
+use Rattle.ftl_device.specs.Changes.{EngineLeaves, EngineKeeps, EndsKept, FlushesOn}
 use Rattle.ftl_device.proofs.FlushLoops.{keeps_same}
+use Rattle.ftl_device.proofs.RoomLemmas.{room_keeps, room_pins}
 use Rattle.ftl_device.specs.Migrate.{FindsFrom}
-use Rattle.ftl_device.proofs.LeaveLemmas.{leaves_done, leaves_ends, limits_same}
-use Rattle.ftl_device.proofs.MigrateLemmas.{over}
+use Rattle.ftl_device.proofs.LeaveLemmas.{leaves_same, leaves_done, leaves_ends, limits_same}
+use Rattle.ftl_device.proofs.MigrateLemmas.{over, keeps_look}
 
 -- ---- answers that differ
 
@@ -154,9 +155,13 @@ not_large a b k same small large = omega arith
 pub free_still : (a b : Ram) (fault : Option EngineFault) → b ≡ record a { fault = fault } → 5 ≤ free_count a.blocks → 5 ≤ free_count b.blocks
 free_still a b fault still five = subst (λ n. 5 ≤ n) (sym (ap (λ (r : Ram). free_count r.blocks) still)) five
 
-pub ends_look : {A N : Type 0} (view : View N) (old new : Engine N) (x : A) → IsCalm (ram old) → ram new ≡ ram old → EngineLeaves view old (Ok x) new → EndsCall view old (Ok tt) new
-ends_look view old new x calm same leaves =
-    leaves_ends view old new (Ok tt) (leaves_done view old new x tt leaves) (limits_same _ _ (ap (λ (r : Ram). r.mapping) same)) (λ none. subst IsCalm (sym same) calm)
+pub kept_look : {A N : Type 0} (view : View N) (old new : Engine N) (x : A) → IsCalm (ram old) → ram new ≡ ram old → (view.honest old.nand ≡ true → view.flash new.nand ≡ view.flash old.nand)
+    → EngineLeaves view old (Ok x) new → EndsKept view old (Ok tt) new
+kept_look view old new x calm same still leaves = record {
+  ends = leaves_ends view old new (Ok tt) (leaves_done view old new x tt leaves) (limits_same _ _ (ap (λ (r : Ram). r.mapping) same)) (λ none. subst IsCalm (sym same) calm);
+  cut = λ is_honest k bus. (let no : ⊥ = cc in absurd no);
+  truth = keeps_look view old new same still;
+}
 
 pub some_rests : {A : Type 0} (result : Result (Unit {0}) CallFault) (x : A) (P : Type 0) → OnOk result (Some x ≡ None → P)
 some_rests (Ok done) x P = λ none. (let no : ⊥ = cc in absurd no)
@@ -210,7 +215,7 @@ cleaned_by (Ok done) g t a b same h = subst (λ k. IsClean k t b) same (record {
 cleaned_by (Err fault) g t a b same h = tt
 
 -- room was there, or else too few blocks are free
-pub free_truth : (result : Result (Unit {0}) EngineFault) (a b : Ram) (x y : Image) (few : Type 0) → a.fault ≡ None → b ≡ record a { fault = fault_after None result } → y ≡ x → IfErr result (λ fault. (fault ≡ ReadOnly) × few)
+free_truth : (result : Result (Unit {0}) EngineFault) (a b : Ram) (x y : Image) (few : Type 0) → a.fault ≡ None → b ≡ record a { fault = fault_after None result } → y ≡ x → IfErr result (λ fault. (fault ≡ ReadOnly) × few)
     → Knows a x → MatchResult result (λ _. KeepsArray a.geometry x b y) (λ fault. CallRefused a.geometry x b y (call.Engine fault))
 free_truth (Ok done) a b x y few going is still faults w =
     over (λ r i. KeepsArray a.geometry x r i) b a y x (ap (λ f. record a { fault = f }) going ∙ sym is) (sym still) (keeps_same a x w)
@@ -222,6 +227,35 @@ free_truth (Err ReadOnly) a b x y few going is still faults w = record {
 free_truth (Err SequenceSpent) a b x y few going is still faults w = (let same : SequenceSpent ≡ ReadOnly = faults.0 in let no : ⊥ = cc in absurd no)
 free_truth (Err Damaged) a b x y few going is still faults w = (let same : Damaged ≡ ReadOnly = faults.0 in let no : ⊥ = cc in absurd no)
 free_truth (Err Bus) a b x y few going is still faults w = (let same : Bus ≡ ReadOnly = faults.0 in let no : ⊥ = cc in absurd no)
+
+pub keeps_free : {N : Type 0} (view : View N) (old new : Engine N) (result : Result (Unit {0}) EngineFault) (few : Type 0) → old.fault ≡ None → ram new ≡ record (ram old) { fault = fault_after None result }
+    → image_in view.flash new ≡ image_in view.flash old → IfErr result (λ fault. (fault ≡ ReadOnly) × few) → EngineKeeps view old result new
+keeps_free view old new result few going is still faults = λ is_honest w. free_truth result (ram old) (ram new) (image_in view.flash old) (image_in view.flash new) few going is still faults w
+
+-- nothing was to be done
+pub flushes_none : {N : Type 0} (view : View N) (e : Engine N) → IsSafe view.flash e → e.fault ≡ None → IsCalm (ram e) → FlushesOn view e (Ok tt) e
+flushes_none view e safe going calm = record {
+  leaves = leaves_same view e safe going;
+  keys = keys_same _ _ refl;
+  calm = calm;
+  pins = λ none. none;
+  truth = λ is_honest w. keeps_same (ram e) (image_in view.flash e) w;
+}
+
+-- room was to be made for it
+pub flushes_room : {N : Type 0} (view : View N) (old new : Engine N) (result : Result (Unit {0}) EngineFault) (many : ℕ) (flushing : Bool) → EngineLeaves view old result new → KeepsKeys old.mapping new.mapping
+    → OnOk result (HasMadeRoom many flushing (ram old) (ram new)) → OnOk result (RestsOrErases view.erases old new)
+    → (view.honest old.nand ≡ true → Knows (ram old) (image_in view.flash old)
+    → MatchResult result (λ done. IsRearranged (ram old) (image_in view.flash old) (ram new) (image_in view.flash new)) (RoomRefused (ram old) (image_in view.flash old) (ram new) (image_in view.flash new)))
+    → (view.honest old.nand ≡ true → Knows (ram old) (image_in view.flash old) → MatchResult result (λ done. Knows (ram new) (image_in view.flash new)) (λ fault. fault ≢ Bus → PinIsFew 0 (ram new)))
+    → FlushesOn view old result new
+flushes_room view old new result many flushing leaves keys made erases truth pinned = record {
+  leaves = leaves;
+  keys = keys;
+  calm = ok_then result _ _ made (λ h. h.calm);
+  pins = ok_then result _ _ erases (λ h. room_pins view.erases old new h);
+  truth = λ is_honest w. room_keeps view result old new (truth is_honest w) (pinned is_honest w);
+}
 
 -- ---- what a call tells as it ends
 
@@ -238,13 +272,11 @@ told_spent answer a b tells is = subst (λ x. CallTells a b x) is tells
 -- above share 0 nothing was done for it
 pub cleared_still : {N : Type 0} (view : View N) (old mid : Engine N) (result : Result (Unit {0}) EngineFault) → 0 < old.mapping.share → EngineLeaves view old result mid
     → OnOk result ((mid ≡ old) × (5 ≤ free_count (ram old).blocks))
-    → (view.honest old.nand ≡ true → Knows (ram old) (image_in view.flash old)
-    → MatchResult result (λ done. KeepsArray old.geometry (image_in view.flash old) (ram mid) (image_in view.flash mid)) (λ fault. CallRefused old.geometry (image_in view.flash old) (ram mid) (image_in view.flash mid) (call.Engine fault)))
-    → OnOk result (HasCleared view old mid)
+    → EngineKeeps view old result mid → OnOk result (HasCleared view old mid)
 cleared_still view old mid (Ok done) some leaves still keeps = record {
   room = λ none. absurd (zero_some old.mapping.share old.mapping.share refl none some);
   still = λ _. still;
-  honest_is = leaves.honest_is;
+  honest_is = leaves.die.honest_is;
   goes = λ is_honest k. record { went = leaves.went is_honest (ok_not_bus done); keeps = keeps is_honest k };
 }
 cleared_still view old mid (Err fault) some leaves still keeps = tt

@@ -152,29 +152,29 @@ not_broken p ps k none at filled = elim (cases_Bool (is_some (record_of p))) [
 some_is : {X : Type 0} (o : Option X) → is_some o ≡ true → IsSome o
 some_is o e = e
 
-pub sound_below : (g : Geometry) (image : Image) (b p : ℕ) → IsImage g image → is_good g image b ≡ true → b < g.blocks → p < g.pages → p < written (block_pages g image b) → is_some (get_or (marks image) (b * g.pages + p) None) ≡ true
-sound_below g image b p whole good lt in_block below =
-    let ps = block_pages g image b in
-    let row = b * g.pages + p in
-    let its = get_or image row no_page in
-    let at : slice_get image row ≡ Some its = page_there g image b p whole lt in_block in
-    let there : slice_get ps p ≡ Some its = block_page g image b p row refl in_block ∙ at in
-    let clear = good_pages g image b good in
-    let filled : is_erased_page its ≡ false = elim (cases_Bool (is_erased_page its)) [
-      | inl blank ↦ absurd (let past = (pointer_is ps p its clear.1 there).0 blank in omega arith)
-      | inr none_here ↦ none_here
-    ] in
-    ap is_some (mark-page image row its at) ∙ not_broken its ps p clear.0 there filled
+-- a page of a good block
+module _ (g : Geometry) (image : Image) (b p : ℕ) (whole : IsImage g image) (good : is_good g image b ≡ true) (lt : b < g.blocks) (in_block : p < g.pages) where
+  abbrev its_page : Page
+  its_page = get_or image (b * g.pages + p) no_page
 
-pub erased_from : (g : Geometry) (image : Image) (b p : ℕ) → IsImage g image → is_good g image b ≡ true → b < g.blocks → p < g.pages → written (block_pages g image b) ≤ p → IsErasedAt image (b * g.pages + p)
-erased_from g image b p whole good lt in_block past =
-    let ps = block_pages g image b in
-    let row = b * g.pages + p in
-    let its = get_or image row no_page in
-    let at : slice_get image row ≡ Some its = page_there g image b p whole lt in_block in
-    let there : slice_get ps p ≡ Some its = block_page g image b p row refl in_block ∙ at in
-    let clear = good_pages g image b good in
-    record { its = its; at = at; is = (pointer_is ps p its clear.1 there).1 past }
+  in_image : slice_get image (b * g.pages + p) ≡ Some its_page
+  in_image = page_there g image b p whole lt in_block
+
+  in_pages : slice_get (block_pages g image b) p ≡ Some its_page
+  in_pages = block_page g image b p (b * g.pages + p) refl in_block ∙ in_image
+
+  pub sound_below : p < written (block_pages g image b) → is_some (get_or (marks image) (b * g.pages + p) None) ≡ true
+  sound_below below =
+      let ps = block_pages g image b in
+      let clear = good_pages g image b good in
+      let filled : is_erased_page its_page ≡ false = elim (cases_Bool (is_erased_page its_page)) [
+        | inl blank ↦ absurd (let past = (pointer_is ps p its_page clear.1 in_pages).0 blank in omega arith)
+        | inr none_here ↦ none_here
+      ] in
+      ap is_some (mark-page image (b * g.pages + p) its_page in_image) ∙ not_broken its_page ps p clear.0 in_pages filled
+
+  pub erased_from : written (block_pages g image b) ≤ p → IsErasedAt image (b * g.pages + p)
+  erased_from past = record { its = its_page; at = in_image; is = (pointer_is (block_pages g image b) p its_page (good_pages g image b good).1 in_pages).1 past }
 
 -- ---- counts
 

@@ -27,9 +27,11 @@ use Rattle.collection.proofs.Follows.{follows_by}
 use Rattle.collection.proofs.Logs.{went_then}
 use Rattle.ftl_device.specs.declared.device.Device.{Device}
 use Rattle.ftl_device.specs.declared.fault.CallFault.{CallFault}
-use Rattle.ftl_device.specs.Calls.{HasMadeRoom}
+use Rattle.ftl_device.specs.declared.fault.DeviceFault.{DeviceFault}
+use Rattle.ftl_device.specs.Calls.{HasMadeRoom, answer_of}
 use Rattle.ftl_device.specs.Migrate.{FindsFrom}
-use Rattle.ftl_device.specs.Brings.{MadeRoom, RescuesLowest, HasBrought, BringsPage, BringsOne, BringsEach, LowestRowLaw, CountedLaw}
+use Rattle.ftl_device.specs.Brings.{MadeRoom, RescuesLowest, TurnsHonestly, HasBrought, BringsPage, BringsOne, BringsEach, LowestRowLaw, CountedLaw}
+use Rattle.ftl_device.proofs.CostLemmas.{done_after}
 use Rattle.ftl_device.proofs.CursorLemmas.{due_from, one_found}
 
 -- ---- inside the call
@@ -40,6 +42,10 @@ brought_by a b c false room cost = record { mid = b; room = room; on = inl cost 
 
 none_ailing : (s : State) → HasAiling s → HasNoneAiling s → ⊥
 none_ailing s some none = (let at = some.1 in omega (arith, none some.0 at.within at.bad, at.some))
+
+on_done : {P Q : Type 0} (result : Result (Unit {0}) DeviceFault) → OnOk result P → (P → Q) → OnOk result Q
+on_done (Ok done) h part = part h
+on_done (Err fault) h part = tt
 
 module _ {N : Type 0} (view : View N) where
   pub made_room : (old new : Engine N) → HasMadeRoom 9 false (ram old) (ram new) → (9 ≤ free_count (ram old).blocks → new ≡ old) → IsRearranged (ram old) (image_in view.flash old) (ram new) (image_in view.flash new)
@@ -76,6 +82,11 @@ module _ {N : Type 0} (view : View N) where
       → OnOk result (BringsPage view row look new) → OnOk result (BringsPage view row old new)
   ok_brings row old look new (Ok done) same still went b = brings_after row old look new same still went b
   ok_brings row old look new (Err fault) same still went b = tt
+
+  -- what an honest turn does, of the engine as the device leaves it
+  pub turned_honestly : {Q : Type 0} (old e last : Engine N) (answer : Result (Unit {0}) CallFault) (result : Result (Unit {0}) DeviceFault) (good : ℕ) → last ≡ e → result ≡ answer_of (ram last) good answer
+      → OnOk answer (TurnsHonestly view old e) → (TurnsHonestly view old last → Q) → OnOk result Q
+  turned_honestly old e last answer result good same is h part = on_done result (done_after (TurnsHonestly view old) e last answer result good same is h) part
 
   -- the page of lowest row, where a bad block holds one
   pub lowest_by : (old mid new : Engine N) (found : Bool) → MadeRoom view old mid → RescueCosts (ram mid) (ram new) (Ok found) → IsRescued (ram mid) (image_in view.flash mid) (ram new) (image_in view.flash new) found → RescuesLowest view old new

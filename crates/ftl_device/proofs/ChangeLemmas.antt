@@ -1,5 +1,5 @@
 -- A device's call that changes a sector, from the engine's.
-use Rattle.std.proofs.Common.{◌≡◌, ◌≢◌, ◌⊎◌, inl, inr, ℕ, ◌-◌, ◌^◌, ◌<◌, ◌≤◌, ◌∙◌, Bool, true, false, None, Option, Some, List, Result, Ok, Err, OnOk, MatchResult, refl, sym, ap, subst, arith}
+use Rattle.std.proofs.Common.{◌≡◌, ◌≢◌, ◌⊎◌, inl, inr, ℕ, ◌-◌, ◌^◌, ◌<◌, ◌≤◌, ◌∙◌, Bool, true, false, None, Option, Some, List, Result, Ok, Err, MatchResult, refl, sym, ap, subst, arith}
 use Rattle.std.specs.Prelude.{IfErr, IsSome, slice_set}
 use Rattle.std.specs.Option.{ForSome}
 use Rattle.std.specs.Map.{keys_of}
@@ -20,7 +20,7 @@ use Rattle.collection.specs.declared.fault.EngineFault.TheVariants as engine_fau
 use Rattle.collection.specs.State.{Ram}
 use Rattle.collection.specs.Safe.{ram, image_in, page_in}
 use Rattle.collection.specs.Results.{array_after}
-use Rattle.collection.specs.Stops.{Cuts, IsPutByStop, room_of}
+use Rattle.collection.specs.Stops.{room_of}
 use Rattle.collection.proofs.Logs.{went_same}
 use Rattle.ftl_device.specs.declared.device.Device.{Device}
 use Rattle.ftl_device.specs.declared.fault.CallFault.{CallFault}
@@ -33,7 +33,7 @@ use Rattle.ftl_device.specs.Device.{IsDevice}
 use Rattle.ftl_device.specs.Calls.{Knows, IsWell, state_in, reply_of, stop_of, Says, CallTells, CallRefused, HoldsSector, standing_after, answer_of, MayChange, MayNot, IsBeyond, IsShortOf, IsMostRecent, HasCost, HasPageOf, IsLastOf, order_after}
 use Rattle.ftl_device.specs.Shortage.{HasFunds, CallShort}
 use Rattle.ftl_device.specs.Stopped.{changes_sector}
-use Rattle.ftl_device.specs.Changes.{EndsCall, PinsNone, MayPin, Readies, HasLookedUp, Stays, Refuses, RefusesSector, ProgramsSector, Logs, Means, IsCut, Changes}
+use Rattle.ftl_device.specs.Changes.{PinsNone, MayPin, HasLookedUp, Stays, Refuses, RefusesSector, ProgramsSector, Logs, Means, IsCut, Changes, EndsChange}
 use Rattle.ftl_device.proofs.CallLemmas.{well_ram, well_device, memory_only, mountable_after, went_after, done_too}
 use Rattle.ftl_device.proofs.PinLemmas.{knows_well, unpinned_moved, none_moved}
 use Rattle.ftl_device.proofs.CostLemmas.{closed_is, spent_is, never_memory}
@@ -160,27 +160,11 @@ module _ {N : Type 0} (view : View N) (n : ℕ) (bytes : List ℕ)
     (command : Command) (old new : Device N) (device : IsDevice view.flash old) (device' : IsDevice view.flash new)
     (may : MayChange (ram old.engine) old.read_only n)
     (takes : (reply : Reply) (s : State) → WriteStep old.engine.geometry (state_in view.flash old) n bytes reply s → ArrayStep old.engine.geometry (state_in view.flash old) command reply s) (no_flush : is_flush command ≡ false) (changes : changes_sector command ≡ true)
-    (kind : Kind) (body : List ℕ) (gives : (xs : List (List ℕ)) → array_after old.engine.geometry kind n body xs ≡ slice_set xs n bytes) where
+    (kind : Kind) (gives : (xs : List (List ℕ)) → array_after old.engine.geometry kind n bytes xs ≡ slice_set xs n bytes) where
   abbrev good_then : ℕ
   good_then = good_count (ram old.engine).blocks.table
 
-  abbrev Holds : Engine N → Result (Unit {0}) CallFault → Type 0
-  Holds e answer = view.honest old.engine.nand ≡ true → Knows (ram old.engine) (image_in view.flash old.engine)
-      → MatchResult answer (λ _. HoldsSector old.engine.geometry n bytes (image_in view.flash old.engine) (ram e) (image_in view.flash e))
-      (CallRefused old.engine.geometry (image_in view.flash old.engine) (ram e) (image_in view.flash e))
-
-  abbrev Pages : Engine N → Result (Unit {0}) CallFault → Type 0
-  Pages e answer = OnOk answer (IsLastOf old.engine.geometry command (ram e) (page_in e.page))
-
-  abbrev Newest : Engine N → Result (Unit {0}) CallFault → Type 0
-  Newest e answer = view.honest old.engine.nand ≡ true → Knows (ram old.engine) (image_in view.flash old.engine) → OnOk answer (HasPageOf old.engine.geometry command (ram e) (image_in view.flash e))
-
-  abbrev Cutting : Engine N → Result (Unit {0}) CallFault → Type 0
-  Cutting e answer = view.honest old.engine.nand ≡ true → Knows (ram old.engine) (image_in view.flash old.engine) → answer ≡ Err (call.Engine engine_fault.Bus)
-      → Cuts view (IsPutByStop kind n body (ram old.engine) (image_in view.flash old.engine)) old.engine e
-
-  module _ (answer : Result (Unit {0}) CallFault) (ends : EndsCall view old.engine answer new.engine) (cutting : Cutting new.engine answer) (readies : Readies view n 2 old.engine answer new.engine) (cost : OnOk answer (HasCost n (ram old.engine) (ram new.engine)))
-      (checked : OnOk answer (HasLookedUp n (ram old.engine) (ram new.engine) (page_in new.engine.scratch))) (page : Pages new.engine answer) (newest : Newest new.engine answer) (truth : Holds new.engine answer) where
+  module _ (answer : Result (Unit {0}) CallFault) (k : EndsChange view kind n bytes command old.engine answer new.engine) where
     abbrev replied : Result (Unit {0}) DeviceFault
     replied = answer_of (ram new.engine) good_then answer
 
@@ -190,7 +174,7 @@ module _ {N : Type 0} (view : View N) (n : ℕ) (bytes : List ℕ)
       untouched = λ e. absurd (not_past answer (ram new.engine) good_then e);
       read_only = λ going within on. (let off : old.read_only ≡ false = may.writable in let no : ⊥ = cc in absurd no);
       spent = λ going within off last. absurd (omega (arith, may.sequence, last));
-      cached = λ some e. readies.cached some (memory_only answer replied good_then (ram new.engine) refl e);
+      cached = λ some e. k.readies.cached some (memory_only answer replied good_then (ram new.engine) refl e);
     }
 
     here : IsWell view.flash old → Knows (ram old.engine) (image_in view.flash old.engine)
@@ -198,81 +182,71 @@ module _ {N : Type 0} (view : View N) (n : ℕ) (bytes : List ℕ)
 
     programs_done : ProgramsSector view n command old replied new
     programs_done = record {
-      recent = done_too (IsMostRecent n new.engine.mapping) answer good_then (ram new.engine) readies.recent;
-      keys = done_too (keys_of new.engine.mapping.cached ≡ order_after old.engine.mapping n) answer good_then (ram new.engine) readies.keys;
-      cost = done_too (HasCost n (ram old.engine) (ram new.engine)) answer good_then (ram new.engine) cost;
-      checked = done_too (HasLookedUp n (ram old.engine) (ram new.engine) (page_in new.engine.scratch)) answer good_then (ram new.engine) checked;
-      page = done_too (IsLastOf old.engine.geometry command (ram new.engine) (page_in new.engine.page)) answer good_then (ram new.engine) page;
-      newest = λ is_honest well. done_too (HasPageOf old.engine.geometry command (ram new.engine) (image_in view.flash new.engine)) answer good_then (ram new.engine) (newest is_honest (here well));
-      unwritten = λ e. readies.unwritten (memory_only answer replied good_then (ram new.engine) refl e);
-      same_keys = λ e. readies.same_keys (memory_only answer replied good_then (ram new.engine) refl e);
+      recent = done_too (IsMostRecent n new.engine.mapping) answer good_then (ram new.engine) k.readies.recent;
+      keys = done_too (keys_of new.engine.mapping.cached ≡ order_after old.engine.mapping n) answer good_then (ram new.engine) k.readies.keys;
+      cost = done_too (HasCost n (ram old.engine) (ram new.engine)) answer good_then (ram new.engine) k.cost;
+      checked = done_too (HasLookedUp n (ram old.engine) (ram new.engine) (page_in new.engine.scratch)) answer good_then (ram new.engine) k.checked;
+      page = done_too (IsLastOf old.engine.geometry command (ram new.engine) (page_in new.engine.page)) answer good_then (ram new.engine) k.page;
+      newest = λ is_honest well. done_too (HasPageOf old.engine.geometry command (ram new.engine) (image_in view.flash new.engine)) answer good_then (ram new.engine) (k.newest is_honest (here well));
+      unwritten = λ e. k.readies.unwritten (memory_only answer replied good_then (ram new.engine) refl e);
+      same_keys = λ e. k.readies.same_keys (memory_only answer replied good_then (ram new.engine) refl e);
     }
 
     short : view.honest old.engine.nand ≡ true → Knows (ram old.engine) (image_in view.flash old.engine) → CallShort (ram old.engine) (ram new.engine) answer
     short is_honest well = call_short (HasFunds (view.honest old.engine.nand) (ram old.engine) (image_in view.flash old.engine)) answer (ram old.engine)
-        (ram new.engine) device.engine.memory readies.costs
+        (ram new.engine) device.engine.memory k.readies.costs
         (is_honest, well, funded_begun (ram old.engine) old.read_only device.read_only may.writable)
 
     logs_done : view.honest old.engine.nand ≡ true → replied ≢ Err BusFault → Logs view command old replied new
     logs_done is_honest ne =
-        let w = went_after view old.engine new.engine new.engine answer replied good_then refl refl (ends.went is_honest) ne in
+        let w = went_after view old.engine new.engine new.engine answer replied good_then refl refl (k.ends.went is_honest) ne in
         record {
           went = w;
-          shown = λ well. shown_after view old.engine new.engine new.engine w n bytes old.read_only answer replied good_then refl device.engine.memory ends.limits.share ends.safe.memory ends.geometry refl refl ends.tells (short is_honest (here well)) (truth is_honest (here well)) ne;
-          left = λ well on. left_after view command old.engine new.engine new.engine w old.read_only new.read_only answer replied good_then refl refl device.engine.memory device'.engine.memory ends.geometry device'.read_only on (short is_honest (here well));
+          shown = λ well. shown_after view old.engine new.engine new.engine w n bytes old.read_only answer replied good_then refl device.engine.memory k.ends.limits.share k.ends.safe.memory k.ends.geometry refl refl k.ends.tells (short is_honest (here well)) (k.truth is_honest (here well)) ne;
+          left = λ well on. left_after view command old.engine new.engine new.engine w old.read_only new.read_only answer replied good_then refl refl device.engine.memory device'.engine.memory k.ends.geometry device'.read_only on (short is_honest (here well));
           flushed = λ well its done. no_flush_is command no_flush _ its;
-          stopped = λ well. stopped_call view old.engine new.engine command replied w.log device.engine w.records (ends.stops is_honest (here well) (λ bus. ne (ap (answer_of (ram new.engine) good_then) bus)))
-              (changed_or old.engine.geometry n bytes command changes (image_in view.flash old.engine) (image_in view.flash new.engine) (ram new.engine) (ram new.engine) good_then answer (truth is_honest (here well)) ne);
-          dead = λ well. dead_call view old.engine new.engine w.log device.engine w.records (ends.stops is_honest (here well) (λ bus. ne (ap (answer_of (ram new.engine) good_then) bus)));
+          stopped = λ well. stopped_call view old.engine new.engine command replied w.log device.engine w.records (k.ends.stops is_honest (here well) (λ bus. ne (ap (answer_of (ram new.engine) good_then) bus)))
+              (changed_or old.engine.geometry n bytes command changes (image_in view.flash old.engine) (image_in view.flash new.engine) (ram new.engine) (ram new.engine) good_then answer (k.truth is_honest (here well)) ne);
+          dead = λ well. dead_call view old.engine new.engine w.log device.engine w.records (k.ends.stops is_honest (here well) (λ bus. ne (ap (answer_of (ram new.engine) good_then) bus)));
         }
 
     cut_done : view.honest old.engine.nand ≡ true → Knows (ram old.engine) (image_in view.flash old.engine) → replied ≡ Err BusFault → IsCut view command old new
-    cut_done is_honest known bus = cut_put view old.engine new.engine command device.engine kind n body bytes changes may.within gives
+    cut_done is_honest known bus = cut_put view old.engine new.engine command device.engine kind n bytes bytes changes may.within gives
         (λ s w. subst (λ ro. ArrayStep old.engine.geometry (record { array = array_of old.engine.geometry (image_in view.flash old.engine); ro = ro }) command (reply_of (Ok tt)) s) may.writable
         (takes (reply_of (Ok tt)) s (subst (λ ro. WriteStep old.engine.geometry (record { array = array_of old.engine.geometry (image_in view.flash old.engine); ro = ro }) n bytes (reply_of (Ok tt)) s) (sym may.writable) w)))
-        (cutting is_honest known (rose_of (answer ≡ Err (call.Engine engine_fault.Bus)) answer (ram new.engine) good_then (λ e. e) bus))
+        (k.cut is_honest known (rose_of (answer ≡ Err (call.Engine engine_fault.Bus)) answer (ram new.engine) good_then (λ e. e) bus))
 
     means_done : view.honest old.engine.nand ≡ true → Knows (ram old.engine) (image_in view.flash old.engine) → replied ≢ Err BusFault → Means view.flash command old replied new
     means_done is_honest known ne =
-        let after = well_device view.flash new new.engine refl (well_ram answer replied good_then n bytes _ _ _ (ram new.engine) (ram new.engine) ends.fault refl ne (truth is_honest known)) in
+        let after = well_device view.flash new new.engine refl (well_ram answer replied good_then n bytes _ _ _ (ram new.engine) (ram new.engine) k.ends.fault refl ne (k.truth is_honest known)) in
         record {
           step = takes _ _
               (step_of old.engine.geometry new.engine.geometry n bytes (image_in view.flash old.engine) (image_in view.flash new.engine) (ram old.engine)
-              (ram new.engine) old.read_only new.read_only good_then may.within may.writable device'.read_only ends.geometry answer ends.tells
-              (truth is_honest known) ne);
+              (ram new.engine) old.read_only new.read_only good_then may.within may.writable device'.read_only k.ends.geometry answer k.ends.tells
+              (k.truth is_honest known) ne);
           well = after;
-          versions = changed_versions old.engine.geometry n bytes (image_in view.flash old.engine) (image_in view.flash new.engine) (ram new.engine) (ram new.engine) good_then answer (truth is_honest known) ne;
-          mountable = λ most. mountable_after view.flash old.engine new new.engine refl ends.geometry ends.limits device'.engine.memory after most;
+          versions = changed_versions old.engine.geometry n bytes (image_in view.flash old.engine) (image_in view.flash new.engine) (ram new.engine) (ram new.engine) good_then answer (k.truth is_honest known) ne;
+          mountable = λ most. mountable_after view.flash old.engine new new.engine refl k.ends.geometry k.ends.limits device'.engine.memory after most;
         }
 
     change_done : Changes view n command old replied new
     change_done = record {
-      stays = record { limits = ends.limits; honest_is = ends.honest_is; calm_is = ends.calm_is; asked = ends.asked; failed_is = ends.failed_is };
-      refuses = refuses_made view.failed old new may.going may.writable answer ends.fault ends.tells ends.rose;
+      stays = record { limits = k.ends.limits; honest_is = k.ends.die.honest_is; calm_is = k.ends.die.calm_is; asked = k.ends.die.asked; failed_is = k.ends.die.failed_is };
+      refuses = refuses_made view.failed old new may.going may.writable answer k.ends.fault k.ends.tells k.ends.rose;
       refuses_sector = refuses_sector_done;
       programs = programs_done;
-      pins = λ none some. pins_of answer old.engine new.engine (ram new.engine) good_then readies.pins none some;
+      pins = λ none some. pins_of answer old.engine new.engine (ram new.engine) good_then k.readies.pins none some;
       logs = logs_done;
       cut = λ is_honest well going bus. cut_done is_honest (here well) bus;
       means = λ is_honest well ne. means_done is_honest (here well) ne;
-      stale = λ is_honest well none unpinned is e. readies.cached (stale_law (ram old.engine) _ n well.truth (none_moved (ram old.engine) none (unpinned_moved (ram old.engine) (device.calm may.going) unpinned)) may.within is) (memory_only answer replied good_then (ram new.engine) refl e);
+      stale = λ is_honest well none unpinned is e. k.readies.cached (stale_law (ram old.engine) _ n well.truth (none_moved (ram old.engine) none (unpinned_moved (ram old.engine) (device.calm may.going) unpinned)) may.within is) (memory_only answer replied good_then (ram new.engine) refl e);
     }
 
   -- the device noted nothing else
   pub changed_by : (mid : Engine N) (good : ℕ) (answer : Result (Unit {0}) CallFault) (result : Result (Unit {0}) DeviceFault) → new.engine ≡ mid
-      → good ≡ good_then → result ≡ answer_of (ram new.engine) good answer → EndsCall view old.engine answer mid → Cutting mid answer
-      → Readies view n 2 old.engine answer mid
-      → OnOk answer (HasCost n (ram old.engine) (ram mid)) → OnOk answer (HasLookedUp n (ram old.engine) (ram mid) (page_in mid.scratch)) → Pages mid answer → Newest mid answer → Holds mid answer → Changes view n command old result new
-  changed_by mid good answer result same many is ends cutting readies cost checked page newest truth =
-      let E : Engine N → Type 0 = λ e. EndsCall view old.engine answer e in
-      let U : Engine N → Type 0 = λ e. Cutting e answer in
-      let R : Engine N → Type 0 = λ e. Readies view n 2 old.engine answer e in
-      let C : Engine N → Type 0 = λ e. OnOk answer (HasCost n (ram old.engine) (ram e)) in
-      let L : Engine N → Type 0 = λ e. OnOk answer (HasLookedUp n (ram old.engine) (ram e) (page_in e.scratch)) in
-      let P : Engine N → Type 0 = λ e. Pages e answer in
-      let Q : Engine N → Type 0 = λ e. Newest e answer in
-      let T : Engine N → Type 0 = λ e. Holds e answer in
-      let done = change_done answer (subst E (sym same) ends) (subst U (sym same) cutting) (subst R (sym same) readies) (subst C (sym same) cost) (subst L (sym same) checked) (subst P (sym same) page) (subst Q (sym same) newest) (subst T (sym same) truth) in
+      → good ≡ good_then → result ≡ answer_of (ram new.engine) good answer → EndsChange view kind n bytes command old.engine answer mid → Changes view n command old result new
+  changed_by mid good answer result same many is kept =
+      let done = change_done answer (subst (EndsChange view kind n bytes command old.engine answer) (sym same) kept) in
       subst (λ r. Changes view n command old r new) (sym (is ∙ ap (λ k. answer_of (ram new.engine) k answer) many)) done
 
 -- ---- it was refused at once

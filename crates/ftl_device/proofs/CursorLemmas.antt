@@ -1,5 +1,5 @@
 -- Where a look for pages of version 1 goes on.
-use Rattle.std.proofs.Common.{◌≡◌, ◌≢◌, inl, inr, ℕ, ◌≤◌, true, Option, None, Some, Result, Err, MatchResult, IfErr, refl, ap, subst, arith}
+use Rattle.std.proofs.Common.{◌≡◌, ◌≢◌, inl, inr, ℕ, ◌≤◌, true, Option, None, Some, Result, Err, IfErr, refl, ap, subst, arith}
 use Rattle.std.specs.Option.{ForSome}
 use Rattle.std.proofs.lemmas.Bool.{cases_lt}
 use Rattle.page_layout.specs.View.{View}
@@ -20,10 +20,10 @@ use Rattle.ftl_device.specs.declared.device.Device.{Device}
 use Rattle.ftl_device.specs.declared.fault.CallFault.{CallFault}
 use Rattle.ftl_device.specs.declared.fault.CallFault.TheVariants as call
 use Rattle.ftl_device.specs.Device.{IsDevice}
-use Rattle.ftl_device.specs.Calls.{Knows, KeepsArray, CallRefused}
+use Rattle.ftl_device.specs.Calls.{Knows}
 use Rattle.ftl_device.specs.Flush.{MayFlush}
 use Rattle.ftl_device.specs.Shortage.{HasFunds, CallShort}
-use Rattle.ftl_device.specs.Changes.{EngineLeaves, EndsCall}
+use Rattle.ftl_device.specs.Changes.{EngineLeaves, EndsKept}
 use Rattle.ftl_device.specs.Migrate.{FindsFrom}
 use Rattle.ftl_device.proofs.LeaveLemmas.{leaves_by}
 use Rattle.ftl_device.proofs.MigrateLemmas.{look_tells}
@@ -84,20 +84,14 @@ module _ {N : Type 0} (view : View N) where
   leaves_look old new result none stands still faults stops cut = leaves_by view old new result none stands (ap (λ (r : Ram). r.geometry) still) (look_tells result (ram old) (ram new) (ap (λ (r : Ram). r.blocks) still) faults) stops cut
 
   -- what is known of a turn, or of a page brought forward, as the part ends that asks the die
-  pub kept_ready : (old : Device N) (mid : Engine N) (answer : Result (Unit {0}) CallFault) → IsDevice view.flash old → MayFlush (ram old.engine) old.read_only → EndsCall view old.engine answer mid
-      → (view.honest old.engine.nand ≡ true → Knows (ram old.engine) (image_in view.flash old.engine) → answer ≡ Err (call.Engine Bus) → CutsSafely view old.engine mid) → answer ≢ Err call.OutOfMemory
-      → (view.honest old.engine.nand ≡ true → Knows (ram old.engine) (image_in view.flash old.engine)
-      → MatchResult answer (λ _. KeepsArray old.engine.geometry (image_in view.flash old.engine) (ram mid) (image_in view.flash mid))
-      (CallRefused old.engine.geometry (image_in view.flash old.engine) (ram mid) (image_in view.flash mid)))
+  pub kept_ready : (old : Device N) (mid : Engine N) (answer : Result (Unit {0}) CallFault) → IsDevice view.flash old → MayFlush (ram old.engine) old.read_only → EndsKept view old.engine answer mid → answer ≢ Err call.OutOfMemory
       → (HasFunds (view.honest old.engine.nand) (ram old.engine) (image_in view.flash old.engine) → 5 ≤ free_count (ram old.engine).blocks → CallShort (ram old.engine) (ram mid) answer)
       → IsUpkept view step.Turn old answer mid
-  kept_ready old mid answer device may ends cut memory truth count = record {
-    ends = ends;
-    cut = cut;
+  kept_ready old mid answer device may kept memory count = record {
+    kept = kept;
     no_memory = memory;
-    truth = truth;
     lacks = λ is_honest w fault is. short is_honest w;
-    left = λ is_honest w log ro flag on. left_after view step.Turn old.engine mid mid log old.read_only ro answer _ _ refl refl device.engine.memory ends.safe.memory ends.geometry flag on (short is_honest w);
+    left = λ is_honest w log ro flag on. left_after view step.Turn old.engine mid mid log old.read_only ro answer _ _ refl refl device.engine.memory kept.ends.safe.memory kept.ends.geometry flag on (short is_honest w);
     worth = λ is_honest w log its. (let no : ⊥ = cc in absurd no);
   }
     where

@@ -2,8 +2,6 @@
 use Rattle.std.proofs.Common.{◌≡◌, ◌≢◌, ℕ, ◌≤◌, ◌∙◌, true, None, Option, Some, Result, Ok, Err, sym, ap, subst, arith}
 use Rattle.std.specs.Map.{keys_of}
 use Rattle.page_layout.specs.View.{View}
-use Rattle.page_layout.specs.DieCalls.{AsksOnly}
-use Rattle.page_layout.proofs.AskedLemmas.{asks_then}
 use Rattle.page_layout.specs.Counter.{HasRisen}
 use Rattle.bad_blocks.specs.Table.{good_count}
 use Rattle.budget.specs.declared.stream.Stream.TheVariants.{Data}
@@ -28,7 +26,8 @@ use Rattle.ftl_device.specs.Calls.{Tells, CallTells, IsReady, standing_after, Kn
 use Rattle.collection.specs.Settle.{HasSettled}
 use Rattle.ftl_device.specs.Read.{IsLookedUp}
 use Rattle.ftl_device.specs.Shortage.{HasFunds}
-use Rattle.ftl_device.specs.Changes.{EndsCall, Readies, HasLookedUp}
+use Rattle.ftl_device.specs.Changes.{StaysDie, EndsCall, Readies, HasLookedUp}
+use Rattle.ftl_device.proofs.DieLemmas.{die_then}
 use Rattle.ftl_device.proofs.ReadyLemmas.{recent_kept}
 use Rattle.collection.proofs.Lefts.{calm_law}
 use Rattle.ftl_device.proofs.PrepareLemmas.{beside_now, limits_loaded, went_loaded}
@@ -55,18 +54,15 @@ ended fault = Err fault
 module _ {N : Type 0} (view : View N) where
   -- ---- nothing was made ready
 
-  pub ends_refused : (old new : Engine N) (fault : EngineFault) → IsSafe view.flash new → new.fault ≡ Some fault → new.geometry ≡ old.geometry → view.honest new.nand ≡ view.honest old.nand → view.calm new.nand ≡ view.calm old.nand
-      → AsksOnly view.called old.nand new.nand → view.failed old.nand ≤ view.failed new.nand → (fault ≡ Bus → HasRisen (view.failed old.nand) (view.failed new.nand)) → HasLimitsOf old.mapping new.mapping → Tells {A = Option ℕ} (ram old) (ram new) (Err fault)
+  pub ends_refused : (old new : Engine N) (fault : EngineFault) → IsSafe view.flash new → new.fault ≡ Some fault → new.geometry ≡ old.geometry → StaysDie view old.nand new.nand
+      → (fault ≡ Bus → HasRisen (view.failed old.nand) (view.failed new.nand)) → HasLimitsOf old.mapping new.mapping → Tells {A = Option ℕ} (ram old) (ram new) (Err fault)
       → (view.honest old.nand ≡ true → fault ≢ Bus → Went (ram old) (view.flash old.nand) (view.recorded old.nand) (ram new) (view.flash new.nand) (view.recorded new.nand))
       → (view.honest old.nand ≡ true → Knows (ram old) (image_in view.flash old) → fault ≢ Bus → StopsSafely view old new) → EndsCall view old (Err (call.Engine fault)) new
-  ends_refused old new fault safe stands geometry as_honest as_calm asked more rose limits tells went stops = record {
+  ends_refused old new fault safe stands geometry die rose limits tells went stops = record {
     safe = safe;
     fault = stands;
     geometry = geometry;
-    honest_is = as_honest;
-    calm_is = as_calm;
-    asked = asked;
-    failed_is = more;
+    die = die;
     rose = λ e. rose (let is : ended (call.Engine fault) ≡ ended (call.Engine Bus) = e in cc);
     limits = limits;
     calm_memory = λ none. (let no : Some fault ≡ None = sym stands ∙ none in let never : ⊥ = cc in absurd never);
@@ -77,8 +73,7 @@ module _ {N : Type 0} (view : View N) where
 
   -- ---- a sector was made ready, and then cached or not
 
-  module _ (old mid : Engine N) (safe : IsSafe view.flash mid) (going : mid.fault ≡ None) (geometry : mid.geometry ≡ old.geometry) (as_honest : view.honest mid.nand ≡ view.honest old.nand) (as_calm : view.calm mid.nand ≡ view.calm old.nand)
-      (asked : AsksOnly view.called old.nand mid.nand) (more : view.failed old.nand ≤ view.failed mid.nand) (limits : HasLimitsOf old.mapping mid.mapping) (calm_mid : IsCalm (ram mid)) (fewer : good_count (ram mid).blocks.table ≤ good_count (ram old).blocks.table)
+  module _ (old mid : Engine N) (safe : IsSafe view.flash mid) (going : mid.fault ≡ None) (geometry : mid.geometry ≡ old.geometry) (die : StaysDie view old.nand mid.nand) (limits : HasLimitsOf old.mapping mid.mapping) (calm_mid : IsCalm (ram mid)) (fewer : good_count (ram mid).blocks.table ≤ good_count (ram old).blocks.table)
       (went : view.honest old.nand ≡ true → Went (ram old) (view.flash old.nand) (view.recorded old.nand) (ram mid) (view.flash mid.nand) (view.recorded mid.nand))
       (stops : view.honest old.nand ≡ true → Knows (ram old) (image_in view.flash old) → StopsSafely view old mid) where
     pub ends_memory : (new : Engine N) → new ≡ mid → EndsCall view old (Err call.OutOfMemory) new
@@ -86,10 +81,7 @@ module _ {N : Type 0} (view : View N) where
       safe = safe;
       fault = going;
       geometry = geometry;
-      honest_is = as_honest;
-      calm_is = as_calm;
-      asked = asked;
-      failed_is = more;
+      die = die;
       rose = λ e. (let is : ended call.OutOfMemory ≡ ended (call.Engine Bus) = e in let no : ⊥ = cc in absurd no);
       limits = limits;
       calm_memory = λ none. calm_mid;
@@ -103,10 +95,7 @@ module _ {N : Type 0} (view : View N) where
       safe = safe';
       fault = ap (λ (e : Engine N). e.fault) is ∙ going;
       geometry = ap (λ (e : Engine N). e.geometry) is ∙ geometry;
-      honest_is = ap (λ (e : Engine N). view.honest e.nand) is ∙ as_honest;
-      calm_is = ap (λ (e : Engine N). view.calm e.nand) is ∙ as_calm;
-      asked = subst (λ (e : Engine N). AsksOnly view.called old.nand e.nand) (sym is) asked;
-      failed_is = subst (λ (e : Engine N). view.failed old.nand ≤ view.failed e.nand) (sym is) more;
+      die = subst (λ (e : Engine N). StaysDie view old.nand e.nand) (sym is) die;
       rose = λ e. (let no : ⊥ = cc in absurd no);
       limits = limits_loaded mid new n row is old.mapping limits;
       calm_memory = λ none. calm_law (ram mid) (ram new) (beside_now mid new n row is) calm_mid;
@@ -117,8 +106,7 @@ module _ {N : Type 0} (view : View N) where
 
   -- ---- a page of it comes after
 
-  module _ (old mid new : Engine N) (made : Unit {0}) (before : EndsCall view old (Ok made) mid) (safe : IsSafe view.flash new) (goes : Goes (ram mid) (ram new)) (as_honest : view.honest new.nand ≡ view.honest mid.nand) (as_calm : view.calm new.nand ≡ view.calm mid.nand)
-      (asked : AsksOnly view.called mid.nand new.nand) (more : view.failed mid.nand ≤ view.failed new.nand) (beside : LeavesPin (ram mid) (ram new)) (no_more : HasNoMore mid.mapping new.mapping) where
+  module _ (old mid new : Engine N) (made : Unit {0}) (before : EndsCall view old (Ok made) mid) (safe : IsSafe view.flash new) (goes : Goes (ram mid) (ram new)) (die : StaysDie view mid.nand new.nand) (beside : LeavesPin (ram mid) (ram new)) (no_more : HasNoMore mid.mapping new.mapping) where
     ended_fault : (answer : Result (Unit {0}) EngineFault) → new.fault ≡ fault_after mid.fault answer → new.fault ≡ standing_after (call_of answer)
     ended_fault (Ok done) is = is ∙ before.fault
     ended_fault (Err fault) is = is
@@ -142,18 +130,15 @@ module _ {N : Type 0} (view : View N) where
       safe = safe;
       fault = ended_fault answer fault;
       geometry = goes.geometry ∙ before.geometry;
-      honest_is = as_honest ∙ before.honest_is;
-      calm_is = as_calm ∙ before.calm_is;
-      asked = asks_then view.called old.nand mid.nand new.nand before.asked asked;
-      failed_is = omega (arith, more, before.failed_is);
-      rose = λ e. risen_over (view.failed old.nand) (view.failed mid.nand) (view.failed new.nand) before.failed_is (ended_rose answer (rose before.fault) e);
+      die = die_then view old.nand mid.nand new.nand before.die die;
+      rose = λ e. risen_over (view.failed old.nand) (view.failed mid.nand) (view.failed new.nand) before.die.failed_is (ended_rose answer (rose before.fault) e);
       limits = limits_then old.mapping mid.mapping new.mapping before.limits no_more.limits;
       calm_memory = λ none. calm_law (ram mid) (ram new) beside (before.calm_memory before.fault);
       tells = ended_tells answer (cost before.fault);
-      went = λ is_honest ne. ended_went answer (went (before.honest_is ∙ is_honest)) is_honest ne;
+      went = λ is_honest ne. ended_went answer (went (before.die.honest_is ∙ is_honest)) is_honest ne;
       stops = λ is_honest k ne.
           let kept = keeps is_honest k in
-          stops_on view old mid new before.geometry before.limits kept.array (before.stops is_honest k (λ e. (let no : ⊥ = cc in no))) (stops (before.honest_is ∙ is_honest) before.fault kept.truth.truth (λ bus. ne (ap call_of bus)));
+          stops_on view old mid new before.geometry before.limits kept.array (before.stops is_honest k (λ e. (let no : ⊥ = cc in no))) (stops (before.die.honest_is ∙ is_honest) before.fault kept.truth.truth (λ bus. ne (ap call_of bus)));
     }
 
 module _ {N : Type 0} (view : View N) (n : ℕ) where

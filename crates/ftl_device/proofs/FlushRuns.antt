@@ -1,8 +1,7 @@
 -- A flush from its begin to its table pages: parts of a call one after another, and the free blocks that they leave.
-use Rattle.std.proofs.Common.{◌≡◌, ◌⊎◌, inl, inr, ℕ, ◌+◌, ◌<◌, ◌≤◌, Bool, true, Result, Ok, Err, refl, sym, ◌∙◌, ap, subst, arith}
+use Rattle.std.proofs.Common.{◌≡◌, inl, inr, ℕ, ◌+◌, ◌<◌, ◌≤◌, None, Result, Ok, Err, sym, ◌∙◌, subst, arith}
 use Rattle.std.proofs.lemmas.Bool.{cases_eq}
 use Rattle.page_layout.specs.View.{View}
-use Rattle.page_layout.specs.declared.geometry.Geometry.{Geometry}
 use Rattle.page_layout.specs.Geometry.{translation_pages}
 use Rattle.bad_blocks.specs.Table.{good_count}
 use Rattle.budget.specs.Spending.{IsFunded}
@@ -13,15 +12,15 @@ use Rattle.collection.specs.declared.engine.room.Reserve.TheVariants as reserve
 use Rattle.collection.specs.declared.fault.EngineFault.{EngineFault}
 use Rattle.collection.specs.State.{Ram}
 use Rattle.collection.specs.Safe.{IsRam, ram, image_in}
+use Rattle.collection.specs.Left.{IsCalm}
 use Rattle.collection.specs.Room.{wanted}
 use Rattle.collection.specs.Collect.{RoomCounts}
-use Rattle.ftl_device.specs.declared.fault.CallFault.{CallFault}
 use Rattle.ftl_device.specs.declared.fault.CallFault.TheVariants as call
-use Rattle.ftl_device.specs.Calls.{Tells, Knows, KeepsArray, CallRefused}
-use Rattle.ftl_device.specs.Changes.{EngineLeaves}
+use Rattle.ftl_device.specs.Calls.{Tells}
+use Rattle.ftl_device.specs.Changes.{EngineLeaves, EngineKeeps, EndsKept, FlushesOn}
 use Rattle.ftl_device.specs.Shortage.{SpendsPages, FlushFunded, FlushCounts, FlushShort}
 use Rattle.ftl_device.proofs.StoppedLemmas.{KeepsOn}
-use Rattle.ftl_device.proofs.LeaveLemmas.{leaves_then}
+use Rattle.ftl_device.proofs.LeaveLemmas.{leaves_then, leaves_done, leaves_ends, kept_stuck}
 use Rattle.ftl_device.proofs.FlushLoops.{limits_then, keeps_then, keeps_refused}
 use Rattle.ftl_device.proofs.FlushRooms.{HasTableRoom, spends_then, spends_most, pages_leave, pages_refused}
 use Rattle.ftl_device.proofs.SpentLemmas.{flush_first, flush_room, table_room}
@@ -38,7 +37,7 @@ module _ {N : Type 0} (view : View N) (a b c : Engine N) (first : Passes view a 
   keeps_on : KeepsOn view b c → KeepsOn view a c
   keeps_on next is_honest k =
       let before = first.keeps is_honest k in
-      keeps_then a.geometry (ram b) (ram c) (image_in view.flash a) (image_in view.flash b) (image_in view.flash c) first.leaves.geometry before (next (first.leaves.honest_is ∙ is_honest) before.truth)
+      keeps_then a.geometry (ram b) (ram c) (image_in view.flash a) (image_in view.flash b) (image_in view.flash c) first.leaves.geometry before (next (first.leaves.die.honest_is ∙ is_honest) before.truth)
 
   pub passes_then : Passes view b c → Passes view a c
   passes_then next = record {
@@ -48,31 +47,48 @@ module _ {N : Type 0} (view : View N) (a b c : Engine N) (first : Passes view a 
   }
 
   -- and one that is refused after it
-  pub refused_then : (fault : EngineFault) → EngineLeaves {A = Unit {0}} view b (Err fault) c → EngineLeaves {A = Unit {0}} view a (Err fault) c
+  refused_then : (fault : EngineFault) → EngineLeaves {A = Unit {0}} view b (Err fault) c → EngineLeaves {A = Unit {0}} view a (Err fault) c
   refused_then fault next = leaves_then view a b c tt (Err fault) first.keeps first.limits first.leaves next
 
-  pub array_then : (fault : EngineFault) → (view.honest b.nand ≡ true → Knows (ram b) (image_in view.flash b) → CallRefused b.geometry (image_in view.flash b) (ram c) (image_in view.flash c) (call.Engine fault))
-      → view.honest a.nand ≡ true → Knows (ram a) (image_in view.flash a) → CallRefused a.geometry (image_in view.flash a) (ram c) (image_in view.flash c) (call.Engine fault)
+  array_then : (fault : EngineFault) → EngineKeeps view b (Err fault) c → EngineKeeps view a (Err fault) c
   array_then fault next is_honest k =
       let before = first.keeps is_honest k in
-      keeps_refused a.geometry (ram b) (ram c) (image_in view.flash a) (image_in view.flash b) (image_in view.flash c) fault first.leaves.geometry before (next (first.leaves.honest_is ∙ is_honest) before.truth)
+      keeps_refused a.geometry (ram b) (ram c) (image_in view.flash a) (image_in view.flash b) (image_in view.flash c) fault first.leaves.geometry before (next (first.leaves.die.honest_is ∙ is_honest) before.truth)
+
+  pub stuck_then : (fault : EngineFault) → EngineLeaves {A = Unit {0}} view b (Err fault) c → HasLimitsOf b.mapping c.mapping → EngineKeeps view b (Err fault) c → EndsKept view a (Err (call.Engine fault)) c
+  stuck_then fault leaves limits keeps = kept_stuck view a c fault (refused_then fault leaves) (limits_then a.mapping b.mapping c.mapping first.limits limits) (array_then fault keeps)
+
+  -- and the last one, whatever it gives
+  pub kept_then : {A : Type 0} (x : A) → EngineLeaves view b (Ok x) c → HasLimitsOf b.mapping c.mapping → (c.fault ≡ None → IsCalm (ram c)) → KeepsOn view b c → EndsKept view a (Ok tt) c
+  kept_then x leaves limits calm keeps = record {
+    ends = leaves_ends view a c (Ok tt) (leaves_done view a c x tt (leaves_then view a b c tt (Ok x) first.keeps first.limits first.leaves leaves)) (limits_then a.mapping b.mapping c.mapping first.limits limits) calm;
+    cut = λ is_honest k bus. (let no : ⊥ = cc in absurd no);
+    truth = keeps_on keeps;
+  }
 
 -- one, two and three of them, by what their calls say
 module _ {N : Type 0} (view : View N) where
-  pub passed_1 : (a b : Engine N) → EngineLeaves {A = Unit {0}} view a (Ok tt) b → HasLimitsOf a.mapping b.mapping → KeepsOn view a b → Passes view a b
-  passed_1 a b leaves limits keeps = record { leaves = leaves; limits = limits; keeps = keeps }
+  pub passed_1 : (a b : Engine N) → FlushesOn view a (Ok tt) b → Passes view a b
+  passed_1 a b on = record { leaves = on.leaves; limits = on.keys.limits; keeps = on.truth }
 
-  pub passed_more : (a b c : Engine N) → Passes view a b → EngineLeaves {A = Unit {0}} view b (Ok tt) c → HasLimitsOf b.mapping c.mapping → KeepsOn view b c → Passes view a c
-  passed_more a b c first leaves limits keeps = passes_then view a b c first (passed_1 b c leaves limits keeps)
+  pub passed_2 : (a b c : Engine N) → FlushesOn view a (Ok tt) b → FlushesOn view b (Ok tt) c → Passes view a c
+  passed_2 a b c first next = passes_then view a b c (passed_1 a b first) (passed_1 b c next)
 
-  pub passed_2 : (a b c : Engine N) → EngineLeaves {A = Unit {0}} view a (Ok tt) b → HasLimitsOf a.mapping b.mapping → KeepsOn view a b
-      → EngineLeaves {A = Unit {0}} view b (Ok tt) c → HasLimitsOf b.mapping c.mapping → KeepsOn view b c → Passes view a c
-  passed_2 a b c leaves limits keeps next size on = passed_more a b c (passed_1 a b leaves limits keeps) next size on
+  pub passed_3 : (a b c d : Engine N) → FlushesOn view a (Ok tt) b → FlushesOn view b (Ok tt) c → FlushesOn view c (Ok tt) d → Passes view a d
+  passed_3 a b c d first next last = passes_then view a c d (passed_2 a b c first next) (passed_1 c d last)
 
-  pub passed_3 : (a b c d : Engine N) → EngineLeaves {A = Unit {0}} view a (Ok tt) b → HasLimitsOf a.mapping b.mapping → KeepsOn view a b
-      → EngineLeaves {A = Unit {0}} view b (Ok tt) c → HasLimitsOf b.mapping c.mapping → KeepsOn view b c
-      → EngineLeaves {A = Unit {0}} view c (Ok tt) d → HasLimitsOf c.mapping d.mapping → KeepsOn view c d → Passes view a d
-  passed_3 a b c d leaves limits keeps next size on last sized more = passed_more a c d (passed_2 a b c leaves limits keeps next size on) last sized more
+  -- one more of them, whatever it answers
+  pub flushes_then : (a b c : Engine N) → FlushesOn view a (Ok tt) b → (result : Result (Unit {0}) EngineFault) → FlushesOn view b result c → FlushesOn view a result c
+  flushes_then a b c first (Ok done) next =
+      let both = passes_then view a b c (passed_1 a b first) (record { leaves = next.leaves; limits = next.keys.limits; keeps = next.truth }) in
+      record { leaves = both.leaves; keys = record { limits = both.limits; keys = next.keys.keys ∙ first.keys.keys }; calm = next.calm; pins = λ none. next.pins (first.pins none); truth = both.keeps }
+  flushes_then a b c first (Err fault) next = record {
+    leaves = refused_then view a b c (passed_1 a b first) fault next.leaves;
+    keys = record { limits = limits_then a.mapping b.mapping c.mapping first.keys.limits next.keys.limits; keys = next.keys.keys ∙ first.keys.keys };
+    calm = tt;
+    pins = tt;
+    truth = array_then view a b c (passed_1 a b first) fault next.truth;
+  }
 
 -- ---- free blocks
 

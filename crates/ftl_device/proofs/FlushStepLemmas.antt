@@ -28,14 +28,14 @@ use Rattle.collection.specs.Left.{LeavesPin}
 use Rattle.collection.specs.Acts.{Stands}
 use Rattle.collection.specs.Cost.{HasPut, WriteBackCosts}
 use Rattle.collection.specs.Pages.{newest_row}
-use Rattle.collection.specs.Results.{Goes, IsLastPage, IsWritten, IsWrittenBack, IsTabled, Refused, last_record}
+use Rattle.collection.specs.Results.{Goes, IsLastPage, IsSame, IsWritten, IsWrittenBack, IsTabled, Refused, last_record}
 use Rattle.ftl_device.specs.declared.fault.CallFault.{CallFault}
 use Rattle.ftl_device.specs.declared.fault.DeviceFault.{DeviceFault}
 use Rattle.ftl_device.specs.declared.fault.CallFault.TheVariants as call
-use Rattle.ftl_device.specs.Calls.{Knows, KeepsArray, CallRefused, HasMadeRoom, HasPage, OneKindLaw, WriteOrTrimLaw, answer_of}
-use Rattle.ftl_device.specs.Changes.{EngineLeaves}
+use Rattle.ftl_device.specs.Calls.{Knows, KeepsArray, HasMadeRoom, HasPage, OneKindLaw, WriteOrTrimLaw, answer_of}
+use Rattle.ftl_device.specs.Changes.{EngineLeaves, EngineKeeps}
 use Rattle.ftl_device.specs.Flush.{IsClean}
-use Rattle.ftl_device.specs.FlushSteps.{HasBegunFlush, HasCleared, WritesBack, FlushesPage, FlushesPages, WritesTable, WritesFirst, HasRound, Repeats, WritesRounds, HasFlushed, CleanFlushLaw, FailedFlushLaw, LackingPageLaw}
+use Rattle.ftl_device.specs.FlushSteps.{GoesHonestly, HasBegunFlush, HasCleared, WritesBack, FlushesPage, FlushesPages, WritesTable, WritesFirst, HasRound, Repeats, WritesRounds, HasFlushed, CleanFlushLaw, FailedFlushLaw, LackingPageLaw}
 use Rattle.ftl_device.proofs.CallLemmas.{done_too}
 use Rattle.ftl_device.proofs.FlushLoops.{keeps_same, engine_keeps}
 
@@ -66,7 +66,7 @@ module _ {N : Type 0} (view : View N) where
   cleared_by old mid done leaves room still keeps = record {
     room = room;
     still = still;
-    honest_is = leaves.honest_is;
+    honest_is = leaves.die.honest_is;
     goes = λ is_honest k. record { went = leaves.went is_honest (λ bus. (let no : ⊥ = cc in no)); keeps = keeps is_honest k };
   }
 
@@ -78,24 +78,30 @@ module _ {N : Type 0} (view : View N) where
   begun_by old mid done leaves still room keeps = record {
     still = still;
     room = room;
-    honest_is = leaves.honest_is;
+    honest_is = leaves.die.honest_is;
     goes = λ is_honest k. record { went = leaves.went is_honest (λ bus. (let no : ⊥ = cc in no)); keeps = keeps is_honest k };
   }
 
   -- the same by what is answered
   pub cleared_ok : (old mid : Engine N) (result : Result (Unit {0}) EngineFault) → old.mapping.share ≡ 0 → EngineLeaves view old result mid → OnOk result (HasMadeRoom 9 true (ram old) (ram mid))
-      → (view.honest old.nand ≡ true → Knows (ram old) (image_in view.flash old)
-      → MatchResult result (λ done. KeepsArray old.geometry (image_in view.flash old) (ram mid) (image_in view.flash mid)) (λ fault. CallRefused old.geometry (image_in view.flash old) (ram mid) (image_in view.flash mid) (call.Engine fault)))
+      → EngineKeeps view old result mid
       → OnOk result (HasCleared view old mid)
   cleared_ok old mid (Ok done) none leaves room keeps = cleared_by old mid done leaves (λ same. room) (λ some. absurd (omega (arith, none, some))) keeps
   cleared_ok old mid (Err fault) none leaves room keeps = tt
 
   pub begun_ok : (old mid : Engine N) (result : Result (Unit {0}) EngineFault) → 0 < old.mapping.share → EngineLeaves view old result mid → OnOk result (HasMadeRoom (wanted reserve.Flush (ram old)) false (ram old) (ram mid))
-      → (view.honest old.nand ≡ true → Knows (ram old) (image_in view.flash old)
-      → MatchResult result (λ done. KeepsArray old.geometry (image_in view.flash old) (ram mid) (image_in view.flash mid)) (λ fault. CallRefused old.geometry (image_in view.flash old) (ram mid) (image_in view.flash mid) (call.Engine fault)))
+      → EngineKeeps view old result mid
       → OnOk result (HasBegunFlush view old mid)
   begun_ok old mid (Ok done) some leaves room keeps = begun_by old mid done leaves (λ none. absurd (omega (arith, none, some))) (λ any. room) keeps
   begun_ok old mid (Err fault) some leaves room keeps = tt
+
+  -- a page was programmed, and the array stays
+  goes_by : (mid new : Engine N) (done : Unit {0}) → IsRam (ram mid) → IsRam (ram new) → LeavesPin (ram mid) (ram new) → Stands view mid new (Ok done)
+      → (view.honest mid.nand ≡ true → IsTrue None (ram mid) (image_in view.flash mid) → IsSame (ram mid) (image_in view.flash mid) (ram new) (image_in view.flash new)) → GoesHonestly view mid new
+  goes_by mid new done s s' beside stands same = λ is_honest k. record {
+    went = stands.went is_honest (λ bus. (let no : ⊥ = cc in no));
+    keeps = engine_keeps mid.geometry (ram mid) (ram new) (image_in view.flash mid) (image_in view.flash mid) (image_in view.flash new) refl s s' beside (keeps_same (ram mid) (image_in view.flash mid) k) (same is_honest k.truth);
+  }
 
   -- a translation page was written back
   pub written_back : (t : ℕ) (mid new : Engine N) (result : Result (Unit {0}) EngineFault) → IsRam (ram mid) → IsRam (ram new) → LeavesPin (ram mid) (ram new) → Goes (ram mid) (ram new) → Stands view mid new result
@@ -108,10 +114,7 @@ module _ {N : Type 0} (view : View N) where
     page = page;
     mapping = mapping;
     honest_is = stands.honest_is;
-    goes = λ is_honest k. record {
-      went = stands.went is_honest (λ bus. (let no : ⊥ = cc in no));
-      keeps = engine_keeps mid.geometry (ram mid) (ram new) (image_in view.flash mid) (image_in view.flash mid) (image_in view.flash new) refl s s' beside (keeps_same (ram mid) (image_in view.flash mid) k) (truth is_honest k.truth).same;
-    };
+    goes = goes_by mid new done s s' beside stands (λ is_honest true_of. (truth is_honest true_of).same);
     means = λ is_honest k. truth is_honest k.truth;
   }
   written_back t mid new (Err fault) s s' beside blocks stands mapping page cost truth = tt
@@ -140,10 +143,7 @@ module _ {N : Type 0} (view : View N) where
     spelled = spelled;
     mapping = mapping;
     honest_is = stands.honest_is;
-    goes = λ is_honest k. record {
-      went = stands.went is_honest (λ bus. (let no : ⊥ = cc in no));
-      keeps = engine_keeps mid.geometry (ram mid) (ram new) (image_in view.flash mid) (image_in view.flash mid) (image_in view.flash new) refl s s' beside (keeps_same (ram mid) (image_in view.flash mid) k) (truth is_honest k.truth).same;
-    };
+    goes = goes_by mid new done s s' beside stands (λ is_honest true_of. (truth is_honest true_of).same);
     means = λ is_honest k. truth is_honest k.truth;
   }
 

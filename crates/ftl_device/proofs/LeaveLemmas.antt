@@ -1,8 +1,6 @@
 -- Calls of the engine one after another, where no fault stood.
 use Rattle.std.proofs.Common.{◌≡◌, ◌≢◌, ◌<◌, ◌≤◌, ◌∙◌, true, None, Some, Result, Ok, Err, refl, ap, arith}
 use Rattle.page_layout.specs.View.{View}
-use Rattle.page_layout.specs.DieCalls.{AskedNothing}
-use Rattle.page_layout.proofs.AskedLemmas.{asks_then}
 use Rattle.bad_blocks.specs.Table.{good_count}
 use Rattle.mapping_cache.specs.Mapping.{MappingState, HasLimitsOf}
 use Rattle.collection.specs.declared.engine.Engine.{Engine}
@@ -22,8 +20,9 @@ use Rattle.collection.proofs.Costs.{risen_over}
 use Rattle.collection.proofs.Logs.{went_same, went_then}
 use Rattle.ftl_device.specs.declared.fault.CallFault.{CallFault}
 use Rattle.ftl_device.specs.declared.fault.CallFault.TheVariants as call
-use Rattle.ftl_device.specs.Calls.{Tells, CallTells, standing_after, Knows}
-use Rattle.ftl_device.specs.Changes.{EngineLeaves, EndsCall}
+use Rattle.ftl_device.specs.Calls.{Tells, CallTells, standing_after, Knows, CallRefused}
+use Rattle.ftl_device.specs.Changes.{EngineLeaves, EndsCall, EndsKept}
+use Rattle.ftl_device.proofs.DieLemmas.{die_same, die_then, die_of}
 use Rattle.ftl_device.proofs.EndLemmas.{call_of}
 use Rattle.ftl_device.proofs.StoppedLemmas.{KeepsOn, cuts_on, stops_same, stops_still, stops_on}
 
@@ -42,7 +41,7 @@ call_fault : (result : Result (Unit {0}) EngineFault) (r : Ram) → r.fault ≡ 
 call_fault (Ok done) r is = is
 call_fault (Err fault) r is = is
 
-call_bus : (result : Result (Unit {0}) EngineFault) → call_of result ≡ Err (call.Engine Bus) → result ≡ Err Bus
+pub call_bus : (result : Result (Unit {0}) EngineFault) → call_of result ≡ Err (call.Engine Bus) → result ≡ Err Bus
 call_bus (Ok done) e = (let no : ⊥ = cc in absurd no)
 call_bus (Err fault) e = (let same : fault ≡ Bus = cc in ap Err same)
 
@@ -72,10 +71,7 @@ module _ {N : Type 0} (view : View N) where
     safe = s.safe;
     fault = fault_noted result (ram old) (ram new) none s.fault;
     geometry = same;
-    honest_is = s.honest_is;
-    calm_is = s.calm_is;
-    asked = s.asked;
-    failed_is = s.failed_is;
+    die = die_of view old new result s;
     rose = s.rose none;
     tells = tells;
     went = s.went;
@@ -89,10 +85,7 @@ module _ {N : Type 0} (view : View N) where
     safe = safe;
     fault = none;
     geometry = refl;
-    honest_is = refl;
-    calm_is = refl;
-    asked = AskedNothing;
-    failed_is = omega arith;
+    die = die_same view e.nand;
     rose = λ bus. (let no : ⊥ = cc in absurd no);
     tells = omega arith;
     went = λ is_honest ne. went_same (ram e) (view.flash e.nand) (view.recorded e.nand);
@@ -115,19 +108,16 @@ module _ {N : Type 0} (view : View N) where
     safe = next.safe;
     fault = next.fault;
     geometry = next.geometry ∙ first.geometry;
-    honest_is = next.honest_is ∙ first.honest_is;
-    calm_is = next.calm_is ∙ first.calm_is;
-    asked = asks_then view.called old.nand mid.nand new.nand first.asked next.asked;
-    failed_is = omega (arith, first.failed_is, next.failed_is);
-    rose = λ bus. risen_over (view.failed old.nand) (view.failed mid.nand) (view.failed new.nand) first.failed_is (next.rose bus);
+    die = die_then view old.nand mid.nand new.nand first.die next.die;
+    rose = λ bus. risen_over (view.failed old.nand) (view.failed mid.nand) (view.failed new.nand) first.die.failed_is (next.rose bus);
     tells = tells_then (ram old) (ram mid) (ram new) result first.tells next.tells;
-    went = λ is_honest ne. went_then (ram old) (ram mid) (ram new) _ _ _ _ _ _ first.geometry (first.went is_honest (λ bus. (let no : ⊥ = cc in no))) (next.went (first.honest_is ∙ is_honest) ne);
+    went = λ is_honest ne. went_then (ram old) (ram mid) (ram new) _ _ _ _ _ _ first.geometry (first.went is_honest (λ bus. (let no : ⊥ = cc in no))) (next.went (first.die.honest_is ∙ is_honest) ne);
     stops = λ is_honest k ne.
         let kept = keeps is_honest k in
-        stops_on view old mid new first.geometry limits kept.array (first.stops is_honest k (λ bus. (let no : ⊥ = cc in no))) (next.stops (first.honest_is ∙ is_honest) kept.truth ne);
+        stops_on view old mid new first.geometry limits kept.array (first.stops is_honest k (λ bus. (let no : ⊥ = cc in no))) (next.stops (first.die.honest_is ∙ is_honest) kept.truth ne);
     cut = λ is_honest k bus.
         let kept = keeps is_honest k in
-        cuts_on view old mid new first.geometry limits kept.array (first.stops is_honest k (λ none. (let no : ⊥ = cc in no))) (next.cut (first.honest_is ∙ is_honest) kept.truth bus);
+        cuts_on view old mid new first.geometry limits kept.array (first.stops is_honest k (λ none. (let no : ⊥ = cc in no))) (next.cut (first.die.honest_is ∙ is_honest) kept.truth bus);
   }
 
   -- a refusal, whatever the call would have given
@@ -136,10 +126,7 @@ module _ {N : Type 0} (view : View N) where
     safe = l.safe;
     fault = l.fault;
     geometry = l.geometry;
-    honest_is = l.honest_is;
-    calm_is = l.calm_is;
-    asked = l.asked;
-    failed_is = l.failed_is;
+    die = l.die;
     rose = λ bus. l.rose (let same : fault ≡ Bus = cc in ap Err same);
     tells = refused_tells A B fault (ram old) (ram new) l.tells;
     went = λ is_honest ne. l.went is_honest (λ bus. ne (let same : fault ≡ Bus = cc in ap Err same));
@@ -155,10 +142,7 @@ module _ {N : Type 0} (view : View N) where
     safe = l.safe;
     fault = call_fault result (ram new) l.fault;
     geometry = l.geometry;
-    honest_is = l.honest_is;
-    calm_is = l.calm_is;
-    asked = l.asked;
-    failed_is = l.failed_is;
+    die = l.die;
     rose = λ bus. l.rose (call_bus result bus);
     limits = limits;
     calm_memory = calm_now;
@@ -175,16 +159,19 @@ module _ {N : Type 0} (view : View N) where
   pub leaves_cut : {A : Type 0} (old new : Engine N) (fault : EngineFault) → EngineLeaves {A = A} view old (Err fault) new → view.honest old.nand ≡ true → Knows (ram old) (image_in view.flash old) → ended fault ≡ ended Bus → CutsSafely view old new
   leaves_cut old new fault l is_honest k bus = l.cut is_honest k (let same : fault ≡ Bus = cc in ap Err same)
 
+  -- and both, where what the refusal says of the image is so
+  pub kept_stuck : (old new : Engine N) (fault : EngineFault) → EngineLeaves {A = Unit {0}} view old (Err fault) new → HasLimitsOf old.mapping new.mapping
+      → (view.honest old.nand ≡ true → Knows (ram old) (image_in view.flash old) → CallRefused old.geometry (image_in view.flash old) (ram new) (image_in view.flash new) (call.Engine fault))
+      → EndsKept view old (Err (call.Engine fault)) new
+  kept_stuck old new fault leaves limits truth = record { ends = leaves_stuck old new fault leaves limits; cut = leaves_cut old new fault leaves; truth = truth }
+
   -- what was done gives what it likes
   pub leaves_done : {A B : Type 0} (old new : Engine N) (a : A) (b : B) → EngineLeaves view old (Ok a) new → EngineLeaves view old (Ok b) new
   leaves_done old new a b l = record {
     safe = l.safe;
     fault = l.fault;
     geometry = l.geometry;
-    honest_is = l.honest_is;
-    calm_is = l.calm_is;
-    asked = l.asked;
-    failed_is = l.failed_is;
+    die = l.die;
     rose = λ bus. (let no : ⊥ = cc in absurd no);
     tells = l.tells;
     went = λ is_honest ne. l.went is_honest (λ bus. (let no : ⊥ = cc in no));

@@ -26,7 +26,10 @@ pub mod ShortageLemmas
 pub mod RoomLemmas
 pub mod PrepareLemmas
 pub mod SpentLemmas
+pub mod DieLemmas
 pub mod EndLemmas
+pub mod SectorLemmas
+pub mod RescueLemmas
 pub mod LeaveLemmas
 pub mod ChangeLemmas
 pub mod MigrateLemmas

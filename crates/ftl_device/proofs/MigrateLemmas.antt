@@ -2,7 +2,6 @@
 use Rattle.std.proofs.Common.{◌≡◌, inl, inr, ℕ, Bool, true, false, Some, Result, Ok, Err, ap, sym, ◌∙◌, subst, arith}
 use Rattle.std.proofs.lemmas.Bool.{cases_Bool}
 use Rattle.page_layout.specs.View.{View}
-use Rattle.page_layout.proofs.AskedLemmas.{asks_then}
 use Rattle.page_layout.specs.declared.geometry.Geometry.{Geometry}
 use Rattle.page_layout.specs.declared.record.Key.{Key}
 use Rattle.page_layout.specs.Page.{Image}
@@ -16,7 +15,7 @@ use Rattle.collection.specs.Collect.{IsRearranged}
 use Rattle.std.specs.Option.{ForSome}
 use Rattle.collection.specs.Results.{IsSame}
 use Rattle.collection.specs.Renew.{HasNoneDue, HasDue, IsRenewedAt}
-use Rattle.std.specs.Prelude.{IfErr, OnOk}
+use Rattle.std.specs.Prelude.{IfErr, OnOk, MatchResult}
 use Rattle.bad_blocks.specs.Table.{good_count}
 use Rattle.allocation.specs.State.{State}
 use Rattle.mapping_cache.specs.Mapping.{HasLimitsOf}
@@ -31,10 +30,11 @@ use Rattle.ftl_device.specs.declared.fault.CallFault.{CallFault}
 use Rattle.ftl_device.specs.declared.fault.CallFault.TheVariants as call
 use Rattle.ftl_device.specs.Calls.{Knows, Tells, CallTells, KeepsArray, CallRefused}
 use Rattle.ftl_device.specs.Shortage.{CallShort}
-use Rattle.ftl_device.specs.Changes.{EngineLeaves, EndsCall}
+use Rattle.ftl_device.specs.Changes.{EngineLeaves, EndsCall, EndsKept}
+use Rattle.ftl_device.proofs.DieLemmas.{die_then}
 use Rattle.ftl_device.proofs.FlushLoops.{keeps_same, limits_then}
+use Rattle.ftl_device.proofs.LeaveLemmas.{leaves_refused, kept_stuck}
 use Rattle.ftl_device.proofs.StoppedLemmas.{KeepsOn, cuts_on, stops_on}
-use Rattle.collection.specs.Stops.{CutsSafely}
 use Rattle.ftl_device.specs.Migrate.{Renews, Migrates}
 use Rattle.ftl_device.proofs.RenewedLemmas.{key_within}
 
@@ -109,7 +109,7 @@ look_short SequenceSpent a b h = absurd h
 look_short Damaged a b h = tt
 look_short Bus a b h = tt
 
-pub look_refused : (fault : EngineFault) (g : Geometry) (x y : Image) (r : Ram) → fault ≡ Bus → CallRefused g x r y (call.Engine fault)
+look_refused : (fault : EngineFault) (g : Geometry) (x y : Image) (r : Ram) → fault ≡ Bus → CallRefused g x r y (call.Engine fault)
 look_refused fault g x y r is = subst (λ f. CallRefused g x r y (call.Engine f)) (sym is) tt
 
 call_tells_then : (a b c : Ram) (result : Result (Unit {0}) CallFault) → b.blocks ≡ a.blocks → CallTells b c result → CallTells a c result
@@ -125,35 +125,43 @@ module _ {N : Type 0} (view : View N) where
   pub keeps_look : (old mid : Engine N) → ram mid ≡ ram old → (view.honest old.nand ≡ true → view.flash mid.nand ≡ view.flash old.nand) → KeepsOn view old mid
   keeps_look old mid same still = λ is_honest k. over (λ r i. KeepsArray old.geometry (image_in view.flash old) r i) (ram mid) (ram old) (image_in view.flash mid) (image_in view.flash old) (sym same) (ap (λ f. f.image) (sym (still is_honest))) (keeps_same (ram old) (image_in view.flash old) k)
 
+  limits_look : (old mid : Engine N) → ram mid ≡ ram old → HasLimitsOf old.mapping mid.mapping
+  limits_look old mid same = record { geometry = ap (λ (r : Ram). r.mapping.geometry) same; capacity = ap (λ (r : Ram). r.mapping.capacity) same; share = ap (λ (r : Ram). r.mapping.share) same }
+
   -- the rest of the call after it
-  pub ends_after : {A : Type 0} (old mid new : Engine N) (x : A) (result : Result (Unit {0}) CallFault) → ram mid ≡ ram old
+  ends_after : {A : Type 0} (old mid new : Engine N) (x : A) (result : Result (Unit {0}) CallFault) → ram mid ≡ ram old
       → (view.honest old.nand ≡ true → view.flash mid.nand ≡ view.flash old.nand) → EngineLeaves view old (Ok x) mid
       → EndsCall view mid result new → EndsCall view old result new
   ends_after old mid new x result same still first next = record {
     safe = next.safe;
     fault = next.fault;
     geometry = next.geometry ∙ first.geometry;
-    honest_is = next.honest_is ∙ first.honest_is;
-    calm_is = next.calm_is ∙ first.calm_is;
-    asked = asks_then view.called old.nand mid.nand new.nand first.asked next.asked;
-    failed_is = omega (arith, first.failed_is, next.failed_is);
-    rose = λ bus. risen_over (view.failed old.nand) (view.failed mid.nand) (view.failed new.nand) first.failed_is (next.rose bus);
-    limits = limits_then _ _ _ limits next.limits;
+    die = die_then view old.nand mid.nand new.nand first.die next.die;
+    rose = λ bus. risen_over (view.failed old.nand) (view.failed mid.nand) (view.failed new.nand) first.die.failed_is (next.rose bus);
+    limits = limits_then _ _ _ (limits_look old mid same) next.limits;
     calm_memory = next.calm_memory;
     tells = call_tells_then (ram old) (ram mid) (ram new) result (ap (λ (r : Ram). r.blocks) same) next.tells;
-    went = λ is_honest ne. went_then (ram old) (ram mid) (ram new) _ _ _ _ _ _ first.geometry (first.went is_honest (λ bus. (let no : ⊥ = cc in no))) (next.went (first.honest_is ∙ is_honest) ne);
+    went = λ is_honest ne. went_then (ram old) (ram mid) (ram new) _ _ _ _ _ _ first.geometry (first.went is_honest (λ bus. (let no : ⊥ = cc in no))) (next.went (first.die.honest_is ∙ is_honest) ne);
     stops = λ is_honest k ne.
         let kept = keeps_look old mid same still is_honest k in
-        stops_on view old mid new first.geometry limits kept.array (first.stops is_honest k (λ bus. (let no : ⊥ = cc in no))) (next.stops (first.honest_is ∙ is_honest) kept.truth ne);
+        stops_on view old mid new first.geometry (limits_look old mid same) kept.array (first.stops is_honest k (λ bus. (let no : ⊥ = cc in no))) (next.stops (first.die.honest_is ∙ is_honest) kept.truth ne);
   }
-    where
-      limits : HasLimitsOf old.mapping mid.mapping
-      limits = record { geometry = ap (λ (r : Ram). r.mapping.geometry) same; capacity = ap (λ (r : Ram). r.mapping.capacity) same; share = ap (λ (r : Ram). r.mapping.share) same }
 
-  -- and where a fault of the die ends it
-  pub cut_after : {A : Type 0} (old mid new : Engine N) (x : A) → ram mid ≡ ram old → (view.honest old.nand ≡ true → view.flash mid.nand ≡ view.flash old.nand) → EngineLeaves view old (Ok x) mid
-      → view.honest old.nand ≡ true → Knows (ram old) (image_in view.flash old) → (Knows (ram mid) (image_in view.flash mid) → CutsSafely view mid new) → CutsSafely view old new
-  cut_after old mid new x same still first is_honest k next =
-      let kept = keeps_look old mid same still is_honest k in
-      cuts_on view old mid new first.geometry (record { geometry = ap (λ (r : Ram). r.mapping.geometry) same; capacity = ap (λ (r : Ram). r.mapping.capacity) same; share = ap (λ (r : Ram). r.mapping.share) same }) kept.array
-      (first.stops is_honest k (λ bus. (let no : ⊥ = cc in no))) (next kept.truth)
+  -- and what it keeps
+  pub kept_after : {A : Type 0} (old mid new : Engine N) (x : A) (result : Result (Unit {0}) CallFault) → ram mid ≡ ram old
+      → (view.honest old.nand ≡ true → view.flash mid.nand ≡ view.flash old.nand) → EngineLeaves view old (Ok x) mid
+      → EndsKept view mid result new → EndsKept view old result new
+  kept_after old mid new x result same still first next = record {
+    ends = ends_after old mid new x result same still first next.ends;
+    cut = λ is_honest k bus.
+        let kept = keeps_look old mid same still is_honest k in
+        cuts_on view old mid new first.geometry (limits_look old mid same) kept.array (first.stops is_honest k (λ none. (let no : ⊥ = cc in no))) (next.cut (first.die.honest_is ∙ is_honest) kept.truth bus);
+    truth = λ is_honest. over (λ r i. Knows r i → MatchResult result (λ done. KeepsArray r.geometry i (ram new) (image_in view.flash new)) (CallRefused r.geometry i (ram new) (image_in view.flash new)))
+        (ram old) (ram mid) (image_in view.flash old) (image_in view.flash mid) same (ap (λ f. f.image) (still is_honest)) (next.truth (first.die.honest_is ∙ is_honest));
+  }
+
+  -- a look that was refused
+  pub look_stuck : {A : Type 0} (old new : Engine N) (fault : EngineFault) → EngineLeaves {A = A} view old (Err fault) new → HasLimitsOf old.mapping new.mapping
+      → (view.honest old.nand ≡ true → Knows (ram old) (image_in view.flash old) → fault ≡ Bus) → EndsKept view old (Err (call.Engine fault)) new
+  look_stuck {A} old new fault leaves limits truth = kept_stuck view old new fault (leaves_refused view A (Unit {0}) old new fault leaves) limits
+      (λ is_honest k. look_refused fault old.geometry (image_in view.flash old) (image_in view.flash new) (ram new) (truth is_honest k))

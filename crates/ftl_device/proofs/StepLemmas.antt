@@ -1,8 +1,7 @@
 -- A step of the pinned block, as a turn takes it.
-use Rattle.std.proofs.Common.{◌≡◌, ◌≢◌, ◌⊎◌, ℕ, ◌+◌, ◌-◌, ◌^◌, ◌<◌, ◌≤◌, ◌==◌, ◌&&◌, ◌||◌, ◌∙◌, inl, inr, not, Bool, true, false, List, [], length, min, IsSome, None, Option, Some, Result, Ok, Err, OnOk, MatchResult, MatchOption, refl, sym, ap, subst, arith}
+use Rattle.std.proofs.Common.{◌≡◌, ◌≢◌, ◌⊎◌, ℕ, ◌+◌, ◌-◌, ◌^◌, ◌<◌, ◌≤◌, ◌==◌, ◌&&◌, ◌||◌, ◌∙◌, inl, inr, not, Bool, true, false, length, min, IsSome, None, Option, Some, Result, Ok, Err, OnOk, MatchResult, MatchOption, refl, sym, ap, subst, arith}
 use Rattle.std.proofs.lemmas.Bool.{cases_lt}
 use Rattle.page_layout.specs.View.{View}
-use Rattle.page_layout.specs.DieCalls.{AskedNothing}
 use Rattle.page_layout.specs.Counter.{counted, HasRisen}
 use Rattle.page_layout.specs.declared.geometry.Geometry.{Geometry}
 use Rattle.page_layout.specs.Page.{Image}
@@ -22,7 +21,7 @@ use Rattle.collection.specs.declared.fault.EngineFault.TheVariants.{ReadOnly, Se
 use Rattle.collection.specs.State.{Ram}
 use Rattle.collection.specs.Safe.{IsSafe, IsRam, is_shut, ram, image_in}
 use Rattle.collection.specs.Truth.{IsTrue}
-use Rattle.collection.specs.Results.{IsSame, Refused}
+use Rattle.collection.specs.Results.{Refused}
 use Rattle.collection.specs.Collect.{waiting, GoesBut, GoesOn, FaultCosts, IsRearranged, HasAiling, HasNoneAiling}
 use Rattle.collection.specs.Left.{IsCalm, IsHalfDone, PinIsFew, PinHasPassed, StepsOn, StepSpends, HasStepped, PinsOn, left, left_in, left_of}
 use Rattle.collection.specs.Turns.{erases_told}
@@ -46,10 +45,11 @@ use Rattle.ftl_device.specs.Calls.{HasMadeRoom, HasRescued}
 use Rattle.ftl_device.specs.Shortage.{LacksGood, CallShort}
 use Rattle.ftl_device.proofs.ShortageLemmas.{leaves_five}
 use Rattle.ftl_device.specs.Changes.{EngineLeaves, CollectsOn}
+use Rattle.ftl_device.proofs.DieLemmas.{die_same}
 use Rattle.ftl_device.proofs.LeaveLemmas.{leaves_same, leaves_then}
 use Rattle.ftl_device.proofs.StoppedLemmas.{stops_same}
 use Rattle.ftl_device.proofs.RoomLemmas.{not_ailing, good_fewer, rescue_worked}
-use Rattle.ftl_device.proofs.PinLemmas.{few_more, unpinned_moved}
+use Rattle.ftl_device.proofs.PinLemmas.{unpinned_moved}
 
 -- ---- the pinned block is closed
 
@@ -250,10 +250,7 @@ module _ {N : Type 0} (view : View N) (e f : Engine N) (block : ℕ) (is : f ≡
     safe = s;
     fault = none;
     geometry = refl;
-    honest_is = refl;
-    calm_is = refl;
-    asked = AskedNothing;
-    failed_is = omega arith;
+    die = die_same view e.nand;
     rose = λ bus. (let no : ⊥ = cc in absurd no);
     tells = omega arith;
     went = λ is_honest ne. (let w = went_same (ram e) (view.flash e.nand) (view.recorded e.nand) in record { log = w.log; leads = w.leads; records = w.records; follows = w.follows; next = w.next; wears = w.wears; numbers = w.numbers });

@@ -16,7 +16,6 @@ use Rattle.collection.specs.declared.fault.EngineFault.TheVariants as engine_fau
 use Rattle.collection.specs.State.{Ram}
 use Rattle.collection.specs.Safe.{ram, image_in}
 use Rattle.collection.specs.Log.{Went}
-use Rattle.collection.specs.Stops.{CutsSafely}
 use Rattle.collection.proofs.Logs.{went_same}
 use Rattle.ftl_device.specs.declared.device.Device.{Device}
 use Rattle.ftl_device.specs.declared.fault.CallFault.{CallFault}
@@ -29,7 +28,7 @@ use Rattle.ftl_device.specs.Calls.{Knows, IsWell, state_in, reply_of, stop_of, C
 use Rattle.ftl_device.specs.Counts.{is_bad_by, is_flush, IsLeftReadOnly}
 use Rattle.ftl_device.specs.Flush.{MayFlush, MayNotFlush, first_of, IsFlushedOut}
 use Rattle.ftl_device.specs.Shortage.{CallShort}
-use Rattle.ftl_device.specs.Changes.{EndsCall, PinsNone, MayPin, Logs, Means, Upkeeps}
+use Rattle.ftl_device.specs.Changes.{EndsKept, PinsNone, MayPin, Logs, Means, Upkeeps}
 use Rattle.ftl_device.proofs.CallLemmas.{well_device, memory_only, mountable_after, went_after}
 use Rattle.ftl_device.proofs.ChangeLemmas.{pins_of, Why, refuses_made, refuses_at_once, rose_of, rose_refusal, stays_same, not_past}
 use Rattle.ftl_device.proofs.PinLemmas.{knows_well}
@@ -97,12 +96,8 @@ module _ {N : Type 0} (view : View N) (command : Command) (old : Device N) where
   -- what is known of the engine as the part ends that asks the die: what a refusal lacks, what leaves the device read-only, and, of a flush,
   -- what the image is worth
   pub record IsUpkept (answer : Result (Unit {0}) CallFault) (e : Engine N) : Type 0 where
-    pub ends : EndsCall view old.engine answer e
-    pub cut : view.honest old.engine.nand ≡ true → Knows (ram old.engine) (image_in view.flash old.engine) → answer ≡ Err (call.Engine engine_fault.Bus) → CutsSafely view old.engine e
+    pub kept : EndsKept view old.engine answer e
     pub no_memory : answer ≢ Err call.OutOfMemory
-    pub truth : view.honest old.engine.nand ≡ true → Knows (ram old.engine) (image_in view.flash old.engine)
-        → MatchResult answer (λ _. KeepsArray old.engine.geometry (image_in view.flash old.engine) (ram e) (image_in view.flash e))
-        (CallRefused old.engine.geometry (image_in view.flash old.engine) (ram e) (image_in view.flash e))
     pub lacks : view.honest old.engine.nand ≡ true → Knows (ram old.engine) (image_in view.flash old.engine) → (fault : CallFault) → answer ≡ Err fault → CallShort (ram old.engine) (ram e) answer
     pub left : view.honest old.engine.nand ≡ true → Knows (ram old.engine) (image_in view.flash old.engine)
         → (w : Went (ram old.engine) (view.flash old.engine.nand) (view.recorded old.engine.nand) (ram e) (view.flash e.nand) (view.recorded e.nand))
@@ -123,34 +118,34 @@ module _ {N : Type 0} (view : View N) (command : Command) (old : Device N) where
 
       logs_done : view.honest old.engine.nand ≡ true → replied ≢ Err BusFault → Logs view command old replied new
       logs_done is_honest ne =
-          let w = went_after view old.engine new.engine new.engine answer replied good_then refl refl (k.ends.went is_honest) ne in
+          let w = went_after view old.engine new.engine new.engine answer replied good_then refl refl (k.kept.ends.went is_honest) ne in
           record {
             went = w;
-            shown = λ well. flush_shown view old.engine new.engine new.engine w old.read_only answer replied good_then refl device.engine.memory k.ends.limits.share k.ends.safe.memory k.ends.geometry refl refl k.ends.tells (k.lacks is_honest (here well)) (k.truth is_honest (here well)) ne;
+            shown = λ well. flush_shown view old.engine new.engine new.engine w old.read_only answer replied good_then refl device.engine.memory k.kept.ends.limits.share k.kept.ends.safe.memory k.kept.ends.geometry refl refl k.kept.ends.tells (k.lacks is_honest (here well)) (k.kept.truth is_honest (here well)) ne;
             left = λ well on. k.left is_honest (here well) w new.read_only device'.read_only on;
             flushed = λ well its done. done_only _ answer good_then (ram new.engine) (k.worth is_honest (here well) w its) done;
-            stopped = λ well. stopped_call view old.engine new.engine command replied w.log device.engine w.records (k.ends.stops is_honest (here well) (λ bus. ne (ap (answer_of (ram new.engine) good_then) bus)))
-                (inl (kept_array old.engine.geometry (image_in view.flash old.engine) (image_in view.flash new.engine) (ram new.engine) (ram new.engine) good_then answer (k.truth is_honest (here well)) ne));
-            dead = λ well. dead_call view old.engine new.engine w.log device.engine w.records (k.ends.stops is_honest (here well) (λ bus. ne (ap (answer_of (ram new.engine) good_then) bus)));
+            stopped = λ well. stopped_call view old.engine new.engine command replied w.log device.engine w.records (k.kept.ends.stops is_honest (here well) (λ bus. ne (ap (answer_of (ram new.engine) good_then) bus)))
+                (inl (kept_array old.engine.geometry (image_in view.flash old.engine) (image_in view.flash new.engine) (ram new.engine) (ram new.engine) good_then answer (k.kept.truth is_honest (here well)) ne));
+            dead = λ well. dead_call view old.engine new.engine w.log device.engine w.records (k.kept.ends.stops is_honest (here well) (λ bus. ne (ap (answer_of (ram new.engine) good_then) bus)));
           }
 
       means_done : view.honest old.engine.nand ≡ true → Knows (ram old.engine) (image_in view.flash old.engine) → replied ≢ Err BusFault → Means view.flash command old replied new
       means_done is_honest known ne =
-          let after = well_device view.flash new new.engine refl (flush_well answer replied good_then _ _ _ (ram new.engine) (ram new.engine) k.ends.fault refl ne (k.truth is_honest known)) in
+          let after = well_device view.flash new new.engine refl (flush_well answer replied good_then _ _ _ (ram new.engine) (ram new.engine) k.kept.ends.fault refl ne (k.kept.truth is_honest known)) in
           record {
             step = takes _ _
                 (quiet_step old.engine.geometry new.engine.geometry (image_in view.flash old.engine) (image_in view.flash new.engine) (ram old.engine)
-                (ram new.engine) old.read_only new.read_only good_then may.writable device'.read_only k.ends.geometry answer k.ends.tells
-                (k.truth is_honest known) k.no_memory ne);
+                (ram new.engine) old.read_only new.read_only good_then may.writable device'.read_only k.kept.ends.geometry answer k.kept.ends.tells
+                (k.kept.truth is_honest known) k.no_memory ne);
             well = after;
-            versions = kept_versions old.engine.geometry (image_in view.flash old.engine) (image_in view.flash new.engine) (ram new.engine) (ram new.engine) good_then answer (k.truth is_honest known) ne;
-            mountable = λ most. mountable_after view.flash old.engine new new.engine refl k.ends.geometry k.ends.limits device'.engine.memory after most;
+            versions = kept_versions old.engine.geometry (image_in view.flash old.engine) (image_in view.flash new.engine) (ram new.engine) (ram new.engine) good_then answer (k.kept.truth is_honest known) ne;
+            mountable = λ most. mountable_after view.flash old.engine new new.engine refl k.kept.ends.geometry k.kept.ends.limits device'.engine.memory after most;
           }
 
       upkeep_done : Upkeeps view command old replied new
       upkeep_done = record {
-        stays = record { limits = k.ends.limits; honest_is = k.ends.honest_is; calm_is = k.ends.calm_is; asked = k.ends.asked; failed_is = k.ends.failed_is };
-        refuses = refuses_made view.failed old new may.going may.writable answer k.ends.fault k.ends.tells k.ends.rose;
+        stays = record { limits = k.kept.ends.limits; honest_is = k.kept.ends.die.honest_is; calm_is = k.kept.ends.die.calm_is; asked = k.kept.ends.die.asked; failed_is = k.kept.ends.die.failed_is };
+        refuses = refuses_made view.failed old new may.going may.writable answer k.kept.ends.fault k.kept.ends.tells k.kept.ends.rose;
         refuses_upkeep = record {
           read_only = λ going on. (let off : old.read_only ≡ false = may.writable in let no : ⊥ = cc in absurd no);
           spent = λ going off last. absurd (omega (arith, may.sequence, last));
@@ -158,7 +153,7 @@ module _ {N : Type 0} (view : View N) (command : Command) (old : Device N) where
           memory = λ e. k.no_memory (memory_only answer replied good_then (ram new.engine) refl e);
         };
         logs = logs_done;
-        cut = λ is_honest well going bus. cut_kept view old.engine new.engine command device.engine (k.cut is_honest (here well) (rose_of (answer ≡ Err (call.Engine engine_fault.Bus)) answer (ram new.engine) good_then (λ e. e) bus));
+        cut = λ is_honest well going bus. cut_kept view old.engine new.engine command device.engine (k.kept.cut is_honest (here well) (rose_of (answer ≡ Err (call.Engine engine_fault.Bus)) answer (ram new.engine) good_then (λ e. e) bus));
         means = λ is_honest well ne. means_done is_honest (here well) ne;
       }
 

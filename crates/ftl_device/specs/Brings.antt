@@ -8,10 +8,10 @@ use Rattle.collection.specs.State.{Ram}
 use Rattle.collection.specs.Safe.{ram, image_in}
 use Rattle.collection.specs.Log.{Went}
 use Rattle.collection.specs.Results.{Goes}
-use Rattle.collection.specs.Collect.{KeepsKeys, HasAiling, HasRescuedPage, RescueCosts, IsRearranged, LeavesLowest}
+use Rattle.collection.specs.Collect.{KeepsKeys, HasAiling, HasNoneAiling, HasRescuedPage, RescueCosts, IsRearranged, LeavesLowest}
 use Rattle.collection.specs.Renew.{IsRenewedAt}
 use Rattle.ftl_device.specs.declared.device.Device.{Device}
-use Rattle.ftl_device.specs.Calls.{HasMadeRoom}
+use Rattle.ftl_device.specs.Calls.{HasMadeRoom, HasRescued, HasWorked, HasFallen, IsQuiet}
 use Rattle.ftl_device.specs.Migrate.{FindsFrom}
 
 -- ROOM WAS MADE as outside a flush, by an honest die: what memory says of it, where newest pages are then, and its log. With nine blocks free nothing
@@ -29,6 +29,14 @@ pub record RescuesLowest {N : Type 0} (view : View N) (old new : Engine N) : Typ
   pub mid : Engine N
   pub room : MadeRoom view old mid
   pub lowest : HasAiling (ram mid).blocks → HasRescuedPage (ram mid) (ram new) × LeavesLowest (ram mid) (image_in view.flash mid) (image_in view.flash new)
+
+-- ALL THAT A TURN DOES at an honest die, where it is done
+pub record TurnsHonestly {N : Type 0} (view : View N) (old new : Engine N) : Type 0 where
+  pub quiet : IsQuiet view.erases old new
+  pub falls : HasNoneAiling (ram old).blocks → HasFallen view old new
+  pub rescued : HasRescued (ram old) (ram new)
+  pub lowest : RescuesLowest view old new
+  pub worked : HasAiling (ram old).blocks → HasWorked (ram old) (ram new) (view.erases old.nand) (view.erases new.nand)
 
 -- ---- a page of version 1
 

@@ -1,5 +1,5 @@
 -- What the calls promise: each clause that `write` and `trim` share, or `flush` and `turn`, or the calls within them, stands here once.
-use Rattle.std.specs.Prelude.{◌≡◌, ◌≢◌, ◌↔◌, ℕ, ◌+◌, ◌-◌, ◌^◌, ◌<◌, ◌≤◌, true, false, [], None, IsSome, Result, Ok, Err, IfErr, OnOk, MatchResult}
+use Rattle.std.specs.Prelude.{◌≡◌, ◌≢◌, ◌↔◌, ℕ, ◌-◌, ◌^◌, ◌<◌, ◌≤◌, true, false, List, [], None, IsSome, Result, Ok, Err, IfErr, OnOk, MatchResult}
 use Rattle.std.specs.Option.{ForSome}
 use Rattle.std.specs.Map.{keys_of}
 use Rattle.page_layout.specs.View.{View}
@@ -8,6 +8,7 @@ use Rattle.page_layout.specs.Counter.{HasRisen}
 use Rattle.page_layout.specs.Flash.{Flash}
 use Rattle.page_layout.specs.Geometry.{need_at}
 use Rattle.page_layout.specs.Page.{Page}
+use Rattle.page_layout.specs.declared.record.Kind.{Kind}
 use Rattle.page_layout.specs.Version.{AddsNoOld}
 use Rattle.bad_blocks.specs.Table.{good_count}
 use Rattle.budget.specs.declared.stream.Stream.TheVariants.{Data}
@@ -22,18 +23,18 @@ use Rattle.collection.specs.declared.fault.EngineFault.TheVariants.{Bus}
 use Rattle.collection.specs.State.{Ram}
 use Rattle.collection.specs.Safe.{IsSafe, ram, image_in, page_in}
 use Rattle.collection.specs.Left.{IsCalm}
-use Rattle.collection.specs.Collect.{GoesOn}
+use Rattle.collection.specs.Collect.{GoesOn, KeepsKeys}
 use Rattle.collection.specs.Cost.{HasPut}
 use Rattle.collection.specs.Settle.{HasSettled}
 use Rattle.collection.specs.Log.{Went}
 use Rattle.collection.specs.Results.{fault_after}
-use Rattle.collection.specs.Stops.{room_of, CutsSafely, StopsSafely}
+use Rattle.collection.specs.Stops.{room_of, Cuts, CutsSafely, IsPutByStop, StopsSafely}
 use Rattle.ftl_device.specs.declared.device.Device.{Device}
 use Rattle.ftl_device.specs.declared.fault.CallFault.{CallFault}
 use Rattle.ftl_device.specs.declared.fault.CallFault.TheVariants as call
 use Rattle.ftl_device.specs.declared.fault.DeviceFault.{DeviceFault}
 use Rattle.ftl_device.specs.declared.fault.DeviceFault.TheVariants.{OutOfRange, ReadOnly, SequenceSpent, OutOfMemory, Damaged, BusFault}
-use Rattle.ftl_device.specs.Calls.{state_in, reply_of, stop_of, IsWell, Says, Tells, CallTells, standing_after, IsMostRecent, IsReady, HasCost, HasPageOf, IsLastOf, order_after, Knows, KeepsArray, KeepsBad, CallRefused}
+use Rattle.ftl_device.specs.Calls.{state_in, reply_of, stop_of, IsWell, Says, Tells, CallTells, standing_after, IsMostRecent, IsReady, HasCost, HasPageOf, IsLastOf, order_after, Knows, KeepsArray, HoldsSector, KeepsBad, CallRefused}
 use Rattle.ftl_device.specs.Counts.{is_bad_by, is_flush, IsShown, IsLeftReadOnly}
 use Rattle.ftl_device.specs.Read.{IsLookedUp}
 use Rattle.ftl_device.specs.Flush.{first_of, IsFlushedOut}
@@ -42,16 +43,34 @@ use Rattle.ftl_device.specs.Stopped.{SurvivesCut, SurvivesStops}
 
 -- ---- inside the device
 
+-- WHAT STAYS OF A DIE that was asked, whatever it answers: whether it keeps its promises, and whether it is calm; its count of failures falls never
+pub record StaysDie {N : Type 0} (view : View N) (old new : N) : Type 0 where
+  pub honest_is : view.honest new ≡ view.honest old
+  pub calm_is : view.calm new ≡ view.calm old
+  pub asked : AsksOnly view.called old new
+  pub failed_is : view.failed old ≤ view.failed new
+
+-- WHERE THE ARRAY STAYS, if the die is honest: what is known of the image is so afterwards, or what the refusal says of it
+abbrev pub EngineKeeps : {N : Type 0} → View N → Engine N → Result (Unit {0}) EngineFault → Engine N → Type 0
+EngineKeeps view old result new = view.honest old.nand ≡ true → Knows (ram old) (image_in view.flash old)
+    → MatchResult result
+    (λ done. KeepsArray old.geometry (image_in view.flash old) (ram new) (image_in view.flash new))
+    (λ fault. CallRefused old.geometry (image_in view.flash old) (ram new) (image_in view.flash new) (call.Engine fault))
+
+-- the same of a call that may want memory too
+abbrev pub CallKeeps : {N : Type 0} → View N → Engine N → Result (Unit {0}) CallFault → Engine N → Type 0
+CallKeeps view old result new = view.honest old.nand ≡ true → Knows (ram old) (image_in view.flash old)
+    → MatchResult result
+    (λ done. KeepsArray old.geometry (image_in view.flash old) (ram new) (image_in view.flash new))
+    (CallRefused old.geometry (image_in view.flash old) (ram new) (image_in view.flash new))
+
 -- WHAT A CALL OF THE ENGINE LEAVES where no fault stood, whatever it answers: the fault that it answers stands from then on
 pub record EngineLeaves {A N : Type 0} (view : View N) (old : Engine N)
     (result : Result A EngineFault) (new : Engine N) : Type 0 where
   pub safe : IsSafe view.flash new
   pub fault : new.fault ≡ fault_after None result
   pub geometry : new.geometry ≡ old.geometry
-  pub honest_is : view.honest new.nand ≡ view.honest old.nand
-  pub calm_is : view.calm new.nand ≡ view.calm old.nand
-  pub asked : AsksOnly view.called old.nand new.nand
-  pub failed_is : view.failed old.nand ≤ view.failed new.nand
+  pub die : StaysDie view old.nand new.nand
   pub rose : result ≡ Err Bus → HasRisen (view.failed old.nand) (view.failed new.nand)
   pub tells : Tells (ram old) (ram new) result
   pub went : view.honest old.nand ≡ true → result ≢ Err Bus → Went (ram old) (view.flash old.nand) (view.recorded old.nand) (ram new) (view.flash new.nand) (view.recorded new.nand)
@@ -64,16 +83,19 @@ pub record EndsCall {N : Type 0} (view : View N) (old : Engine N)
   pub safe : IsSafe view.flash new
   pub fault : new.fault ≡ standing_after result
   pub geometry : new.geometry ≡ old.geometry
-  pub honest_is : view.honest new.nand ≡ view.honest old.nand
-  pub calm_is : view.calm new.nand ≡ view.calm old.nand
-  pub asked : AsksOnly view.called old.nand new.nand
-  pub failed_is : view.failed old.nand ≤ view.failed new.nand
+  pub die : StaysDie view old.nand new.nand
   pub rose : result ≡ Err (call.Engine Bus) → HasRisen (view.failed old.nand) (view.failed new.nand)
   pub limits : HasLimitsOf old.mapping new.mapping
   pub calm_memory : new.fault ≡ None → IsCalm (ram new)
   pub tells : CallTells (ram old) (ram new) result
   pub went : view.honest old.nand ≡ true → result ≢ Err (call.Engine Bus) → Went (ram old) (view.flash old.nand) (view.recorded old.nand) (ram new) (view.flash new.nand) (view.recorded new.nand)
   pub stops : view.honest old.nand ≡ true → Knows (ram old) (image_in view.flash old) → result ≢ Err (call.Engine Bus) → StopsSafely view old new
+
+-- and of one that changes no sector: where the die is honest the array stays, also where a fault of the die ends it
+pub record EndsKept {N : Type 0} (view : View N) (old : Engine N) (result : Result (Unit {0}) CallFault) (new : Engine N) : Type 0 where
+  pub ends : EndsCall view old result new
+  pub cut : view.honest old.nand ≡ true → Knows (ram old) (image_in view.flash old) → result ≡ Err (call.Engine Bus) → CutsSafely view old new
+  pub truth : CallKeeps view old result new
 
 -- where it was done, or memory was refused, no block is pinned that was not
 abbrev pub PinsNone : {N : Type 0} → Result (Unit {0}) CallFault → Engine N → Engine N → Type 0
@@ -91,6 +113,29 @@ pub record Readies {N : Type 0} (view : View N) (n pages : ℕ) (old : Engine N)
   pub costs : CallRoomCosts (HasFunds (view.honest old.nand) (ram old) (image_in view.flash old)) pages (ram old) (ram new) result
   pub pins : PinsNone result old new
 
+-- THE ROW THAT THE SECTOR HAD WAS LOOKED UP before a page of it was programmed: memory knew it once there was room, or else this page of
+-- entries gives it, a sound translation page. Then its new row was set, and no other.
+pub record HasLookedUp (n : ℕ) (old new : Ram) (entries_page : Page) : Type 0 where
+  pub mid : Ram
+  pub ready : IsReady n old mid
+  pub looked_up : IsLookedUp n old mid entries_page
+  pub put : HasPut Data mid new
+  pub settled : HasSettled n mid new
+
+-- and of the whole of a write or a trim: a page of this kind is programmed with this data area, which the sector then holds
+pub record EndsChange {N : Type 0} (view : View N) (kind : Kind) (n : ℕ) (body : List ℕ) (command : Command) (old : Engine N) (result : Result (Unit {0}) CallFault) (new : Engine N) : Type 0 where
+  pub ends : EndsCall view old result new
+  pub cut : view.honest old.nand ≡ true → Knows (ram old) (image_in view.flash old) → result ≡ Err (call.Engine Bus) → Cuts view (IsPutByStop kind n body (ram old) (image_in view.flash old)) old new
+  pub readies : Readies view n 2 old result new
+  pub cost : OnOk result (HasCost n (ram old) (ram new))
+  pub checked : OnOk result (HasLookedUp n (ram old) (ram new) (page_in new.scratch))
+  pub page : OnOk result (IsLastOf old.geometry command (ram new) (page_in new.page))
+  pub newest : view.honest old.nand ≡ true → Knows (ram old) (image_in view.flash old) → OnOk result (HasPageOf old.geometry command (ram new) (image_in view.flash new))
+  pub truth : view.honest old.nand ≡ true → Knows (ram old) (image_in view.flash old)
+      → MatchResult result
+      (λ done. HoldsSector old.geometry n body (image_in view.flash old) (ram new) (image_in view.flash new))
+      (CallRefused old.geometry (image_in view.flash old) (ram new) (image_in view.flash new))
+
 -- and of a step of a collection that a turn takes: bad blocks get no page; where the die is honest the array stays
 pub record CollectsOn {N : Type 0} (view : View N)
     (old : Engine N) (result : Result (Unit {0}) EngineFault) (new : Engine N) : Type 0 where
@@ -101,19 +146,16 @@ pub record CollectsOn {N : Type 0} (view : View N)
   pub counts : StepCounts (ram old) (ram new) result
   pub risen : OnOk result ((before : ℕ) → HasRisen before (view.erases old.nand) → HasRisen before (view.erases new.nand))
   pub bad : view.honest old.nand ≡ true → Knows (ram old) (image_in view.flash old) → OnOk result (KeepsBad (ram old) (ram new))
-  pub truth : view.honest old.nand ≡ true → Knows (ram old) (image_in view.flash old)
-      → MatchResult result
-      (λ done. KeepsArray old.geometry (image_in view.flash old) (ram new) (image_in view.flash new))
-      (λ fault. CallRefused old.geometry (image_in view.flash old) (ram new) (image_in view.flash new) (call.Engine fault))
+  pub truth : EngineKeeps view old result new
 
--- THE ROW THAT THE SECTOR HAD WAS LOOKED UP before a page of it was programmed: memory knew it once there was room, or else this page of
--- entries gives it, a sound translation page. Then its new row was set, and no other.
-pub record HasLookedUp (n : ℕ) (old new : Ram) (entries_page : Page) : Type 0 where
-  pub mid : Ram
-  pub ready : IsReady n old mid
-  pub looked_up : IsLookedUp n old mid entries_page
-  pub put : HasPut Data mid new
-  pub settled : HasSettled n mid new
+-- and of a part of a flush: the cached sectors stay, and their order
+pub record FlushesOn {N : Type 0} (view : View N)
+    (old : Engine N) (result : Result (Unit {0}) EngineFault) (new : Engine N) : Type 0 where
+  pub leaves : EngineLeaves view old result new
+  pub keys : KeepsKeys old.mapping new.mapping
+  pub calm : OnOk result (IsCalm (ram new))
+  pub pins : OnOk result (old.pinned ≡ None → new.pinned ≡ None)
+  pub truth : EngineKeeps view old result new
 
 -- ---- whatever the die does
 

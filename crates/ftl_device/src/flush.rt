@@ -7,20 +7,18 @@ ghost use Rattle.allocation.specs.Counts.{counts_of};
 ghost use Rattle.collection.specs.Safe.{IsSafe, ram, image_in};
 ghost use Rattle.collection.specs.Left.{IsCalm, LeavesPin};
 ghost use Rattle.collection.specs.Results.{KeepsTable, fault_after};
-ghost use Rattle.collection.specs.Collect.{KeepsKeys, RoomCounts};
+ghost use Rattle.collection.specs.Collect.{RoomCounts};
 ghost use Rattle.collection.specs.Room.{wanted};
 ghost use Rattle.allocation.specs.State.{free_count};
-ghost use Rattle.collection.specs.Stops.{CutsSafely};
-ghost use Rattle.ftl_device.specs.Calls.{IsWell, Knows, KeepsArray, CallRefused};
+ghost use Rattle.ftl_device.specs.Calls.{IsWell, Knows, CallRefused};
 ghost use Rattle.ftl_device.specs.Renewed.{Finishes};
 ghost use Rattle.ftl_device.specs.Flush.{IsClean, KeepsClean, HasNewTables, SpellsAll, KeepsTables, AddsPages, FailsAmong, RunsOut, IsFlushed, WritesTables, MayFlush};
 ghost use Rattle.ftl_device.specs.Flush.{MayNotFlush};
 ghost use Rattle.ftl_device.specs.FlushSteps.{HasBegunFlush, HasCleared, FlushesPage, FlushesPages, HasRound, WritesRounds, HasFlushed};
 ghost use Rattle.ftl_device.specs.Shortage.{HasFunds, SpendsPages, FlushCounts, FlushShort};
-ghost use Rattle.mapping_cache.specs.Mapping.{HasLimitsOf};
 ghost use Rattle.promises.specs.Step.{Flush};
 ghost use Rattle.ftl_device.specs.Device.{IsDevice};
-ghost use Rattle.ftl_device.specs.Changes.{EngineLeaves, EndsCall, Upkeeps, LeavesUnpinned};
+ghost use Rattle.ftl_device.specs.Changes.{EngineLeaves, EndsKept, FlushesOn, Upkeeps, LeavesUnpinned};
 
 use crate::device::Device;
 use crate::fault::{CallFault, DeviceFault};
@@ -52,20 +50,13 @@ fn make_flush_room<N: Nand>(engine: &mut Engine<N>) -> Result<(), EngineFault>
     requires safe { IsSafe N.view.flash engine.old }
     requires going { engine.old.fault ≡ None }
     requires calm { IsCalm (ram engine.old) }
-    ensures leaves { EngineLeaves N.view engine.old result engine.new }
-    ensures keys { KeepsKeys engine.old.mapping engine.new.mapping }
-    ensures calm { OnOk result (IsCalm (ram engine.new)) }
-    ensures pins { OnOk result (engine.old.pinned ≡ None → engine.new.pinned ≡ None) }
+    ensures flushes { FlushesOn N.view engine.old result engine.new }
     ensures cleans { OnOk result (KeepsClean engine.old.geometry engine.old.mapping engine.new.mapping) }
     ensures cleared { OnOk result (HasCleared N.view engine.old engine.new) }
     ensures spends { 0 < engine.old.mapping.share → SpendsPages 0 (ram engine.old) (ram engine.new) result }
     ensures count { engine.old.mapping.share ≡ 0 → N.view.honest engine.old.nand ≡ true → Knows (ram engine.old) (image_in N.view.flash engine.old) →
         (failures : ℕ) → IsFunded engine.old.geometry.pages failures (counts_of (ram engine.old).blocks) →
         RoomCounts 9 failures (ram engine.old) (ram engine.new) result }
-    ensures truth { N.view.honest engine.old.nand ≡ true → Knows (ram engine.old) (image_in N.view.flash engine.old) →
-        MatchResult result
-        (λ _. KeepsArray engine.old.geometry (image_in N.view.flash engine.old) (ram engine.new) (image_in N.view.flash engine.new))
-        (λ fault. CallRefused engine.old.geometry (image_in N.view.flash engine.old) (ram engine.new) (image_in N.view.flash engine.new) (CallFault.Engine fault)) }
 {
     if engine.mapping.share() > 0 {
         return require_free(engine);
@@ -79,11 +70,7 @@ fn flush_translation<N: Nand>(engine: &mut Engine<N>, t: u32) -> Result<(), Engi
     requires going { engine.old.fault ≡ None }
     requires calm { IsCalm (ram engine.old) }
     requires page { t < translation_pages engine.old.geometry }
-    ensures leaves { EngineLeaves N.view engine.old result engine.new }
-    ensures pins { OnOk result (engine.old.pinned ≡ None → engine.new.pinned ≡ None) }
-    ensures keys { keys_of engine.new.mapping.cached ≡ keys_of engine.old.mapping.cached }
-    ensures limits { HasLimitsOf engine.old.mapping engine.new.mapping }
-    ensures calm { engine.new.fault ≡ None → IsCalm (ram engine.new) }
+    ensures flushes { FlushesOn N.view engine.old result engine.new }
     ensures clean { OnOk result (IsClean engine.old.geometry t engine.new.mapping) }
     ensures cleans { OnOk result (KeepsClean engine.old.geometry engine.old.mapping engine.new.mapping) }
     ensures page { OnOk result (FlushesPage N.view t engine.old engine.new) }
@@ -91,10 +78,6 @@ fn flush_translation<N: Nand>(engine: &mut Engine<N>, t: u32) -> Result<(), Engi
     ensures count { engine.old.mapping.share ≡ 0 → N.view.honest engine.old.nand ≡ true → Knows (ram engine.old) (image_in N.view.flash engine.old) →
         (failures : ℕ) → IsFunded engine.old.geometry.pages failures (counts_of (ram engine.old).blocks) →
         FlushCounts failures (ram engine.old) (ram engine.new) result }
-    ensures truth { N.view.honest engine.old.nand ≡ true → Knows (ram engine.old) (image_in N.view.flash engine.old) →
-        MatchResult result
-        (λ _. KeepsArray engine.old.geometry (image_in N.view.flash engine.old) (ram engine.new) (image_in N.view.flash engine.new))
-        (λ fault. CallRefused engine.old.geometry (image_in N.view.flash engine.old) (ram engine.new) (image_in N.view.flash engine.new) (CallFault.Engine fault)) }
 {
     if !engine.mapping.lacks(t) {
         return Ok(());
@@ -108,21 +91,13 @@ fn flush_translations<N: Nand>(engine: &mut Engine<N>) -> Result<(), EngineFault
     requires safe { IsSafe N.view.flash engine.old }
     requires going { engine.old.fault ≡ None }
     requires calm { IsCalm (ram engine.old) }
-    ensures leaves { EngineLeaves N.view engine.old result engine.new }
-    ensures pins { OnOk result (engine.old.pinned ≡ None → engine.new.pinned ≡ None) }
-    ensures keys { keys_of engine.new.mapping.cached ≡ keys_of engine.old.mapping.cached }
-    ensures limits { HasLimitsOf engine.old.mapping engine.new.mapping }
-    ensures calm { engine.new.fault ≡ None → IsCalm (ram engine.new) }
+    ensures flushes { FlushesOn N.view engine.old result engine.new }
     ensures clean { OnOk result ((t : ℕ) → t < translation_pages engine.old.geometry → IsClean engine.old.geometry t engine.new.mapping) }
     ensures pages { OnOk result (FlushesPages N.view (translation_pages engine.old.geometry) engine.old engine.new) }
     ensures spends { 0 < engine.old.mapping.share → SpendsPages (translation_pages engine.old.geometry) (ram engine.old) (ram engine.new) result }
     ensures count { engine.old.mapping.share ≡ 0 → N.view.honest engine.old.nand ≡ true → Knows (ram engine.old) (image_in N.view.flash engine.old) →
         (failures : ℕ) → IsFunded engine.old.geometry.pages failures (counts_of (ram engine.old).blocks) →
         FlushCounts failures (ram engine.old) (ram engine.new) result }
-    ensures truth { N.view.honest engine.old.nand ≡ true → Knows (ram engine.old) (image_in N.view.flash engine.old) →
-        MatchResult result
-        (λ _. KeepsArray engine.old.geometry (image_in N.view.flash engine.old) (ram engine.new) (image_in N.view.flash engine.new))
-        (λ fault. CallRefused engine.old.geometry (image_in N.view.flash engine.old) (ram engine.new) (image_in N.view.flash engine.new) (CallFault.Engine fault)) }
 {
     'translations: for t in 0..engine.geometry.translation_pages() {
         flush_translation(engine, t)?;
@@ -181,19 +156,12 @@ fn begin_flush<N: Nand>(engine: &mut Engine<N>) -> Result<(), EngineFault>
     requires safe { IsSafe N.view.flash engine.old }
     requires going { engine.old.fault ≡ None }
     requires calm { IsCalm (ram engine.old) }
-    ensures leaves { EngineLeaves N.view engine.old result engine.new }
-    ensures keys { KeepsKeys engine.old.mapping engine.new.mapping }
-    ensures calm { OnOk result (IsCalm (ram engine.new)) }
-    ensures pins { OnOk result (engine.old.pinned ≡ None → engine.new.pinned ≡ None) }
+    ensures flushes { FlushesOn N.view engine.old result engine.new }
     ensures begins { OnOk result (HasBegunFlush N.view engine.old engine.new) }
     ensures shared { IfErr result (λ fault. 0 < engine.old.mapping.share) }
     ensures count { 0 < engine.old.mapping.share → N.view.honest engine.old.nand ≡ true → Knows (ram engine.old) (image_in N.view.flash engine.old) →
         (failures : ℕ) → IsFunded engine.old.geometry.pages failures (counts_of (ram engine.old).blocks) →
         RoomCounts (wanted Reserve.Flush (ram engine.old)) failures (ram engine.old) (ram engine.new) result }
-    ensures truth { N.view.honest engine.old.nand ≡ true → Knows (ram engine.old) (image_in N.view.flash engine.old) →
-        MatchResult result
-        (λ _. KeepsArray engine.old.geometry (image_in N.view.flash engine.old) (ram engine.new) (image_in N.view.flash engine.new))
-        (λ fault. CallRefused engine.old.geometry (image_in N.view.flash engine.old) (ram engine.new) (image_in N.view.flash engine.new) (CallFault.Engine fault)) }
 {
     if engine.mapping.share() == 0 {
         return Ok(());
@@ -206,19 +174,13 @@ pub(crate) fn flush_ready<N: Nand>(engine: &mut Engine<N>) -> Result<(), CallFau
     requires safe { IsSafe N.view.flash engine.old }
     requires going { engine.old.fault ≡ None }
     requires calm { IsCalm (ram engine.old) }
-    ensures ends { EndsCall N.view engine.old result engine.new }
-    ensures cut { N.view.honest engine.old.nand ≡ true → Knows (ram engine.old) (image_in N.view.flash engine.old) →
-        result ≡ Err (CallFault.Engine EngineFault.Bus) → CutsSafely N.view engine.old engine.new }
+    ensures kept { EndsKept N.view engine.old result engine.new }
     ensures memory { result ≢ Err CallFault.OutOfMemory }
     ensures pins { OnOk result (engine.old.pinned ≡ None → engine.new.pinned ≡ None) }
     ensures keys { keys_of engine.new.mapping.cached ≡ keys_of engine.old.mapping.cached }
     ensures clean { OnOk result ((t : ℕ) → t < translation_pages engine.old.geometry → IsClean engine.old.geometry t engine.new.mapping) }
     ensures programs { OnOk result (HasFlushed N.view engine.old engine.new) }
     ensures count { HasFunds (N.view.honest engine.old.nand) (ram engine.old) (image_in N.view.flash engine.old) → FlushShort (ram engine.old) (ram engine.new) result }
-    ensures truth { N.view.honest engine.old.nand ≡ true → Knows (ram engine.old) (image_in N.view.flash engine.old) →
-        MatchResult result
-        (λ _. KeepsArray engine.old.geometry (image_in N.view.flash engine.old) (ram engine.new) (image_in N.view.flash engine.new))
-        (CallRefused engine.old.geometry (image_in N.view.flash engine.old) (ram engine.new) (image_in N.view.flash engine.new)) }
     ensures flushed { N.view.honest engine.old.nand ≡ true → Knows (ram engine.old) (image_in N.view.flash engine.old) →
         OnOk result (IsFlushed (ram engine.new) (image_in N.view.flash engine.new)) }
     ensures renewed { N.view.honest engine.old.nand ≡ true → Knows (ram engine.old) (image_in N.view.flash engine.old) →

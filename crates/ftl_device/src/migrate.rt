@@ -5,13 +5,12 @@ ghost use Rattle.promises.specs.Step.{Turn};
 ghost use Rattle.page_layout.specs.Geometry.{row_count};
 ghost use Rattle.page_layout.specs.OnlyReads.{OnlyReads};
 ghost use Rattle.collection.specs.Safe.{IsSafe, ram, image_in};
-ghost use Rattle.collection.specs.Stops.{CutsSafely};
 ghost use Rattle.collection.specs.Left.{IsCalm};
 ghost use Rattle.collection.specs.Looks.{IsReadFault};
 ghost use Rattle.allocation.specs.State.{free_count};
 ghost use Rattle.ftl_device.specs.Device.{IsDevice};
-ghost use Rattle.ftl_device.specs.Calls.{IsWell, Knows, KeepsArray, CallRefused};
-ghost use Rattle.ftl_device.specs.Changes.{EngineLeaves, EndsCall, Upkeeps};
+ghost use Rattle.ftl_device.specs.Calls.{IsWell, Knows};
+ghost use Rattle.ftl_device.specs.Changes.{EngineLeaves, EndsKept, Upkeeps};
 ghost use Rattle.ftl_device.specs.Shortage.{HasFunds, CallShort};
 ghost use Rattle.ftl_device.specs.Migrate.{ended, Renews, Migrates, FindsFrom, HasMovedOn};
 ghost use Rattle.ftl_device.specs.Brings.{BringsOne, BringsPage, HasBrought};
@@ -31,16 +30,10 @@ fn renew_ready<N: Nand>(engine: &mut Engine<N>, row: u32) -> Result<(), CallFaul
     requires going { engine.old.fault ≡ None }
     requires calm { IsCalm (ram engine.old) }
     requires row { row < row_count engine.old.geometry }
-    ensures ends { EndsCall N.view engine.old result engine.new }
-    ensures cut { N.view.honest engine.old.nand ≡ true → Knows (ram engine.old) (image_in N.view.flash engine.old) →
-        result ≡ Err (CallFault.Engine EngineFault.Bus) → CutsSafely N.view engine.old engine.new }
+    ensures kept { EndsKept N.view engine.old result engine.new }
     ensures memory { result ≢ Err CallFault.OutOfMemory }
     ensures count { HasFunds (N.view.honest engine.old.nand) (ram engine.old) (image_in N.view.flash engine.old) →
         5 ≤ free_count (ram engine.old).blocks → CallShort (ram engine.old) (ram engine.new) result }
-    ensures truth { N.view.honest engine.old.nand ≡ true → Knows (ram engine.old) (image_in N.view.flash engine.old) →
-        MatchResult result
-        (λ _. KeepsArray engine.old.geometry (image_in N.view.flash engine.old) (ram engine.new) (image_in N.view.flash engine.new))
-        (CallRefused engine.old.geometry (image_in N.view.flash engine.old) (ram engine.new) (image_in N.view.flash engine.new)) }
     ensures renews { N.view.honest engine.old.nand ≡ true → Knows (ram engine.old) (image_in N.view.flash engine.old) →
         OnOk result (Renews row engine.old.geometry (image_in N.view.flash engine.old) (image_in N.view.flash engine.new)) }
     ensures brought { OnOk result (HasBrought (ram engine.old) (ram engine.new)) }
@@ -85,16 +78,10 @@ fn migrate_ready<N: Nand>(
     requires safe { IsSafe N.view.flash engine.old }
     requires going { engine.old.fault ≡ None }
     requires calm { IsCalm (ram engine.old) }
-    ensures ends { EndsCall N.view engine.old result engine.new }
-    ensures cut { N.view.honest engine.old.nand ≡ true → Knows (ram engine.old) (image_in N.view.flash engine.old) →
-        result ≡ Err (CallFault.Engine EngineFault.Bus) → CutsSafely N.view engine.old engine.new }
+    ensures kept { EndsKept N.view engine.old result engine.new }
     ensures memory { result ≢ Err CallFault.OutOfMemory }
     ensures count { HasFunds (N.view.honest engine.old.nand) (ram engine.old) (image_in N.view.flash engine.old) →
         5 ≤ free_count (ram engine.old).blocks → CallShort (ram engine.old) (ram engine.new) result }
-    ensures truth { N.view.honest engine.old.nand ≡ true → Knows (ram engine.old) (image_in N.view.flash engine.old) →
-        MatchResult result
-        (λ _. KeepsArray engine.old.geometry (image_in N.view.flash engine.old) (ram engine.new) (image_in N.view.flash engine.new))
-        (CallRefused engine.old.geometry (image_in N.view.flash engine.old) (ram engine.new) (image_in N.view.flash engine.new)) }
     ensures rests { OnOk result (found.new ≡ None →
         OnlyReads N.view engine.old.nand engine.new.nand) }
     ensures migrates { N.view.honest engine.old.nand ≡ true → Knows (ram engine.old) (image_in N.view.flash engine.old) →

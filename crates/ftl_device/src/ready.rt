@@ -20,9 +20,8 @@ ghost use Rattle.collection.specs.Looks.{FindsRow, IsReadFault};
 ghost use Rattle.collection.specs.Results.{IsSame, Refused, fault_after};
 ghost use Rattle.collection.specs.Collect.{KeepsKeys, IsRearranged, RoomRefused, RoomCounts};
 ghost use Rattle.collection.specs.Room.{wanted};
-ghost use Rattle.collection.specs.Stops.{Cuts, CutsSafely, IsPutByStop};
-ghost use Rattle.ftl_device.specs.Calls.{Knows, IsFound, KeepsArray, HoldsSector, CallRefused, HasMadeRoom};
-ghost use Rattle.ftl_device.specs.Calls.{HasMadePlace, IsReady, HasCost, HasPageOf, IsLastOf};
+ghost use Rattle.ftl_device.specs.Calls.{Knows, IsFound, CallRefused, HasMadeRoom};
+ghost use Rattle.ftl_device.specs.Calls.{HasMadePlace, IsReady};
 ghost use Rattle.promises.specs.Step.{Write, Trim};
 ghost use Rattle.budget.specs.Spending.{IsFunded};
 ghost use Rattle.allocation.specs.State.{free_count};
@@ -30,7 +29,7 @@ ghost use Rattle.allocation.specs.Counts.{counts_of};
 ghost use Rattle.ftl_device.specs.Flush.{KeepsClean};
 ghost use Rattle.ftl_device.specs.Read.{HasWrittenBack, IsPrepared, IsLookedUp};
 ghost use Rattle.ftl_device.specs.Shortage.{HasFunds, PlaceCosts, RoomCosts};
-ghost use Rattle.ftl_device.specs.Changes.{EngineLeaves, EndsCall, Readies, HasLookedUp};
+ghost use Rattle.ftl_device.specs.Changes.{EngineLeaves, EndsKept, EndsChange, Readies};
 
 use crate::fault::CallFault;
 use collection::{Engine, EngineFault, Reserve};
@@ -165,17 +164,11 @@ fn make_ready<N: Nand>(engine: &mut Engine<N>, sector: u32) -> Result<(), CallFa
     requires going { engine.old.fault ≡ None }
     requires calm { IsCalm (ram engine.old) }
     requires sector { sector < engine.old.geometry.sectors }
-    ensures ends { EndsCall N.view engine.old result engine.new }
-    ensures cut { N.view.honest engine.old.nand ≡ true → Knows (ram engine.old) (image_in N.view.flash engine.old) →
-        result ≡ Err (CallFault.Engine EngineFault.Bus) → CutsSafely N.view engine.old engine.new }
+    ensures kept { EndsKept N.view engine.old result engine.new }
     ensures readies { Readies N.view sector 1 engine.old result engine.new }
     ensures holds { OnOk result (IsSome (slot_of engine.new.mapping sector)) }
     ensures checked { OnOk result (IsLookedUp sector (ram engine.old) (ram engine.new) (page_in engine.new.scratch)) }
     ensures cost { OnOk result (IsReady sector (ram engine.old) (ram engine.new)) }
-    ensures truth { N.view.honest engine.old.nand ≡ true → Knows (ram engine.old) (image_in N.view.flash engine.old) →
-        MatchResult result
-        (λ _. KeepsArray engine.old.geometry (image_in N.view.flash engine.old) (ram engine.new) (image_in N.view.flash engine.new))
-        (CallRefused engine.old.geometry (image_in N.view.flash engine.old) (ram engine.new) (image_in N.view.flash engine.new)) }
 {
     let row = prepare(engine, sector)?;
     engine.cache_sector(sector, row)?;
@@ -193,20 +186,7 @@ pub(crate) fn write_ready<N: Nand>(
     requires calm { IsCalm (ram engine.old) }
     requires sector { sector < engine.old.geometry.sectors }
     requires body { length body.now ≡ engine.old.geometry.data_bytes }
-    ensures ends { EndsCall N.view engine.old result engine.new }
-    ensures cut { N.view.honest engine.old.nand ≡ true → Knows (ram engine.old) (image_in N.view.flash engine.old) →
-        result ≡ Err (CallFault.Engine EngineFault.Bus) →
-        Cuts N.view (IsPutByStop kind.Sector sector body.now (ram engine.old) (image_in N.view.flash engine.old)) engine.old engine.new }
-    ensures readies { Readies N.view sector 2 engine.old result engine.new }
-    ensures cost { OnOk result (HasCost sector (ram engine.old) (ram engine.new)) }
-    ensures checked { OnOk result (HasLookedUp sector (ram engine.old) (ram engine.new) (page_in engine.new.scratch)) }
-    ensures page { OnOk result (IsLastOf engine.old.geometry (Write sector body.now) (ram engine.new) (page_in engine.new.page)) }
-    ensures newest { N.view.honest engine.old.nand ≡ true → Knows (ram engine.old) (image_in N.view.flash engine.old) →
-        OnOk result (HasPageOf engine.old.geometry (Write sector body.now) (ram engine.new) (image_in N.view.flash engine.new)) }
-    ensures truth { N.view.honest engine.old.nand ≡ true → Knows (ram engine.old) (image_in N.view.flash engine.old) →
-        MatchResult result
-        (λ _. HoldsSector engine.old.geometry sector body.now (image_in N.view.flash engine.old) (ram engine.new) (image_in N.view.flash engine.new))
-        (CallRefused engine.old.geometry (image_in N.view.flash engine.old) (ram engine.new) (image_in N.view.flash engine.new)) }
+    ensures changes { EndsChange N.view kind.Sector sector body.now (Write sector body.now) engine.old result engine.new }
 {
     make_ready(engine, sector)?;
     engine.write_sector(sector, body)?;
@@ -219,20 +199,7 @@ pub(crate) fn trim_ready<N: Nand>(engine: &mut Engine<N>, sector: u32) -> Result
     requires going { engine.old.fault ≡ None }
     requires calm { IsCalm (ram engine.old) }
     requires sector { sector < engine.old.geometry.sectors }
-    ensures ends { EndsCall N.view engine.old result engine.new }
-    ensures cut { N.view.honest engine.old.nand ≡ true → Knows (ram engine.old) (image_in N.view.flash engine.old) →
-        result ≡ Err (CallFault.Engine EngineFault.Bus) →
-        Cuts N.view (IsPutByStop kind.Trim sector (zeros engine.old.geometry) (ram engine.old) (image_in N.view.flash engine.old)) engine.old engine.new }
-    ensures readies { Readies N.view sector 2 engine.old result engine.new }
-    ensures cost { OnOk result (HasCost sector (ram engine.old) (ram engine.new)) }
-    ensures checked { OnOk result (HasLookedUp sector (ram engine.old) (ram engine.new) (page_in engine.new.scratch)) }
-    ensures page { OnOk result (IsLastOf engine.old.geometry (Trim sector) (ram engine.new) (page_in engine.new.page)) }
-    ensures newest { N.view.honest engine.old.nand ≡ true → Knows (ram engine.old) (image_in N.view.flash engine.old) →
-        OnOk result (HasPageOf engine.old.geometry (Trim sector) (ram engine.new) (image_in N.view.flash engine.new)) }
-    ensures truth { N.view.honest engine.old.nand ≡ true → Knows (ram engine.old) (image_in N.view.flash engine.old) →
-        MatchResult result
-        (λ _. HoldsSector engine.old.geometry sector (zeros engine.old.geometry) (image_in N.view.flash engine.old) (ram engine.new) (image_in N.view.flash engine.new))
-        (CallRefused engine.old.geometry (image_in N.view.flash engine.old) (ram engine.new) (image_in N.view.flash engine.new)) }
+    ensures changes { EndsChange N.view kind.Trim sector (zeros engine.old.geometry) (Trim sector) engine.old result engine.new }
 {
     make_ready(engine, sector)?;
     engine.trim_sector(sector)?;

@@ -1,19 +1,17 @@
 //! A turn: a page is rescued from a bad block, or a collection goes one step further.
-ghost use Rattle.std.specs.Prelude.{◌≡◌, ◌≢◌, ◌⊎◌, ◌-◌, ◌+◌, ◌<◌, ◌≤◌, ◌^◌, ℕ, true, false, Ok, Err, None, IsSome, IsOk, IfErr, OnOk, MatchResult};
+ghost use Rattle.std.specs.Prelude.{◌≡◌, ◌≢◌, ◌⊎◌, ◌-◌, ◌<◌, ◌≤◌, ◌^◌, true, false, Ok, Err, None, IsSome, IsOk, OnOk};
 ghost use Rattle.promises.specs.Step.{Turn};
-ghost use Rattle.bad_blocks.specs.Table.{good_count};
 ghost use Rattle.collection.specs.Safe.{IsSafe, ram, image_in};
-ghost use Rattle.collection.specs.Stops.{CutsSafely};
 ghost use Rattle.collection.specs.Room.{wanted};
 ghost use Rattle.collection.specs.Left.{IsCalm};
 ghost use Rattle.collection.specs.Collect.{HasAiling, HasNoneAiling};
 ghost use Rattle.ftl_device.specs.Device.{IsDevice};
-ghost use Rattle.ftl_device.specs.Calls.{IsWell, Knows, KeepsArray, CallRefused, HasRescued};
+ghost use Rattle.ftl_device.specs.Calls.{IsWell, Knows, HasRescued};
 ghost use Rattle.ftl_device.specs.Calls.{HasWorked, HasLess, HasFallen, IsQuiet};
 ghost use Rattle.ftl_device.specs.Turn.{HasGoneOn, HasNoneToCollect, HasTurned};
-ghost use Rattle.ftl_device.specs.Brings.{RescuesLowest};
-ghost use Rattle.ftl_device.specs.Changes.{CollectsOn, EndsCall, Upkeeps};
-ghost use Rattle.allocation.specs.State.{free_count, live_at};
+ghost use Rattle.ftl_device.specs.Brings.{RescuesLowest, TurnsHonestly};
+ghost use Rattle.ftl_device.specs.Changes.{CollectsOn, EndsKept, Upkeeps};
+ghost use Rattle.allocation.specs.State.{free_count};
 ghost use Rattle.ftl_device.specs.Shortage.{HasFunds, CallShort};
 
 use crate::device::Device;
@@ -69,29 +67,15 @@ fn turn_ready<N: Nand>(engine: &mut Engine<N>) -> Result<(), CallFault>
     requires safe { IsSafe N.view.flash engine.old }
     requires going { engine.old.fault ≡ None }
     requires calm { IsCalm (ram engine.old) }
-    ensures ends { EndsCall N.view engine.old result engine.new }
-    ensures cut { N.view.honest engine.old.nand ≡ true → Knows (ram engine.old) (image_in N.view.flash engine.old) →
-        result ≡ Err (CallFault.Engine EngineFault.Bus) → CutsSafely N.view engine.old engine.new }
+    ensures kept { EndsKept N.view engine.old result engine.new }
     ensures memory { result ≢ Err CallFault.OutOfMemory }
     ensures turned { OnOk result (HasTurned (ram engine.old) (ram engine.new)) }
     ensures count { HasFunds (N.view.honest engine.old.nand) (ram engine.old) (image_in N.view.flash engine.old) →
         5 ≤ free_count (ram engine.old).blocks → CallShort (ram engine.old) (ram engine.new) result }
     ensures rests { HasNoneAiling (ram engine.old).blocks → engine.old.pinned ≡ None → wanted Reserve.Turn (ram engine.old) ≤ free_count (ram engine.old).blocks →
         IsOk result × (engine.new ≡ engine.old) }
-    ensures quiet { N.view.honest engine.old.nand ≡ true → Knows (ram engine.old) (image_in N.view.flash engine.old) →
-        OnOk result (IsQuiet N.view.erases engine.old engine.new) }
-    ensures falls { N.view.honest engine.old.nand ≡ true → Knows (ram engine.old) (image_in N.view.flash engine.old) → HasNoneAiling (ram engine.old).blocks →
-        OnOk result (HasFallen N.view engine.old engine.new) }
-    ensures truth { N.view.honest engine.old.nand ≡ true → Knows (ram engine.old) (image_in N.view.flash engine.old) →
-        MatchResult result
-        (λ _. KeepsArray engine.old.geometry (image_in N.view.flash engine.old) (ram engine.new) (image_in N.view.flash engine.new))
-        (CallRefused engine.old.geometry (image_in N.view.flash engine.old) (ram engine.new) (image_in N.view.flash engine.new)) }
-    ensures rescued { N.view.honest engine.old.nand ≡ true → Knows (ram engine.old) (image_in N.view.flash engine.old) →
-        OnOk result (HasRescued (ram engine.old) (ram engine.new)) }
-    ensures lowest { N.view.honest engine.old.nand ≡ true → Knows (ram engine.old) (image_in N.view.flash engine.old) →
-        OnOk result (RescuesLowest N.view engine.old engine.new) }
-    ensures worked { N.view.honest engine.old.nand ≡ true → Knows (ram engine.old) (image_in N.view.flash engine.old) → HasAiling (ram engine.old).blocks →
-        OnOk result (HasWorked (ram engine.old) (ram engine.new) (N.view.erases engine.old.nand) (N.view.erases engine.new.nand)) }
+    ensures honestly { N.view.honest engine.old.nand ≡ true → Knows (ram engine.old) (image_in N.view.flash engine.old) →
+        OnOk result (TurnsHonestly N.view engine.old engine.new) }
 {
     make_room(engine, Reserve::Call, false)?;
     if engine.needs_rescue() {

@@ -1,9 +1,9 @@
 -- What the judges are told of a survey whose pairs are sorted.
-use Rattle.std.proofs.Common.{◌≡◌, ℕ, zero, suc, ◌-◌, ◌<◌, ◌≤◌, List, [], Bool, length, get_or, refl, sym, ap, subst, ◌∙◌, inl, inr, arith}
+use Rattle.std.proofs.Common.{◌≡◌, ℕ, zero, suc, ◌-◌, ◌^◌, ◌<◌, ◌≤◌, List, [], Bool, length, get_or, refl, sym, ap, subst, ◌∙◌, inl, inr, arith}
 use Rattle.std.specs.Prelude.{IsPermutation}
 use Rattle.page_layout.specs.declared.geometry.Geometry.{Geometry}
 use Rattle.image_check.specs.declared.newest.Newest.{Newest}
-use Rattle.page_layout.specs.Geometry.{row_count}
+use Rattle.page_layout.specs.Geometry.{key_count, row_count}
 use Rattle.page_layout.specs.Page.{Image, IsImage}
 use Rattle.page_layout.specs.Array.{marks}
 use Rattle.page_layout.specs.OneArray.{AreDistinct}
@@ -16,7 +16,7 @@ use Rattle.image_check.specs.declared.survey.Survey.{Survey}
 use Rattle.image_check.specs.Agrees.{IsAsked, AreInRange}
 use Rattle.image_check.specs.Blocks.{AreStates, IsTableOf}
 use Rattle.image_check.specs.Survey.{HasLooks, HasPassed, AreLiveCounts}
-use Rattle.image_check.specs.Surveyed.{IsSurvey, Surveys, SurveysKeys, SurveysPairs}
+use Rattle.image_check.specs.Surveyed.{IsSized, IsSurvey, Surveys, SurveysKeys, SurveysPairs}
 use Rattle.image_check.specs.Stale.{stale_sectors, stale_count}
 use Rattle.image_check.specs.Rising.{IsRisingBelow}
 use Rattle.image_check.specs.Accepted.{Acceptance, IsAcceptance}
@@ -24,7 +24,7 @@ use Rattle.std.proofs.lemmas.Bool.{cases_lt}
 use Rattle.page_layout.specs.Flash.{Flash}
 use Rattle.image_check.specs.Refused.{Asked, Numbers, Sequences, Fresh, HoldBetween, FailsFrom, IsFirstWrong}
 use Rattle.image_check.specs.declared.refusal.Refusal.TheVariants as refusals
-use Rattle.image_check.proofs.ChainLemmas.{hold_none, hold_one, hold_join, hold_more, fails_here, fails_first, agrees_of}
+use Rattle.image_check.proofs.ChainLemmas.{hold_none, hold_one, hold_join, hold_more, fails_here, fails_later, fails_first, agrees_of}
 
 -- the survey with its pairs in another order
 pub record IsSorted (g : Geometry) (image : Image) (s : Survey) : Type 0 where
@@ -73,6 +73,52 @@ numbers_of g capacity image c h = h.part Numbers (omega arith) (omega arith)
 
 pub distinct_of : (g : Geometry) (capacity : ℕ) (image : Image) (c : Claim) → HoldBetween g capacity image c 1 4 → AreDistinct (marks image)
 distinct_of g capacity image c h = h.part Sequences (omega arith) (omega arith)
+
+-- ---- the sizes of a survey whose pairs were sorted
+
+pub record IsStillSized (old new : Survey) : Type 0 where
+  pub geometry_is : new.geometry ≡ old.geometry
+  pub newest : length new.newest.items ≡ key_count new.geometry
+  pub looks : length new.looks.items ≡ old.geometry.blocks
+
+pub still_sized : (old new : Survey) (rows : ℕ) → new ≡ record old { pairs = new.pairs } → IsSized old.geometry rows old → IsStillSized old new
+still_sized old new rows others h = subst (λ s. IsStillSized old s) (sym others) (record { geometry_is = refl; newest = h.newest; looks = h.looks })
+
+pub blocks_few : (g : Geometry) (n : ℕ) → n ≡ g.blocks → n < 2 ^ 32
+blocks_few g n is = (let most = g.limits.block_count.most in omega arith)
+
+-- ---- part after part, by a survey whose pairs were sorted since
+
+pub rows_held : (capacity : ℕ) (image : Image) (old new : Survey) (c : Claim) (passed : List Bool) → Surveys old.geometry image old → new ≡ record old { pairs = new.pairs } → IsPermutation old.pairs.items new.pairs.items
+    → HasPassed (marks image) (row_count old.geometry) c.sectors passed → HoldBetween old.geometry capacity image c 1 4
+    → ((capacity : ℕ) (image : Image) → SurveysKeys new.geometry image new.newest.items → HasPassed (marks image) (row_count new.geometry) c.sectors passed → HoldBetween new.geometry capacity image c 4 6) → HoldBetween old.geometry capacity image c 1 6
+rows_held capacity image old new c passed h others moved passes first ok =
+    let sorted : IsSorted old.geometry image new = sorted_of image old new h others moved in
+    hold_join old.geometry capacity image c 1 4 6 first (rows_hold old.geometry new.geometry capacity image new.newest.items c passed sorted.geometry_is sorted.keys passes ok)
+
+pub rows_refused : (capacity : ℕ) (image : Image) (old new : Survey) (c : Claim) (passed : List Bool) (r : Refusal) → Surveys old.geometry image old → new ≡ record old { pairs = new.pairs } → IsPermutation old.pairs.items new.pairs.items
+    → HasPassed (marks image) (row_count old.geometry) c.sectors passed → HoldBetween old.geometry capacity image c 1 4
+    → ((capacity : ℕ) (image : Image) → SurveysKeys new.geometry image new.newest.items → HasPassed (marks image) (row_count new.geometry) c.sectors passed → AreDistinct (marks image) → FailsFrom new.geometry capacity image c 4 r) → FailsFrom old.geometry capacity image c 1 r
+rows_refused capacity image old new c passed r h others moved passes first err =
+    let sorted : IsSorted old.geometry image new = sorted_of image old new h others moved in
+    fails_later old.geometry capacity image c 1 4 r first (rows_fail old.geometry new.geometry capacity image new.newest.items c passed r sorted.geometry_is sorted.keys passes (distinct_of old.geometry capacity image c first) err)
+
+pub blocks_held : (g : Geometry) (capacity : ℕ) (image : Image) (c : Claim) (states given : List BlockState) → HoldBetween g capacity image c 1 6 → given ≡ states → AreStates g image states
+    → ((g : Geometry) (capacity : ℕ) (image : Image) → AreStates g image given → HoldBetween g capacity image c 6 10) → HoldBetween g capacity image c 1 10
+blocks_held g capacity image c states given rows same are ok = hold_join g capacity image c 1 6 10 rows (ok g capacity image (states_given g image states given same are))
+
+pub blocks_refused : (g : Geometry) (capacity : ℕ) (image : Image) (c : Claim) (states given : List BlockState) (r : Refusal) → HoldBetween g capacity image c 1 6 → given ≡ states → AreStates g image states
+    → ((g : Geometry) (capacity : ℕ) (image : Image) → AreStates g image given → FailsFrom g capacity image c 6 r) → FailsFrom g capacity image c 1 r
+blocks_refused g capacity image c states given r rows same are err = fails_later g capacity image c 1 6 r rows (err g capacity image (states_given g image states given same are))
+
+pub pairs_sorted : (image : Image) (old new : Survey) (given : List (ℕ × ℕ)) → Surveys old.geometry image old → new ≡ record old { pairs = new.pairs } → IsPermutation old.pairs.items new.pairs.items → given ≡ new.pairs.items → SurveysPairs old.geometry image given
+pairs_sorted image old new given h others moved same =
+    let sorted : IsSorted old.geometry image new = sorted_of image old new h others moved in
+    pairs_given old.geometry image new.pairs.items given same sorted.pairs
+
+-- the pairs were put in another order where they are kept
+pub pairs_moved : (items given moved kept : List (ℕ × ℕ)) → given ≡ items → kept ≡ moved → IsPermutation given moved → IsPermutation items kept
+pairs_moved items given moved kept same is h = subst (λ ps. IsPermutation ps kept) same (subst (λ ps. IsPermutation given ps) (sym is) h)
 
 -- a certificate that says nothing
 abbrev no_claim : Geometry → Claim

@@ -1,6 +1,7 @@
 pub mod SectorLemmas
 pub mod TellLemmas
 pub mod SurveyLemmas
+pub mod WithinLemmas
 pub mod LookLemmas
 pub mod TableLemmas
 pub mod PartLemmas
@@ -12,6 +13,7 @@ pub mod TablesLemmas
 pub mod LiveMostLemmas
 pub mod StateLemmas
 pub mod StaleLemmas
+pub mod SpanLemmas
 pub mod ChainLemmas
 pub mod JudgeLemmas
 pub mod OnceLemmas

@@ -26,6 +26,12 @@ pub if_more : {X : Type 0} (o : Option X) (P Q : X → Type 0) → IfSome o P �
 if_more None P Q h more = tt
 if_more (Some x) P Q h more = more x h
 
+pub read_nothing : (most : ℕ) (a : Option (List ℕ)) → ReadsUpTo most a a
+read_nothing most a = record { bytes = []; few = omega arith; read = Consumes-nil a }
+
+pub one_beyond : (n : ℕ) → n ≤ n + 1
+one_beyond n = omega arith
+
 -- ---- a cut
 
 pub cut_ended : (size n : ℕ) (a b d : Option (List ℕ)) (xs ys : List ℕ) → Consumes a b xs → length xs < size → n ≡ 0 → Consumes b d (take n ys) → IsAtEnd d → IsCut size a d Ended
@@ -80,6 +86,12 @@ read_more g rows a b d before after body spare h next body_size spare_size withi
       (more (raw_image g (h.bytes ++ ((body ++ spare) ++ rest))) (h.shown ((body ++ spare) ++ rest))
       (raw_image-at g (h.bytes ++ ((body ++ spare) ++ rest)) rows within ∙ ap Some (page_there g h.bytes body spare rest (rows * page_bytes g) h.size body_size spare_size)));
 }
+
+pub row_before : (g : Geometry) (row end : ℕ) → row < end → end ≡ row_count g → row < row_count g
+row_before g row end below is = subst (λ n. row < n) is below
+
+pub page_size : (g : Geometry) (n m k l : ℕ) → n ≡ k → k ≡ g.data_bytes → m ≡ l → l ≡ g.spare_bytes → n + m ≡ page_bytes g
+page_size g n m k l body body_whole spare spare_whole = omega arith
 
 -- a page that wasn't read whole
 pub read_cut : (g : Geometry) (rows size : ℕ) (a b d : Option (List ℕ)) (shows : Image → Type 0) (cut : Cut) → IsReadTo g rows a b shows → size ≡ page_bytes g → rows < row_count g → IsCut size b d cut → IsCut (image_bytes g) a d cut

@@ -22,7 +22,7 @@ use Rattle.image_check.specs.Accepted.{Acceptance, IsAcceptance}
 use Rattle.image_check.specs.Agrees.{IsAsked, IsCertificateOf, IsDirectory, AreNewest}
 use Rattle.image_check.specs.Noted.{HasNoted, HasSomeNoted}
 use Rattle.image_check.specs.Passed.{IsPass, IsSamePass, Shows}
-use Rattle.image_check.specs.Refused.{Asked, Directory, Sectors, HoldBetween, FailsFrom, IsFirstWrong, IsJudgement}
+use Rattle.image_check.specs.Refused.{Asked, Directory, Sectors, HoldBetween, FailsFrom, IsFirstWrong}
 use Rattle.image_check.specs.Room.{IsScratch}
 use Rattle.image_check.specs.Stale.{stale_sectors}
 use Rattle.image_check.specs.Surveyed.{IsSized, IsSurvey, Surveys}
@@ -107,22 +107,34 @@ first_wrong g capacity image c r asked f = fails_first g capacity image c r (fai
 
 -- ---- from the end of a pass to the answer of a check
 
-pub judged : {X : Type 0} (r : Result X Refusal) (x : Refusal) → IfErr r IsJudgement → r ≡ Err x → IsJudgement x
-judged {X} r x h e = subst (λ (y : Result X Refusal). IfErr y IsJudgement) e h
+-- it is of the geometry, the capacity and the certificate that were asked for
+pub record IsOwn (g : Geometry) (capacity : ℕ) (c : Claim) (p : Pass) : Type 0 where
+  pub geometry : p.survey.geometry ≡ g
+  pub claim : p.certificate.now ≡ c
+  pub capacity_is : c.capacity ≡ capacity
 
-pub finished_ok : (g : Geometry) (capacity : ℕ) (image : Image) (c : Claim) (p : Pass) (r : Result Acceptance Refusal) → p.survey.geometry ≡ g → p.certificate.now ≡ c → c.capacity ≡ capacity → length image ≡ row_count g → Shows image (row_count g) p
+pub own_pass : (g : Geometry) (capacity : ℕ) (c : Claim) (p q : Pass) → IsAsked g capacity c → p.survey.geometry ≡ g → p.certificate.now ≡ c → IsSamePass p q → IsOwn g capacity c q
+own_pass g capacity c p q asked geometry claim same = record { geometry = same.geometry ∙ geometry; claim = same.certificate ∙ claim; capacity_is = asked.capacity_same }
+
+-- it has all rows
+pub full_pass : (g : Geometry) (p : Pass) → p.survey.geometry ≡ g → IsPass (row_count g) p → IsPass (row_count p.survey.geometry) p
+full_pass g p same h = subst (λ n. IsPass n p) (ap row_count (sym same)) h
+
+pub finished_ok : (g : Geometry) (capacity : ℕ) (image : Image) (c : Claim) (p : Pass) (r : Result Acceptance Refusal) → IsOwn g capacity c p → length image ≡ row_count g → Shows image (row_count g) p
     → IfOk r (λ a. (image : Image) → length image ≡ row_count p.survey.geometry → Shows image (row_count p.survey.geometry) p → IsAcceptance p.survey.geometry p.certificate.now.capacity image p.certificate.now a) → IfOk r (IsAcceptance g capacity image c)
-finished_ok g capacity image c p (Ok a) e f k whole shows h =
-    let found = h image (whole ∙ ap row_count (sym e)) (subst (λ n. Shows image n p) (ap row_count (sym e)) shows) in
-    subst (λ n. IsAcceptance g n image c a) k (subst (λ (d : Claim). IsAcceptance g d.capacity image d a) f (subst (λ x. IsAcceptance x p.certificate.now.capacity image p.certificate.now a) e found))
-finished_ok g capacity image c p (Err x) e f k whole shows h = tt
+finished_ok g capacity image c p (Ok a) own whole shows h =
+    let rows : row_count g ≡ row_count p.survey.geometry = ap row_count (sym own.geometry) in
+    let found = h image (whole ∙ rows) (subst (λ n. Shows image n p) rows shows) in
+    subst (λ n. IsAcceptance g n image c a) own.capacity_is (subst (λ (d : Claim). IsAcceptance g d.capacity image d a) own.claim (subst (λ x. IsAcceptance x p.certificate.now.capacity image p.certificate.now a) own.geometry found))
+finished_ok g capacity image c p (Err x) own whole shows h = tt
 
-pub finished_err : (g : Geometry) (capacity : ℕ) (image : Image) (c : Claim) (p : Pass) (r : Result Acceptance Refusal) → p.survey.geometry ≡ g → p.certificate.now ≡ c → c.capacity ≡ capacity → length image ≡ row_count g → Shows image (row_count g) p
+pub finished_err : (g : Geometry) (capacity : ℕ) (image : Image) (c : Claim) (p : Pass) (r : Result Acceptance Refusal) → IsOwn g capacity c p → length image ≡ row_count g → Shows image (row_count g) p
     → IfErr r (λ x. (image : Image) → length image ≡ row_count p.survey.geometry → Shows image (row_count p.survey.geometry) p → IsFirstWrong p.survey.geometry p.certificate.now.capacity image p.certificate.now x) → IfErr r (IsFirstWrong g capacity image c)
-finished_err g capacity image c p (Ok a) e f k whole shows h = tt
-finished_err g capacity image c p (Err r) e f k whole shows h =
-    let found = h image (whole ∙ ap row_count (sym e)) (subst (λ n. Shows image n p) (ap row_count (sym e)) shows) in
-    subst (λ n. IsFirstWrong g n image c r) k (subst (λ (d : Claim). IsFirstWrong g d.capacity image d r) f (subst (λ x. IsFirstWrong x p.certificate.now.capacity image p.certificate.now r) e found))
+finished_err g capacity image c p (Ok a) own whole shows h = tt
+finished_err g capacity image c p (Err r) own whole shows h =
+    let rows : row_count g ≡ row_count p.survey.geometry = ap row_count (sym own.geometry) in
+    let found = h image (whole ∙ rows) (subst (λ n. Shows image n p) rows shows) in
+    subst (λ n. IsFirstWrong g n image c r) own.capacity_is (subst (λ (d : Claim). IsFirstWrong g d.capacity image d r) own.claim (subst (λ x. IsFirstWrong x p.certificate.now.capacity image p.certificate.now r) own.geometry found))
 
 pub rows_of : (g : Geometry) (now first : Flash) → now ≡ first → IsImage g now.image → length first.image ≡ row_count g
 rows_of g now first same whole = sym (ap (λ (f : Flash). length f.image) same) ∙ whole.rows

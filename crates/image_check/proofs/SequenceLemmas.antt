@@ -255,6 +255,21 @@ pub record Looked (n : ℕ) (pairs : List (ℕ × ℕ)) (lowest : Option (ℕ ×
 pub looked_start : (pairs : List (ℕ × ℕ)) → Looked 1 pairs None
 looked_start pairs = record { none = λ e. record { differ = λ i l. absurd (omega arith) }; some = λ rows e. absurd cc }
 
+-- the lowest so far stays the lowest with the next neighbours
+lowest_stays : (n : ℕ) (pairs : List (ℕ × ℕ)) (a b : ℕ) → IsLowestBelow n pairs a b
+    → ((i : ℕ) → i + 1 ≡ n → (get_or pairs i (0, 0)).0 ≡ (get_or pairs (i + 1) (0, 0)).0 → b ≤ (get_or pairs (i + 1) (0, 0)).1) → IsLowestBelow (n + 1) pairs a b
+lowest_stays n pairs a b old next = record {
+  place = old.place;
+  within = let l = old.within in omega arith;
+  same = old.same;
+  first_is = old.first_is;
+  second_is = old.second_is;
+  lowest = λ i l s. elim (cases_lt (i + 1) n) [
+    | inl below ↦ old.lowest i below s
+    | inr last ↦ next i (omega arith) s
+  ];
+}
+
 -- the next neighbours differ
 pub looked_apart : (n : ℕ) (pairs : List (ℕ × ℕ)) (lowest : Option (ℕ × ℕ)) → 1 ≤ n → (get_or pairs (n - 1) (0, 0)).0 ≢ (get_or pairs n (0, 0)).0 → Looked n pairs lowest → Looked (n + 1) pairs lowest
 looked_apart n pairs lowest one ne h = record {
@@ -264,34 +279,17 @@ looked_apart n pairs lowest one ne h = record {
       | inr last ↦ let a : i ≡ n - 1 = omega arith in let b : i + 1 ≡ n = omega arith in rw (b, a) ne
     ];
   };
-  some = λ rows e. let old = h.some rows e in record {
-    place = old.place;
-    within = let l = old.within in omega arith;
-    same = old.same;
-    first_is = old.first_is;
-    second_is = old.second_is;
-    lowest = λ i l s. elim (cases_lt (i + 1) n) [
-      | inl below ↦ old.lowest i below s
-      | inr last ↦ let a : i ≡ n - 1 = omega arith in let b : i + 1 ≡ n = omega arith in absurd (ne (rw (← a, ← b) s))
-    ];
-  };
+  some = λ rows e. lowest_stays n pairs rows.0 rows.1 (h.some rows e) (λ i last s. let a : i ≡ n - 1 = omega arith in absurd (ne (rw (← a, ← last) s)));
 }
 
 -- the next neighbours share a sequence, and their second row is no lower
 pub looked_kept : (n : ℕ) (pairs : List (ℕ × ℕ)) (lowest : Option (ℕ × ℕ)) (rows : ℕ × ℕ) → lowest ≡ Some rows → 1 ≤ n → rows.1 ≤ (get_or pairs n (0, 0)).1 → Looked n pairs lowest → Looked (n + 1) pairs lowest
-looked_kept n pairs lowest rows is one le h = let old = h.some rows is in record {
+looked_kept n pairs lowest rows is one le h = record {
   none = λ e. absurd (let clash : Some rows ≡ None = sym is ∙ e in cc);
-  some = λ more e. let both : Some rows ≡ Some more = sym is ∙ e in let same : rows ≡ more = cc in subst (λ (r : ℕ × ℕ). IsLowestBelow (n + 1) pairs r.0 r.1) same (record {
-    place = old.place;
-    within = let l = old.within in omega arith;
-    same = old.same;
-    first_is = old.first_is;
-    second_is = old.second_is;
-    lowest = λ i l s. elim (cases_lt (i + 1) n) [
-      | inl below ↦ old.lowest i below s
-      | inr last ↦ let b : i + 1 ≡ n = omega arith in rw b le
-    ];
-  });
+  some = λ more e.
+      let both : Some rows ≡ Some more = sym is ∙ e in
+      let same : rows ≡ more = cc in
+      subst (λ (r : ℕ × ℕ). IsLowestBelow (n + 1) pairs r.0 r.1) same (lowest_stays n pairs rows.0 rows.1 (h.some rows is) (λ i last s. rw last le));
 }
 
 -- they share one, and their second row is the lowest

@@ -1,5 +1,5 @@
 -- What the checker says of an image that a reader gives.
-use Rattle.std.proofs.Common.{◌≡◌, ◌⊎◌, ℕ, ◌+◌, List, ◌++◌, length, length-append, Option, IfSome, Result, Ok, Err, IfOk, IfErr, OnOk, arith, inl, inr}
+use Rattle.std.proofs.Common.{◌≡◌, ◌⊎◌, ℕ, ◌+◌, List, ◌++◌, length, length-append, Option, IfSome, Result, Ok, Err, IfOk, IfErr, OnOk, refl, arith, inl, inr}
 use Rattle.std.proofs.KnownBytes.{Consumes-trans}
 use Rattle.page_layout.specs.declared.geometry.Geometry.{Geometry}
 use Rattle.page_layout.specs.Geometry.{row_count}
@@ -9,18 +9,17 @@ use Rattle.page_layout.proofs.RawLemmas.{length-raw_image}
 use Rattle.certificate.specs.Claim.{Claim}
 use Rattle.image_check.specs.declared.page_reader.Cut.{Cut}
 use Rattle.image_check.specs.declared.page_reader.Cut.TheVariants.{Ended, Failed}
+use Rattle.image_check.specs.declared.pass.Begun.{Begun}
 use Rattle.image_check.specs.declared.pass.Pass.{Pass}
 use Rattle.image_check.specs.declared.refusal.Refusal.{Refusal}
 use Rattle.image_check.specs.declared.refusal.Refusal.TheVariants as refusals
 use Rattle.image_check.specs.Accepted.{Acceptance, IsAcceptance}
-use Rattle.image_check.specs.Agrees.{IsAsked}
 use Rattle.image_check.specs.PageReader.{image_bytes, ReadsUpTo, HasMore, IsCut, IsReadTo, IsTaken}
-use Rattle.image_check.specs.Passed.{Shows}
+use Rattle.image_check.specs.Passed.{IsBegun, Shows}
 use Rattle.image_check.specs.Refused.{IsFirstWrong, IsJudgement}
 use Rattle.image_check.specs.Streamed.{IsUntaken, IsStreamRefusal, refusal_of}
-use Rattle.image_check.proofs.JudgeLemmas.{not_asked}
 use Rattle.image_check.proofs.PageReaderLemmas.{if_all, if_more, cut_short, read_past}
-use Rattle.image_check.proofs.PassLemmas.{finished_ok, finished_err}
+use Rattle.image_check.proofs.PassLemmas.{IsOwn, finished_ok, finished_err}
 
 -- what the pass has of all pages of an image
 abbrev pub shows_all : Geometry → Pass → Image → Type 0
@@ -52,20 +51,21 @@ reads_all g most a b d shows is h one = record {
 
 -- ---- the answer
 
-pub unasked_refusal : (g : Geometry) (capacity : ℕ) (a : Option (List ℕ)) (c : Claim) → (IsAsked g capacity c → ⊥) → IfSome a (λ bytes. IsStreamRefusal g capacity bytes c refusals.GeometryDiffers)
-unasked_refusal g capacity a c ne = if_all a (λ bytes. IsStreamRefusal g capacity bytes c refusals.GeometryDiffers) (λ bytes. inr (inr (not_asked g capacity (raw_image g bytes) c ne)))
+-- what begins is of its own certificate
+pub begun_own : (g : Geometry) (c : Claim) (b : Begun) → IsBegun g c b → IsBegun g b.pass.certificate.now b
+begun_own g c b h = record { pass = h.pass; shows = h.shows; geometry = h.geometry; claim = refl; body = h.body; spare = h.spare }
 
-pub streamed_ok : (g : Geometry) (capacity : ℕ) (o : Option (List ℕ)) (c : Claim) (p : Pass) (r : Result Acceptance Refusal) → p.survey.geometry ≡ g → p.certificate.now ≡ c → c.capacity ≡ capacity → IfSome o (IsTaken g (shows_all g p))
+pub streamed_ok : (g : Geometry) (capacity : ℕ) (o : Option (List ℕ)) (c : Claim) (p : Pass) (r : Result Acceptance Refusal) → IsOwn g capacity c p → IfSome o (IsTaken g (shows_all g p))
     → IfOk r (λ a. (image : Image) → length image ≡ row_count p.survey.geometry → Shows image (row_count p.survey.geometry) p → IsAcceptance p.survey.geometry p.certificate.now.capacity image p.certificate.now a)
     → IfOk r (λ a. IfSome o (λ bytes. IsAcceptance g capacity (raw_image g bytes) c a))
-streamed_ok g capacity o c p (Ok a) e f k took h = if_more o (IsTaken g (shows_all g p)) (λ bytes. IsAcceptance g capacity (raw_image g bytes) c a) took (λ bytes t. finished_ok g capacity (raw_image g bytes) c p (Ok a) e f k (length-raw_image g bytes) t.shown h)
-streamed_ok g capacity o c p (Err x) e f k took h = tt
+streamed_ok g capacity o c p (Ok a) own took h = if_more o (IsTaken g (shows_all g p)) (λ bytes. IsAcceptance g capacity (raw_image g bytes) c a) took (λ bytes t. finished_ok g capacity (raw_image g bytes) c p (Ok a) own (length-raw_image g bytes) t.shown h)
+streamed_ok g capacity o c p (Err x) own took h = tt
 
-pub streamed_err : (g : Geometry) (capacity : ℕ) (o : Option (List ℕ)) (c : Claim) (p : Pass) (r : Result Acceptance Refusal) → p.survey.geometry ≡ g → p.certificate.now ≡ c → c.capacity ≡ capacity → IfSome o (IsTaken g (shows_all g p))
+pub streamed_err : (g : Geometry) (capacity : ℕ) (o : Option (List ℕ)) (c : Claim) (p : Pass) (r : Result Acceptance Refusal) → IsOwn g capacity c p → IfSome o (IsTaken g (shows_all g p))
     → IfErr r (λ x. (image : Image) → length image ≡ row_count p.survey.geometry → Shows image (row_count p.survey.geometry) p → IsFirstWrong p.survey.geometry p.certificate.now.capacity image p.certificate.now x)
     → IfErr r (λ x. IfSome o (λ bytes. IsStreamRefusal g capacity bytes c x))
-streamed_err g capacity o c p (Ok a) e f k took h = tt
-streamed_err g capacity o c p (Err x) e f k took h = if_more o (IsTaken g (shows_all g p)) (λ bytes. IsStreamRefusal g capacity bytes c x) took (λ bytes t. inr (inr (finished_err g capacity (raw_image g bytes) c p (Err x) e f k (length-raw_image g bytes) t.shown h)))
+streamed_err g capacity o c p (Ok a) own took h = tt
+streamed_err g capacity o c p (Err x) own took h = if_more o (IsTaken g (shows_all g p)) (λ bytes. IsStreamRefusal g capacity bytes c x) took (λ bytes t. inr (inr (finished_err g capacity (raw_image g bytes) c p (Err x) own (length-raw_image g bytes) t.shown h)))
 
 taken_whole : (g : Geometry) (o : Option (List ℕ)) (p : Pass) → IfSome o (IsTaken g (shows_all g p)) → IfSome o (λ bytes. length bytes ≡ image_bytes g)
 taken_whole g o p took = if_more o (IsTaken g (shows_all g p)) (λ bytes. length bytes ≡ image_bytes g) took (λ bytes t. t.whole)

@@ -1,11 +1,13 @@
 -- A pass over the pages of an image, each handed over once in row order.
-use Rattle.std.specs.Prelude.{◌≡◌, ℕ, length}
+use Rattle.std.specs.Prelude.{◌≡◌, ◌⊎◌, ℕ, length}
 use Rattle.page_layout.specs.declared.geometry.Geometry.{Geometry}
 use Rattle.page_layout.specs.Page.{Image}
 use Rattle.page_layout.specs.Array.{marks}
 use Rattle.certificate.specs.Claim.{Claim}
 use Rattle.image_check.specs.declared.pass.Begun.{Begun}
 use Rattle.image_check.specs.declared.pass.Pass.{Pass}
+use Rattle.image_check.specs.declared.refusal.Refusal.{Refusal}
+use Rattle.image_check.specs.declared.refusal.Refusal.TheVariants as refusals
 use Rattle.image_check.specs.Agrees.{IsAsked, IsCertificateOf}
 use Rattle.image_check.specs.Noted.{HasNoted, HasSomeNoted}
 use Rattle.image_check.specs.Room.{IsScratch}
@@ -41,3 +43,7 @@ pub record IsBegun (g : Geometry) (c : Claim) (b : Begun) : Type 0 where
   pub claim : b.pass.certificate.now ≡ c
   pub body : length b.body.items ≡ g.data_bytes
   pub spare : length b.spare.items ≡ g.spare_bytes
+
+-- why no pass begins: the certificate isn't the one that was asked for, or it is and a growth was refused
+abbrev pub IsUnbegun : Geometry → ℕ → Claim → Refusal → Type 0
+IsUnbegun g capacity c r = ((r ≡ refusals.GeometryDiffers) × (¬ IsAsked g capacity c)) ⊎ ((r ≡ refusals.OutOfMemory) × IsAsked g capacity c)

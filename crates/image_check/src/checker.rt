@@ -7,7 +7,7 @@ ghost use Rattle.page_layout.specs.OnlyReads.{OnlyReads};
 ghost use Rattle.certificate.specs.Claim.{sizes_of};
 ghost use Rattle.image_check.specs.Accepted.{IsAcceptance};
 ghost use Rattle.image_check.specs.Agrees.{IsAsked, IsCertificateOf};
-ghost use Rattle.image_check.specs.Passed.{IsPass, IsSamePass, Shows};
+ghost use Rattle.image_check.specs.Passed.{IsBegun, IsPass, IsSamePass, IsUnbegun, Shows};
 ghost use Rattle.image_check.specs.Refused.{IsRefusal};
 
 use crate::accepted::Accepted;
@@ -28,12 +28,33 @@ fn has_same_sizes(a: &Geometry, b: &Geometry) -> bool
         && a.sectors() == b.sectors()
 }
 
-/// Whether the certificate is of the geometry and the capacity that are asked for.
-pub(crate) fn is_asked(geometry: &Geometry, capacity: u32, certificate: &Certificate) -> bool
+// Whether the certificate is of the geometry and the capacity that are asked for.
+fn is_asked(geometry: &Geometry, capacity: u32, certificate: &Certificate) -> bool
     ensures asked { IsTrue result ↔ IsAsked geometry.now capacity certificate.now }
     ensures sized { result ≡ true → IsCertificateOf geometry.now certificate.now }
 {
     has_same_sizes(&certificate.geometry(), geometry) && certificate.capacity() == capacity
+}
+
+/// A pass that begins, where the certificate is the one that is asked for. All memory of a check is taken here.
+///
+/// # Errors
+/// `GeometryDiffers` where it is another one, and then no memory is asked for; `OutOfMemory` where a growth was refused.
+pub(crate) fn begin<'a>(
+    alloc: Global,
+    geometry: &Geometry,
+    capacity: u32,
+    certificate: &'a Certificate,
+) -> Result<Begun<'a>, Refusal>
+    ensures asked { OnOk result (IsAsked geometry.now capacity certificate.now) }
+    ensures begun { IfOk result (IsBegun geometry.now certificate.now) }
+    ensures unbegun { IfErr result (IsUnbegun geometry.now capacity certificate.now) }
+{
+    if !is_asked(geometry, capacity, certificate) {
+        return Err(Refusal::GeometryDiffers);
+    }
+    let begun = Begun::new(alloc, geometry, certificate)?;
+    Ok(begun)
 }
 
 // Hands each page of a source to a pass, in row order.
@@ -101,10 +122,7 @@ pub fn check<'a, S: PageSource>(
     ensures reads { S.view.reads source.new ≤ S.view.reads source.old + row_count geometry.now }
     ensures rose { result ≡ Err Refusal.Source → HasRisen (S.view.failed source.old) (S.view.failed source.new) }
 {
-    if !is_asked(geometry, capacity, certificate) {
-        return Err(Refusal::GeometryDiffers);
-    }
-    let begun = Begun::new(alloc, geometry, certificate)?;
+    let begun = begin(alloc, geometry, capacity, certificate)?;
     let Begun {
         mut pass,
         mut body,

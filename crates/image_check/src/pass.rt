@@ -44,10 +44,10 @@ impl<'a> Pass<'a> {
         ensures geometry { IfOk result (λ pass. pass.survey.geometry ≡ geometry.now) }
         ensures claim { IfOk result (λ pass. pass.certificate.now ≡ certificate.now) }
     {
-        let survey = Survey::new(alloc, geometry)?;
         let passed = vec![in alloc; false; geometry.sectors() as usize]?;
         let mut noted = Noted::new(alloc, certificate.capacity())?;
         let scratch = Scratch::new(alloc, geometry)?;
+        let survey = Survey::new(alloc, geometry)?;
         note_absent(geometry, certificate, &mut noted);
         Ok(Pass {
             certificate,
@@ -135,9 +135,9 @@ impl<'a> Begun<'a> {
         ensures { IfOk result (IsBegun geometry.now certificate.now) }
     {
         Ok(Begun {
-            pass: Pass::new(alloc, geometry, certificate)?,
             body: vec![in alloc; 0; geometry.data_bytes()]?,
             spare: vec![in alloc; 0; geometry.spare_bytes()]?,
+            pass: Pass::new(alloc, geometry, certificate)?,
         })
     }
 }

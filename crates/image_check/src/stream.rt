@@ -6,13 +6,13 @@ ghost use Rattle.page_layout.specs.Raw.{raw_image};
 ghost use Rattle.image_check.specs.Accepted.{IsAcceptance};
 ghost use Rattle.image_check.specs.Agrees.{IsAsked};
 ghost use Rattle.image_check.specs.PageReader.{image_bytes, ReadsUpTo, IsCut, IsReadTo, IsTaken};
-ghost use Rattle.image_check.specs.Passed.{IsPass, IsSamePass, Shows};
+ghost use Rattle.image_check.specs.Passed.{IsBegun, IsPass, IsSamePass, Shows};
 ghost use Rattle.image_check.specs.Refused.{IsJudgement};
 ghost use Rattle.image_check.specs.Streamed.{IsUntaken, IsStreamRefusal};
 ghost use Rattle.image_check.specs.declared.refusal.Refusal.TheVariants as refusals;
 
 use crate::accepted::Accepted;
-use crate::checker::is_asked;
+use crate::checker::begin;
 use crate::dump_reader::DumpReader;
 use crate::page_reader::{Cut, is_at_end, read_page};
 use crate::pass::{Begun, Pass};
@@ -60,29 +60,28 @@ fn stream_pages<R: DumpReader>(
     Ok(())
 }
 
-// Hands all pages to a pass, and sees that no byte follows them. One more is asked for at most.
-fn take_image<R: DumpReader>(
+// The pass that begins once all pages were handed to it, and no byte follows them. One more is asked for at most.
+fn take_image<'a, R: DumpReader>(
     reader: &mut R,
     geometry: &Geometry,
-    pass: &mut Pass<'_>,
-    body: &mut [u8],
-    spare: &mut [u8],
-) -> Result<(), Refusal>
-    requires pass { IsPass 0 pass.old }
-    requires pass_geometry { pass.old.survey.geometry ≡ geometry.now }
-    requires shows { (image : Image) → Shows image 0 pass.old }
-    requires body_whole { length body.old ≡ geometry.now.data_bytes }
-    requires spare_whole { length spare.old ≡ geometry.now.spare_bytes }
-    ensures pass { OnOk result (IsPass (row_count geometry.now) pass.new) }
-    ensures same_pass { OnOk result (IsSamePass pass.old pass.new) }
-    ensures taken { OnOk result (IfSome (R.remaining reader.old) (IsTaken geometry.now (λ image. Shows image (row_count geometry.now) pass.new))) }
+    begun: Begun<'a>,
+) -> Result<Pass<'a>, Refusal>
+    requires { IsBegun geometry.now begun.pass.certificate.now begun }
+    ensures pass { IfOk result (IsPass (row_count geometry.now)) }
+    ensures same_pass { IfOk result (IsSamePass begun.entry.pass) }
+    ensures taken { IfOk result (λ pass. IfSome (R.remaining reader.old) (IsTaken geometry.now (λ image. Shows image (row_count geometry.now) pass))) }
     ensures untaken { IfErr result (λ refusal. IfSome (R.remaining reader.old) (λ bytes. IsUntaken geometry.now bytes refusal)) }
     ensures stops { IfErr result (λ refusal. (refusal ≡ refusals.Source) ⊎ (refusal ≡ refusals.WrongLength)) }
     ensures read { ReadsUpTo (image_bytes geometry.now + 1) (R.remaining reader.old) (R.remaining reader.new) }
 {
-    stream_pages(reader, geometry, pass, body, spare)?;
+    let Begun {
+        mut pass,
+        mut body,
+        mut spare,
+    } = begun;
+    stream_pages(reader, geometry, &mut pass, &mut body, &mut spare)?;
     match is_at_end(reader) {
-        Ok(true) => Ok(()),
+        Ok(true) => Ok(pass),
         Ok(false) => Err(Refusal::WrongLength),
         Err(_) => Err(Refusal::Source),
     }
@@ -118,15 +117,7 @@ pub fn check_stream<'a, R: Read>(
     ensures memory { result ≡ Err Refusal.OutOfMemory → reader.new ≡ reader.old }
     ensures accepted { IfOk result (λ accepted. (accepted.claim ≡ certificate.now) × IsAsked geometry.now capacity certificate.now) }
 {
-    if !is_asked(geometry, capacity, certificate) {
-        return Err(Refusal::GeometryDiffers);
-    }
-    let begun = Begun::new(alloc, geometry, certificate)?;
-    let Begun {
-        mut pass,
-        mut body,
-        mut spare,
-    } = begun;
-    take_image(reader, geometry, &mut pass, &mut body, &mut spare)?;
+    let begun = begin(alloc, geometry, capacity, certificate)?;
+    let pass = take_image(reader, geometry, begun)?;
     pass.finish()
 }

@@ -1,6 +1,7 @@
 -- Why a command ended before it was done.
 use Rattle.std.proofs.Common.{◌≡◌, ◌≢◌, inl, inr, ℕ, Bool, false, List, Option, Some, None, IfSome, refl, sym, ap, ◌∙◌, subst}
-use Rattle.std.specs.Prelude.{Result, Ok, Err, IfErr}
+use Rattle.std.specs.Prelude.{Result, Ok, Err, IfErr, length, replicate}
+use Rattle.std.proofs.lemmas.List.{length-replicate}
 use Rattle.std.specs.Result.{IsErrAnd}
 use Rattle.std.proofs.KnownBytes.{Keeps-refl}
 use Rattle.std.specs.Borrow.{Bor}
@@ -14,7 +15,7 @@ use Rattle.lab_commands.specs.declared.files.LabFileFault.TheVariants as file
 use Rattle.lab_commands.specs.declared.files.Standing.{Standing}
 use Rattle.lab_commands.specs.declared.files.Standing.TheVariants as standing
 use Rattle.lab_commands.specs.Files.{AnswersNoMore, IsFileOpened, StandsAtPath, Store, StoreAnswers}
-use Rattle.lab_commands.specs.Undone.{IsFileUnmade, IsKeptThere, IsMapUnplaced, IsUnplaced, IsUnread, IsUntaken, IsUnwritten, LeavesAll, MayNotWrite, OpensForReading, unmade_as}
+use Rattle.lab_commands.specs.Undone.{IsFileUnmade, IsKeptThere, IsMapUnplaced, IsUnbegun, IsUnplaced, IsUnread, IsUntaken, IsUnwritten, LeavesAll, MayNotWrite, OpensForReading, unmade_as}
 
 pub left_all : (before after : Option Store) (out : Option (List ℕ)) → after ≡ before → LeavesAll before after out out
 left_all before after out same = record { kept = same; silent = Keeps-refl out }
@@ -92,6 +93,16 @@ pub unmade : (a : StoreAnswers) (dump out : Bor (List ℕ)) (g : Geometry) (know
 unmade a dump out g known make.WrongLength opened h reads writes = inr (inl (record { known = known; opened = opened; other = h }))
 unmade a dump out g known make.Source opened h reads writes = inr (inl (refl, record { known = known; opened = opened }, reads refl))
 unmade a dump out g known make.Target opened h reads writes = inr (inr (inr (refl, record { known = known; opened = opened }, writes refl)))
+
+-- where the dump was not opened, or the file not made
+pub unbegun : (a : StoreAnswers) (g : Geometry) (dump path : List ℕ) (told : LabFault) → IsUnbegun a dump path told → IsFileUnmade a g dump path told
+unbegun a g dump path told (inl unread) = inl unread
+unbegun a g dump path told (inr unwritten) = inr (inr (inl unwritten))
+
+-- a file of so many zeros has so many pieces
+pub as_many : (ps : Option (List (List ℕ))) (count rows : ℕ) (zeros : List ℕ) → IfSome ps (λ (pieces : List (List ℕ)). pieces ≡ replicate count zeros) → count ≡ rows → IfSome ps (λ pieces. length pieces ≡ rows)
+as_many None count rows zeros is same = tt
+as_many (Some pieces) count rows zeros is same = ap length is ∙ (length-replicate count zeros ∙ same)
 
 -- ---- whether a file may be written
 

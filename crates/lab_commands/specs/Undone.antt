@@ -111,6 +111,10 @@ IsUnfilled a dump path _ = ⊥
 abbrev pub IsFileUnmade : StoreAnswers → Geometry → List ℕ → List ℕ → LabFault → Type 0
 IsFileUnmade a g dump path told = IsUnread a dump told ⊎ IsUntaken a g dump told ⊎ IsUnwritten a path told ⊎ IsUnfilled a dump path told
 
+-- the dump was not opened, or the file beside the path was not made
+abbrev pub IsUnbegun : StoreAnswers → List ℕ → List ℕ → LabFault → Type 0
+IsUnbegun a dump path told = IsUnread a dump told ⊎ IsUnwritten a path told
+
 -- how it is told that no file was made of a dump
 abbrev pub unmade_as : MakeFault → Bor (List ℕ) → Bor (List ℕ) → LabFault
 unmade_as make.WrongLength dump out = fault.WrongLength

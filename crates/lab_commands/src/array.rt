@@ -16,7 +16,7 @@ use crate::maps::ArrayMap;
 use crate::numbers::last_at;
 use crate::opening::{
     allow, create_beside, geometry_at, is_dump, is_out, keep, may_replace, open_file, progress_of,
-    standing, store_map, unmade_as,
+    standing, store_map, unmade,
 };
 use crate::output::Output;
 use crate::printing::{ended, printer};
@@ -144,10 +144,7 @@ fn make<'a, F: LabFiles>(
     let target = create_beside(files, words.out, geometry.sectors(), geometry.data_bytes())?;
     match write_sectors(room, &mut dump, geometry, last, damaged, target) {
         Ok(written) => Ok(written),
-        Err(unwritten) => {
-            files.discard(unwritten.target);
-            Err(unmade_as(unwritten.fault, words.dump, words.out))
-        }
+        Err(unwritten) => Err(unmade(files, unwritten, words.dump, words.out)),
     }
 }
 

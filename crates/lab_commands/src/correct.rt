@@ -11,9 +11,7 @@ ghost use Rattle.lab_commands.specs.Correct.{IsCorrectFault, IsNoChip, IsPutRigh
 use crate::array::allow_both;
 use crate::files::LabFiles;
 use crate::maps::LossMap;
-use crate::opening::{
-    create_beside, geometry_at, keep, open_file, progress_of, store_map, unmade_as,
-};
+use crate::opening::{begin_pages, geometry_at, keep, store_map, unmade};
 use crate::output::Output;
 use crate::printing::{ended, printer};
 use crate::reports::print_corrected;
@@ -68,15 +66,11 @@ fn put_right<'a, F: LabFiles>(
     ensures beside { OnOk result (without_part (F.kept files.new) ≡ F.kept files.old) }
     ensures kept { OnErr result (F.kept files.new ≡ F.kept files.old) }
 {
-    let mut dump = open_file(files, words.dump, progress_of(words.showing))?;
-    let size = geometry.data_bytes() + geometry.spare_bytes();
-    let target = create_beside(files, words.out, geometry.rows(), size)?;
+    let begun = begin_pages(files, words.dump, words.out, words.showing, geometry)?;
+    let (mut dump, target) = begun;
     match correct_dump(room, &mut dump, geometry, chip, target) {
         Ok(told) => Ok(told),
-        Err(unwritten) => {
-            files.discard(unwritten.target);
-            Err(unmade_as(unwritten.fault, words.dump, words.out))
-        }
+        Err(unwritten) => Err(unmade(files, unwritten, words.dump, words.out)),
     }
 }
 

@@ -1,13 +1,14 @@
 //! The words and the files that each command begins with.
-ghost use Rattle.std.specs.Prelude.{◌≡◌, ◌≢◌, [], ◌∷◌, Some, true, IfOk, IfErr, IfSome, OnOk, OnErr, replicate};
+ghost use Rattle.std.specs.Prelude.{◌≡◌, ◌≢◌, [], ◌∷◌, Some, true, IfOk, IfErr, IfSome, OnOk, OnErr, length, replicate};
+ghost use Rattle.page_layout.specs.Geometry.{row_count};
 ghost use Rattle.lab_commands.specs.declared.files.Standing.TheVariants.{Nothing};
 ghost use Rattle.lab_commands.specs.Files.{AnswersNoMore, IsFileOpened, with_kept, without_part};
-ghost use Rattle.lab_commands.specs.Undone.{IsGeometryAt, IsKeptThere, IsMapUnplaced, IsNoGeometry, IsReplaceable, IsUnplaced, IsUnread, IsUnwritten, MayNotWrite, MayWrite, unmade_as};
+ghost use Rattle.lab_commands.specs.Undone.{IsGeometryAt, IsKeptThere, IsMapUnplaced, IsNoGeometry, IsReplaceable, IsUnbegun, IsUnplaced, IsUnread, IsUnwritten, MayNotWrite, MayWrite, unmade_as};
 
 use crate::files::{KeepFault, LabFileFault, LabFiles, MapText, Progress, Standing};
 use crate::text::LabFault;
 use crate::words::Showing;
-use lab_dump::MakeFault;
+use lab_dump::{MakeFault, Unwritten};
 use page_layout::geometry::Geometry;
 use program_words::geometry_numbers;
 
@@ -78,8 +79,8 @@ pub(crate) fn open_dump<'a, F: LabFiles>(
     }
 }
 
-/// How it is told that no file was made of a dump.
-pub(crate) fn unmade_as<'a>(fault: MakeFault, dump: &'a str, out: &'a str) -> LabFault<'a>
+// How it is told that no file was made of a dump.
+fn unmade_as<'a>(fault: MakeFault, dump: &'a str, out: &'a str) -> LabFault<'a>
     ensures { result ≡ unmade_as fault dump.entry out.entry }
 {
     match fault {
@@ -87,6 +88,21 @@ pub(crate) fn unmade_as<'a>(fault: MakeFault, dump: &'a str, out: &'a str) -> La
         MakeFault::Source => LabFault::Read(dump),
         MakeFault::Target => LabFault::Write(out),
     }
+}
+
+/// The same of a file that was begun, which is removed.
+pub(crate) fn unmade<'a, F: LabFiles>(
+    files: &mut F,
+    unwritten: Unwritten<F::Target>,
+    dump: &'a str,
+    out: &'a str,
+) -> LabFault<'a>
+    ensures told { result ≡ unmade_as unwritten.fault dump.entry out.entry }
+    ensures no_more { AnswersNoMore (F.answers files.old) (F.answers files.new) }
+    ensures kept { F.kept files.new ≡ without_part (F.kept files.old) }
+{
+    files.discard(unwritten.target);
+    unmade_as(unwritten.fault, dump, out)
 }
 
 /// What stands at a path, which is to be written.
@@ -194,6 +210,29 @@ pub(crate) fn create_beside<'a, F: LabFiles>(
         Err(LabFileFault::Failed) => Err(LabFault::Write(path)),
         Err(LabFileFault::OutOfMemory) => Err(LabFault::OutOfMemory),
     }
+}
+
+/// A reader of a dump, and a file beside that of a path with as many pages as a die of a geometry has.
+pub(crate) fn begin_pages<'a, F: LabFiles>(
+    files: &mut F,
+    dump: &'a str,
+    path: &'a str,
+    showing: Showing,
+    geometry: &Geometry,
+) -> Result<(F::Reader, F::Target), LabFault<'a>>
+    ensures bytes { IfOk result (λ begun. IsFileOpened (F.answers files.old) dump.now (F.Reader.remaining begun.0)) }
+    ensures reads { OnOk result ((reader : F.Reader) → F.Reader.failed reader ≡ true → (F.answers files.old).reads_fail) }
+    ensures pages { IfOk result (λ begun. IfSome (F.Target.pieces begun.1) (λ ps. length ps ≡ row_count geometry.now)) }
+    ensures writes { OnOk result ((target : F.Target) → F.Target.failed target ≡ true → (F.answers files.old).writes_fail) }
+    ensures fault { IfErr result (IsUnbegun (F.answers files.old) dump.now path.now) }
+    ensures no_more { AnswersNoMore (F.answers files.old) (F.answers files.new) }
+    ensures made { OnOk result (without_part (F.kept files.new) ≡ F.kept files.old) }
+    ensures kept { OnErr result (F.kept files.new ≡ F.kept files.old) }
+{
+    let reader = open_file(files, dump, progress_of(showing))?;
+    let size = geometry.data_bytes() + geometry.spare_bytes();
+    let target = create_beside(files, path, geometry.rows(), size)?;
+    Ok((reader, target))
 }
 
 /// Puts a file that was made in the place of a path. Where that fails it is removed.

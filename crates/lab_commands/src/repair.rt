@@ -7,7 +7,7 @@ ghost use Rattle.lab_commands.specs.Repair.{HasPutRepair, IsMended, IsRepairFaul
 
 use crate::bits::bits_at;
 use crate::files::LabFiles;
-use crate::opening::{allow, create_beside, geometry_at, keep, open_file, progress_of, unmade_as};
+use crate::opening::{allow, begin_pages, geometry_at, keep, progress_of, unmade};
 use crate::output::Output;
 use crate::printing::{ended, printer};
 use crate::reports::print_repaired;
@@ -33,16 +33,12 @@ fn mend<'a, F: LabFiles>(
     ensures beside { OnOk result (without_part (F.kept files.new) ≡ F.kept files.old) }
     ensures kept { OnErr result (F.kept files.new ≡ F.kept files.old) }
 {
-    let mut dump = open_file(files, words.dump, progress_of(words.showing))?;
-    let size = geometry.data_bytes() + geometry.spare_bytes();
-    let target = create_beside(files, words.out, geometry.rows(), size)?;
+    let begun = begin_pages(files, words.dump, words.out, words.showing, geometry)?;
+    let (mut dump, target) = begun;
     let watch = files.watch(progress_of(words.showing));
     match repair_dump(room, &mut dump, geometry, asked, target, watch) {
         Ok(repaired) => Ok(repaired),
-        Err(unwritten) => {
-            files.discard(unwritten.target);
-            Err(unmade_as(unwritten.fault, words.dump, words.out))
-        }
+        Err(unwritten) => Err(unmade(files, unwritten, words.dump, words.out)),
     }
 }
 
@@ -114,6 +110,11 @@ pub(crate) fn repair_command<'a, F: LabFiles, W: Output>(
     ensures ok { OnOk result (WroteRepair (F.answers files.old) words.entry (F.kept files.old) (F.kept files.new) (W.contents out.old) (W.contents out.new)) }
     ensures fault { IfErr result (IsRepairFault (F.answers files.old) words.entry (F.kept files.old) (F.kept files.new) (F.opened files.old) (F.opened files.new) (W.failed out.new) (W.contents out.old) (W.contents out.new)) }
 {
-    let told = put_mended(alloc, &words, files)?;
-    ended(print_repaired(printer(alloc, words.showing), out, told.tries, &told.mends))
+    let mended = put_mended(alloc, &words, files)?;
+    ended(print_repaired(
+        printer(alloc, words.showing),
+        out,
+        mended.tries,
+        &mended.mends,
+    ))
 }

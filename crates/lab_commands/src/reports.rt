@@ -158,8 +158,8 @@ fn print_left<W: Output>(
 fn print_lines<W: Output>(
     printer: Printer,
     out: &mut W,
-    geometry: &Geometry,
     rows: Option<Rows>,
+    geometry: &Geometry,
     survey: &DieSurvey,
 ) -> Result<(), OutputFault>
     ensures { Prints (W.failed out.new) (W.contents out.old) (W.contents out.new) (survey_lines printer.form geometry.now rows survey.now) result }
@@ -187,7 +187,7 @@ pub fn print_survey<W: Output>(
     ensures { Prints (W.failed out.new) (W.contents out.old) (W.contents out.new) (survey_text printer.form geometry.now rows survey.now) result }
 {
     printer.begin(out, Report::Survey)?;
-    print_lines(printer, out, geometry, rows, survey)?;
+    print_lines(printer, out, rows, geometry, survey)?;
     printer.end(out)
 }
 

@@ -1,5 +1,6 @@
 pub mod Sending
 pub mod Asking
+mod Calling
 pub mod StatusByte
 pub mod Leads
 pub mod Operations

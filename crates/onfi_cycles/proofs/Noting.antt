@@ -1,7 +1,7 @@
 -- What calls one after another make of a bus's record.
 use Rattle.std.proofs.Common.{◌≡◌, ℕ, Bool, true, false, List, [], ◌∷◌, ◌++◌, refl, sym, ◌∙◌, ap, subst, inl, inr, Result, Ok, Err, Option, ◌==◌}
 use Rattle.std.proofs.Common.{length, ◌<◌, ◌+◌, ◌*◌}
-use Rattle.std.specs.Prelude.{IfOk, OnOk}
+use Rattle.std.specs.Prelude.{IfOk, IsErrAnd, OnOk}
 use Rattle.page_layout.specs.declared.geometry.Geometry.{Geometry}
 use Rattle.page_layout.specs.Geometry.{row_count}
 use Rattle.page_layout.specs.Page.{page}
@@ -16,7 +16,7 @@ use Rattle.onfi_cycles.specs.Cycles.{status_of}
 use Rattle.onfi_cycles.specs.Spelling.{Taken, row_address, load_cycles, confirm_cycles, program_cycles}
 use Rattle.onfi_cycles.specs.Spelling.{erase_cycles, read_cycles}
 use Rattle.onfi_cycles.specs.Driver.{IsReady}
-use Rattle.onfi_cycles.specs.Sent.{Sent, SentUntil, Sends}
+use Rattle.onfi_cycles.specs.Sent.{Operates, Sent, SentUntil, Sends}
 use Rattle.onfi_cycles.specs.Recorded.{Notes, Calls}
 use Rattle.onfi_cycles.proofs.Leads.{LeadTo, moved}
 use Rattle.onfi_cycles.proofs.Operations.{IsConfirm, confirm_ready, status_leads, lead_at, load_leads, confirms_program, erase_leads, erase_due}
@@ -39,6 +39,16 @@ pub sends_weaker : {A B : Type 0} → (many few : B → Cycle → Result (Unit {
     → (a b : B) (xs : List Cycle) (out : A → List ℕ) (r : Result A BusFault) → Sends many a xs out r b → Sends few a xs out r b
 sends_weaker many few f a b xs out (Ok x) s = sent_weaker many few f a b xs (out x) s
 sends_weaker many few f a b xs out (Err fault) s = until_weaker many few f a b xs fault s
+
+-- an operation that a bus tells of: its status byte was taken, or it failed
+pub told_done : {B : Type 0} (die : B → DieState) (honest : B → Bool) (recorded : B → Option Recording) (called : B → Cycle → Result (Unit {0}) BusFault → List ℕ → B → Type 0) (a b : B) (xs : List Cycle) (status : ℕ) (r : Result Outcome BusFault)
+    → Sent (Calls die honest recorded called) a xs (status ∷ []) b → r ≡ outcome_of status → Operates called a xs r b
+told_done die honest recorded called a b xs status r s is = inl (status, is, sent_weaker (Calls die honest recorded called) called (λ a x r o b call. call.said) a b xs (status ∷ []) s)
+
+pub told_fault : {B : Type 0} (die : B → DieState) (honest : B → Bool) (recorded : B → Option Recording) (called : B → Cycle → Result (Unit {0}) BusFault → List ℕ → B → Type 0) (a b : B) (xs : List Cycle) (fault : BusFault) (r : Result Outcome BusFault)
+    → SentUntil (Calls die honest recorded called) a xs fault b → IsErrAnd r (λ e. e ≡ fault) → Operates called a xs r b
+told_fault die honest recorded called a b xs fault (Ok done) s is = absurd is
+told_fault die honest recorded called a b xs fault (Err e) s is = inr (fault, ap Err is, until_weaker (Calls die honest recorded called) called (λ a x r o b call. call.said) a b xs fault s)
 
 pub sent_split : {B : Type 0} → (called : B → Cycle → Result (Unit {0}) BusFault → List ℕ → B → Type 0) (a c : B) (xs ys : List Cycle) (out : List ℕ) → Sent called a (xs ++ ys) out c
     → (b : B) × (first : List ℕ) × (later : List ℕ) × Sent called a xs first b × Sent called b ys later c

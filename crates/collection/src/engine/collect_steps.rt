@@ -1,5 +1,5 @@
 //! A block is collected step by step.
-ghost use Rattle.std.specs.Prelude.{◌≡◌, ◌≢◌, ℕ, ◌⊎◌, ◌+◌, ◌-◌, ◌*◌, ◌/◌, ◌<◌, ◌≤◌, true, false, [], min, length, replicate, slice_set, Some, None};
+ghost use Rattle.std.specs.Prelude.{◌≡◌, ◌≢◌, ℕ, ◌⊎◌, ◌+◌, ◌-◌, ◌*◌, ◌/◌, ◌<◌, ◌≤◌, true, false, min, length, replicate, slice_set, Some, None};
 ghost use Rattle.std.specs.Prelude.{Ok, Err, IfOk, IfErr, IfSome, OnOk, OnErr, MatchResult, MatchOption};
 ghost use Rattle.std.specs.Option.{ForSome};
 ghost use Rattle.page_layout.specs.Counter.{counted};
@@ -8,18 +8,19 @@ ghost use Rattle.page_layout.specs.Key.{key_of};
 ghost use Rattle.page_layout.specs.Live.{IsKeyOf};
 ghost use Rattle.page_layout.specs.Geometry.{row_count, translation_pages};
 ghost use Rattle.allocation.specs.State.{is_closed, live_at};
-ghost use Rattle.collection.specs.Safe.{IsSafe, IsIdle, ram, image_in, page_in, is_shut};
+ghost use Rattle.collection.specs.Safe.{IsSafe, IsIdle, ram, image_in, page_in};
 ghost use Rattle.collection.specs.Truth as truth;
 ghost use Rattle.collection.specs.Live.{HoldsNoneIn, IsLivePage};
-ghost use Rattle.collection.specs.Results.{IsSame, IsImageKept, Refused, Goes, IsLastPage};
+ghost use Rattle.collection.specs.Results.{IsSame, IsImageKept, Refused, Goes};
 ghost use Rattle.collection.specs.Whole.{erases_after};
 ghost use Rattle.collection.specs.Collect.{is_over as over, waiting, excess, OwesPage, marks_after, IsLowestDue, OwesNone, Refreshes, KeepsKeys};
 ghost use Rattle.collection.specs.Settle.{SetsMapping, BringsOut};
 ghost use Rattle.collection.specs.Left.{TouchesNoMore};
-ghost use Rattle.collection.specs.Collect.{GoesBut, HasCopied, HasBroughtOut, IsBroughtOut, HasWritten, HasErased, IsReleased, FaultCosts, StepCosts, IsMovedOut, IsRenewed};
+ghost use Rattle.collection.specs.Collect.{GoesBut, HasCopied, HasBroughtOut, IsBroughtOut, HasWritten, HasErased, IsReleased, FaultCosts, StepCosts, IsRenewed};
 ghost use Rattle.collection.specs.Collect.{IsCopiedOr, IsStepped};
-ghost use Rattle.collection.specs.Acts.{EngineActs, OnlyPrograms};
+ghost use Rattle.collection.specs.Acts.{EngineActs};
 ghost use Rattle.collection.specs.Stops.{CutsSafely, StopsSafely};
+ghost use Rattle.collection.specs.Moves.{LeavesRow};
 
 use super::Engine;
 use crate::fault::EngineFault;
@@ -87,38 +88,14 @@ impl<N: Nand> Engine<N> {
         requires key { IsKeyOf self.old.geometry (key_of found.now) }
         requires row { row < row_count self.old.geometry }
         requires room { length self.old.mapping.moved < waiting (ram self.old) + self.old.geometry.pages }
-        ensures acts { EngineActs N.view self.old self.new result }
-        ensures goes { Goes (ram self.old) (ram self.new) }
-        ensures only_programs { OnlyPrograms N.view self.old.nand self.new.nand }
-        ensures keys { KeepsKeys self.old.mapping self.new.mapping }
-        ensures refreshes { flushing ≡ true → Refreshes (ram self.old) (ram self.new) }
+        ensures leaves { LeavesRow N.view flushing found.now row self.old self.new result }
         ensures cost { MatchResult result (λ _. HasCopied flushing (ram self.old) (ram self.new)) (FaultCosts (ram self.old) (ram self.new)) }
-        ensures pinned { flushing ≡ false → (ram self.new).pin ≡ (ram self.old).pin }
-        ensures pin { (ram self.new).pin.block ≡ (ram self.old).pin.block }
         ensures settled { OnOk result ((at : ℕ) × SetsMapping (key_of found.now) at self.old.mapping self.new.mapping) }
-        ensures unmoved { OnErr result (self.new.mapping ≡ self.old.mapping) }
-        ensures touched { N.view.honest self.old.nand ≡ true → truth.IsTrue None (ram self.old) (image_in N.view.flash self.old) →
-            is_shut (ram self.old).blocks (row / self.old.geometry.pages) ≡ true →
-            IsLivePage row self.old.page.body.items found.now (image_in N.view.flash self.old) →
-            OnOk result (TouchesNoMore flushing (row / self.old.geometry.pages) (ram self.old) (image_in N.view.flash self.old) (ram self.new) (image_in N.view.flash self.new)) }
-        ensures programmed { OnOk result (IsLastPage found.now.kind found.now.number (ram self.new) (page_in self.new.page)) }
-        ensures truth { N.view.honest self.old.nand ≡ true → truth.IsTrue None (ram self.old) (image_in N.view.flash self.old) →
-            is_shut (ram self.old).blocks (row / self.old.geometry.pages) ≡ true →
-            IsLivePage row self.old.page.body.items found.now (image_in N.view.flash self.old) →
-            MatchResult result
-            (λ _. IsMovedOut row (ram self.old) (image_in N.view.flash self.old) (ram self.new) (image_in N.view.flash self.new))
-            (Refused (ram self.old) (image_in N.view.flash self.old) (ram self.new) (image_in N.view.flash self.new)) }
         ensures renews { N.view.honest self.old.nand ≡ true → truth.IsTrue None (ram self.old) (image_in N.view.flash self.old) →
             IsLivePage row self.old.page.body.items found.now (image_in N.view.flash self.old) →
             MatchResult result
             (λ _. IsRenewed (key_of found.now) (ram self.old) (image_in N.view.flash self.old) (ram self.new) (image_in N.view.flash self.new))
             (Refused (ram self.old) (image_in N.view.flash self.old) (ram self.new) (image_in N.view.flash self.new)) }
-        ensures stops { N.view.honest self.old.nand ≡ true → truth.IsTrue None (ram self.old) (image_in N.view.flash self.old) →
-            IsLivePage row self.old.page.body.items found.now (image_in N.view.flash self.old) → result ≢ Err EngineFault.Bus →
-            StopsSafely N.view self.old self.new }
-        ensures cut { N.view.honest self.old.nand ≡ true → truth.IsTrue None (ram self.old) (image_in N.view.flash self.old) →
-            IsLivePage row self.old.page.body.items found.now (image_in N.view.flash self.old) → result ≡ Err EngineFault.Bus →
-            CutsSafely N.view self.old self.new }
     {
         self.replace(found.kind, found.number, Some(row))?;
         self.mark(found.key(), flushing);
@@ -133,33 +110,9 @@ impl<N: Nand> Engine<N> {
         requires key { IsKeyOf self.old.geometry (key_of found.now) }
         requires row { row < row_count self.old.geometry }
         requires room { length self.old.mapping.moved < waiting (ram self.old) + self.old.geometry.pages }
-        ensures acts { EngineActs N.view self.old self.new result }
-        ensures goes { Goes (ram self.old) (ram self.new) }
-        ensures only_programs { OnlyPrograms N.view self.old.nand self.new.nand }
-        ensures keys { KeepsKeys self.old.mapping self.new.mapping }
-        ensures refreshes { flushing ≡ true → Refreshes (ram self.old) (ram self.new) }
+        ensures leaves { LeavesRow N.view flushing found.now row self.old self.new result }
         ensures cost { MatchResult result (λ _. HasBroughtOut flushing (ram self.old) (ram self.new)) (FaultCosts (ram self.old) (ram self.new)) }
-        ensures pinned { flushing ≡ false → (ram self.new).pin ≡ (ram self.old).pin }
-        ensures pin { (ram self.new).pin.block ≡ (ram self.old).pin.block }
         ensures brought { OnOk result ((at : ℕ) × BringsOut (key_of found.now) at self.old.mapping self.new.mapping) }
-        ensures unmoved { OnErr result (self.new.mapping ≡ self.old.mapping) }
-        ensures touched { N.view.honest self.old.nand ≡ true → truth.IsTrue None (ram self.old) (image_in N.view.flash self.old) →
-            is_shut (ram self.old).blocks (row / self.old.geometry.pages) ≡ true →
-            IsLivePage row self.old.page.body.items found.now (image_in N.view.flash self.old) →
-            OnOk result (TouchesNoMore flushing (row / self.old.geometry.pages) (ram self.old) (image_in N.view.flash self.old) (ram self.new) (image_in N.view.flash self.new)) }
-        ensures programmed { OnOk result (IsLastPage found.now.kind found.now.number (ram self.new) (page_in self.new.page)) }
-        ensures truth { N.view.honest self.old.nand ≡ true → truth.IsTrue None (ram self.old) (image_in N.view.flash self.old) →
-            is_shut (ram self.old).blocks (row / self.old.geometry.pages) ≡ true →
-            IsLivePage row self.old.page.body.items found.now (image_in N.view.flash self.old) →
-            MatchResult result
-            (λ _. IsMovedOut row (ram self.old) (image_in N.view.flash self.old) (ram self.new) (image_in N.view.flash self.new))
-            (Refused (ram self.old) (image_in N.view.flash self.old) (ram self.new) (image_in N.view.flash self.new)) }
-        ensures stops { N.view.honest self.old.nand ≡ true → truth.IsTrue None (ram self.old) (image_in N.view.flash self.old) →
-            IsLivePage row self.old.page.body.items found.now (image_in N.view.flash self.old) → result ≢ Err EngineFault.Bus →
-            StopsSafely N.view self.old self.new }
-        ensures cut { N.view.honest self.old.nand ≡ true → truth.IsTrue None (ram self.old) (image_in N.view.flash self.old) →
-            IsLivePage row self.old.page.body.items found.now (image_in N.view.flash self.old) → result ≡ Err EngineFault.Bus →
-            CutsSafely N.view self.old self.new }
     {
         if let (Key::Translation(t), true) = (found.key(), self.mapping.share() > 0) {
             self.write_loaded(t, Some(row))

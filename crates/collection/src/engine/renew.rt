@@ -12,8 +12,9 @@ ghost use Rattle.collection.specs.Results.{Refused, Goes};
 ghost use Rattle.collection.specs.Collect.{waiting, KeepsKeys, RescueCosts};
 ghost use Rattle.page_layout.specs.Version.{is_1};
 ghost use Rattle.collection.specs.Renew.{is_table, is_due_page, LooksAtDue, FindsDue, IsRenewedAt};
-ghost use Rattle.collection.specs.Acts.{EngineLooks, EngineActs, Stands};
+ghost use Rattle.collection.specs.Acts.{EngineLooks, Stands};
 ghost use Rattle.collection.specs.Stops.{CutsSafely, StopsSafely};
+ghost use Rattle.collection.specs.Moves.{MovesOne};
 
 use super::Engine;
 use crate::fault::{EngineFault, WriteFault};
@@ -95,29 +96,12 @@ impl<N: Nand> Engine<N> {
         Ok(None)
     }
 
-    // Copies the page of a row where it has to be renewed, whatever fault stands. Answers whether it
-    // was so.
+    // Moves the page of a row where it has to be renewed, whatever fault stands. Answers whether it was
+    // so.
     fn renew(&mut self, row: u32) -> Result<bool, EngineFault>
         requires safe { IsSafe N.view.flash self.old }
         requires row { row < row_count self.old.geometry }
-        ensures acts { EngineActs N.view self.old self.new result }
-        ensures goes { Goes (ram self.old) (ram self.new) }
-        ensures erases { N.view.erases self.new.nand ≡ N.view.erases self.old.nand }
-        ensures keys { KeepsKeys self.old.mapping self.new.mapping }
-        ensures beside { OnOk result (LeavesPin (ram self.old) (ram self.new)) }
-        ensures pin { (ram self.new).pin ≡ (ram self.old).pin }
-        ensures one_more { length self.new.mapping.moved ≤ length self.old.mapping.moved + 1 }
-        ensures full { length self.old.mapping.moved ≡ waiting (ram self.old) + self.old.geometry.pages → (result ≡ Err EngineFault.Damaged) × (self.new ≡ self.old) }
-        ensures cost { RescueCosts (ram self.old) (ram self.new) result }
-        ensures truth { N.view.honest self.old.nand ≡ true → truth.IsTrue None (ram self.old) (image_in N.view.flash self.old) →
-            length self.old.mapping.moved < waiting (ram self.old) + self.old.geometry.pages →
-            MatchResult result
-            (IsRenewedAt row (ram self.old) (image_in N.view.flash self.old) (ram self.new) (image_in N.view.flash self.new))
-            (Refused (ram self.old) (image_in N.view.flash self.old) (ram self.new) (image_in N.view.flash self.new)) }
-        ensures stops { N.view.honest self.old.nand ≡ true → truth.IsTrue None (ram self.old) (image_in N.view.flash self.old) → result ≢ Err EngineFault.Bus →
-            StopsSafely N.view self.old self.new }
-        ensures cut { N.view.honest self.old.nand ≡ true → truth.IsTrue None (ram self.old) (image_in N.view.flash self.old) → result ≡ Err EngineFault.Bus →
-            CutsSafely N.view self.old self.new }
+        ensures { MovesOne N.view (IsRenewedAt row) self.old self.new result }
     {
         if !self.mapping.has_place() {
             return Err(EngineFault::Damaged);
@@ -126,8 +110,7 @@ impl<N: Nand> Engine<N> {
         let Some(found) = due else {
             return Ok(false);
         };
-        self.copy_page(&found, row, false)?;
-        self.follow_moved(found.key())?;
+        self.move_page(&found, row)?;
         Ok(true)
     }
 

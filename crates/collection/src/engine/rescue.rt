@@ -3,6 +3,7 @@ ghost use Rattle.std.specs.Prelude.{◌≡◌, ◌≢◌, ◌+◌, ◌<◌, ◌�
 ghost use Rattle.std.specs.Bool.{OnTrue, OnFalse};
 ghost use Rattle.std.specs.Option.{ForSome};
 ghost use Rattle.page_layout.specs.Geometry.{row_count};
+ghost use Rattle.page_layout.specs.Key.{key_of};
 ghost use Rattle.page_layout.specs.Live.{IsKeyOf};
 ghost use Rattle.bad_blocks.specs.Table.{is_good_at};
 ghost use Rattle.allocation.specs.State.{live_at};
@@ -14,6 +15,7 @@ ghost use Rattle.collection.specs.Results.{Refused, Goes};
 ghost use Rattle.collection.specs.Collect.{waiting, KeepsKeys, IsAiling, HasAiling, HasNoneAiling, FollowCosts, IsFollowed, RescueCosts, IsFollowedBy, IsRescued, FindsAiling};
 ghost use Rattle.collection.specs.Acts.{EngineLooks, EngineActs, Stands};
 ghost use Rattle.collection.specs.Stops.{CutsSafely, StopsSafely};
+ghost use Rattle.collection.specs.Moves.{MovesPage, MovesOne};
 
 use super::Engine;
 use crate::fault::{EngineFault, WriteFault};
@@ -103,27 +105,23 @@ impl<N: Nand> Engine<N> {
         self.write_page_back(t)
     }
 
-    // Copies the live page of lowest row in a bad block out of it, whatever fault stands.
+    // Moves the page in the page buffer, the newest of its key, out of its row: it is copied, and where
+    // it is of a sector that is not cached, the translation page of that sector is written back.
+    pub(crate) fn move_page(&mut self, found: &Record, row: u32) -> Result<(), EngineFault>
+        requires safe { IsSafe N.view.flash self.old }
+        requires key { IsKeyOf self.old.geometry (key_of found.now) }
+        requires row { row < row_count self.old.geometry }
+        requires room { length self.old.mapping.moved < waiting (ram self.old) + self.old.geometry.pages }
+        ensures { MovesPage N.view found.now row self.old self.new result }
+    {
+        self.copy_page(found, row, false)?;
+        self.follow_moved(found.key())
+    }
+
+    // Moves the live page of lowest row in a bad block out of it, whatever fault stands.
     fn rescue(&mut self) -> Result<bool, EngineFault>
         requires safe { IsSafe N.view.flash self.old }
-        ensures acts { EngineActs N.view self.old self.new result }
-        ensures goes { Goes (ram self.old) (ram self.new) }
-        ensures erases { N.view.erases self.new.nand ≡ N.view.erases self.old.nand }
-        ensures keys { KeepsKeys self.old.mapping self.new.mapping }
-        ensures beside { OnOk result (LeavesPin (ram self.old) (ram self.new)) }
-        ensures pin { (ram self.new).pin ≡ (ram self.old).pin }
-        ensures one_more { length self.new.mapping.moved ≤ length self.old.mapping.moved + 1 }
-        ensures full { length self.old.mapping.moved ≡ waiting (ram self.old) + self.old.geometry.pages → (result ≡ Err EngineFault.Damaged) × (self.new ≡ self.old) }
-        ensures cost { RescueCosts (ram self.old) (ram self.new) result }
-        ensures truth { N.view.honest self.old.nand ≡ true → truth.IsTrue None (ram self.old) (image_in N.view.flash self.old) →
-            length self.old.mapping.moved < waiting (ram self.old) + self.old.geometry.pages →
-            MatchResult result
-            (IsRescued (ram self.old) (image_in N.view.flash self.old) (ram self.new) (image_in N.view.flash self.new))
-            (Refused (ram self.old) (image_in N.view.flash self.old) (ram self.new) (image_in N.view.flash self.new)) }
-        ensures stops { N.view.honest self.old.nand ≡ true → truth.IsTrue None (ram self.old) (image_in N.view.flash self.old) →
-            result ≢ Err EngineFault.Bus → StopsSafely N.view self.old self.new }
-        ensures cut { N.view.honest self.old.nand ≡ true → truth.IsTrue None (ram self.old) (image_in N.view.flash self.old) →
-            result ≡ Err EngineFault.Bus → CutsSafely N.view self.old self.new }
+        ensures { MovesOne N.view IsRescued self.old self.new result }
     {
         if !self.mapping.has_place() {
             return Err(EngineFault::Damaged);
@@ -132,8 +130,7 @@ impl<N: Nand> Engine<N> {
         let Some((row, found)) = ailing else {
             return Ok(false);
         };
-        self.copy_page(&found, row, false)?;
-        self.follow_moved(found.key())?;
+        self.move_page(&found, row)?;
         Ok(true)
     }
 

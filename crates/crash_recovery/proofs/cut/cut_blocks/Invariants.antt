@@ -1,4 +1,5 @@
-use Rattle.std.proofs.Common.{◌≡◌, ◌<◌, ◌/◌, ℕ, true}
+use Rattle.std.proofs.Common.{◌≡◌, true}
+use Rattle.crash_recovery.specs.Asked.{KeepsAsked}
 use Rattle.crash_recovery.specs.Torn.{IsBehind}
 use Rattle.crash_recovery.specs.Taken.{LeavesErased, Takes}
 use Rattle.crash_recovery.proofs.BlockLemmas.{IsBehindBelow}
@@ -8,7 +9,5 @@ abbrev pub invariant-loop-block : goal.invariant-loop-block
 invariant-loop-block g l = record {
   takes : g.S.Store.honest l.fn.store ≡ true → Takes (IsBehind l.geometry l.cuts) (g.S.Store.held l.fn.store) (g.S.Store.held l.store);
   erased : g.S.Store.honest l.fn.store ≡ true → LeavesErased (IsBehindBelow l.geometry l.cuts l.block) (g.S.Store.held l.store);
-  geometry : (g.S.Store.held l.store).geometry ≡ l.geometry;
-  as_honest : g.S.Store.honest l.store ≡ g.S.Store.honest l.fn.store;
-  settled : g.S.Store.failed l.store ≡ g.S.Store.failed l.fn.store;
+  keeps : KeepsAsked g.S.Store.held g.S.Store.honest g.S.Store.failed l.fn.store true l.store;
 }

@@ -1,12 +1,11 @@
-use Rattle.std.proofs.Common.{◌≡◌, ℕ, true, length}
+use Rattle.std.proofs.Common.{◌≡◌, ℕ, true}
 use Rattle.image_check.specs.Agrees.{Agrees}
-use Rattle.file_die.specs.Open.{OnlyLooks}
+use Rattle.crash_recovery.specs.Asked.{HasLooked}
 use Rattle.crash_recovery.specs.Torn.{FindsCuts}
 use Rattle.crash_recovery.proofs.look.find_cuts.Given as goal
 
 abbrev pub invariant-loop-block : goal.invariant-loop-block
 invariant-loop-block g l = record {
-  looks : OnlyLooks g.S.Store.held g.S.Store.honest l.fn.store l.store;
-  settled : g.S.Store.failed l.store ≡ g.S.Store.failed l.fn.store;
+  looks : HasLooked g.S.Store.held g.S.Store.honest g.S.Store.failed l.fn.store true l.store;
   finds : g.S.Store.honest l.fn.store ≡ true → (capacity : ℕ) → Agrees l.geometry capacity (g.S.Store.held l.fn.store).pages l.certificate → FindsCuts l.geometry (g.S.Store.held l.fn.store).pages l.mark l.block l.cuts;
 }

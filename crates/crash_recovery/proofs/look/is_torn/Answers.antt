@@ -1,4 +1,5 @@
-use Rattle.std.proofs.Common.{◌∙◌, ap, sym}
+use Rattle.std.proofs.Common.{◌∙◌, sym}
+use Rattle.crash_recovery.proofs.Kept.{looks_failed, looks_none}
 use Rattle.crash_recovery.proofs.LookLemmas.{class_told, torn_unnamed, whole_named}
 use Rattle.crash_recovery.proofs.look.is_torn.Goals as goal
 
@@ -6,10 +7,26 @@ pub returns-then-block-ne-SHOWN_BAD-clause-fine : goal.returns-then-block-ne-SHO
 returns-then-block-ne-SHOWN_BAD-clause-fine g c h capacity agrees e torn =
     c.if-block-ne-SHOWN_BAD.true (class_told c.args.geometry.now capacity _ c.args.certificate.now c.args.block c.block.result agrees c.requires.in_range c.block.ensures.is ∙ torn.shows)
 
+pub returns-then-block-ne-SHOWN_BAD-clause-looks : goal.returns-then-block-ne-SHOWN_BAD-clause-looks
+returns-then-block-ne-SHOWN_BAD-clause-looks g c = looks_none _ _ _ _
+
+pub returns-in_default-clause-fine : goal.returns-in_default-clause-fine
+returns-in_default-clause-fine g c h capacity agrees e torn = c.table_row.ensures.is.there capacity _ agrees c.in_default.is
+
+pub returns-in_default-clause-looks : goal.returns-in_default-clause-looks
+returns-in_default-clause-looks g c = looks_none _ _ _ _
+
+pub returns-in_err-is_named-clause-looks : goal.returns-in_err-is_named-clause-looks
+returns-in_err-is_named-clause-looks g c = looks_failed _ _ _ _ _ c.from_residual.result c.from_residual.ensures.0 c.in_err-is_named.ensures.looks
+
 pub returns-clause-torn : goal.returns-clause-torn
 returns-clause-torn g c h capacity agrees told =
     torn_unnamed c.args.geometry.now _ c.args.block c.in_ok-is_named.field-0 (sym (class_told c.args.geometry.now capacity _ c.args.certificate.now c.args.block c.block.result agrees c.requires.in_range c.block.ensures.is) ∙ c.if-block-ne-SHOWN_BAD.false)
-    (c.in_ok-is_named.ensures.named h capacity agrees) told
+    (c.in_ok-is_named.ensures.named h (c.table_row.ensures.is.newest_is capacity _ agrees ∙ c.in-Some.is)) told
 
 pub returns-clause-fine : goal.returns-clause-fine
-returns-clause-fine g c h capacity agrees told = whole_named c.args.geometry.now _ c.args.block c.in_ok-is_named.field-0 (c.in_ok-is_named.ensures.named h capacity agrees) told
+returns-clause-fine g c h capacity agrees told =
+    whole_named c.args.geometry.now _ c.args.block c.in_ok-is_named.field-0 (c.in_ok-is_named.ensures.named h (c.table_row.ensures.is.newest_is capacity _ agrees ∙ c.in-Some.is)) told
+
+pub returns-clause-looks : goal.returns-clause-looks
+returns-clause-looks g c = c.in_ok-is_named.ensures.looks

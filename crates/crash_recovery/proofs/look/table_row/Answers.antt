@@ -3,7 +3,7 @@ use Rattle.crash_recovery.proofs.LookLemmas.{key_within, table_there}
 use Rattle.crash_recovery.proofs.look.table_row.Goals as goal
 
 pub directory_row-requires : goal.directory_row-requires
-directory_row-requires c = key_within c.args.geometry.now c.args.block c.translation_pages.result c.entries-entries.result _ c.requires.in_range c.translation_pages.ensures c.entries-entries.ensures c.requires.whole.directory
+directory_row-requires c = key_within c.args.geometry.now c.args.block c.translation_pages.result c.entries-entries.result _ c.requires.in_range c.translation_pages.ensures c.entries-entries.ensures c.requires.claim.whole.directory
 
 pub returns-clause-is : goal.returns-clause-is
 returns-clause-is c = record {

@@ -1,4 +1,4 @@
-use Rattle.std.proofs.Common.{◌≡◌, ◌∙◌, inl, inr, sym, subst, rules, ap}
+use Rattle.std.proofs.Common.{◌∙◌, inl, sym, subst}
 use Rattle.image_check.specs.Agrees.{Agrees}
 use Rattle.file_die.specs.Store.{Held}
 use Rattle.crash_recovery.proofs.CutLemmas.{recovers_end, recovers_some}

@@ -1,71 +1,53 @@
-use Rattle.std.proofs.Common.{◌≡◌, ◌<◌, ◌∙◌, Ok, Err, refl, sym, ap, subst}
+use Rattle.std.proofs.Common.{◌<◌, ◌∙◌, Err, refl, sym, ap, subst}
 use Rattle.std.proofs.lemmas.Result.{err_from_is_err_and}
+use Rattle.std.specs.Map.{keys_of}
 use Rattle.page_layout.specs.Geometry.{translation_pages, table_pages}
 use Rattle.collection.specs.Safe.{ram, image_in}
+use Rattle.collection.proofs.Lefts.{calm_law}
 use Rattle.ftl_device.specs.Flush.{IsClean, HasNewTables}
 use Rattle.ftl_device.specs.FlushSteps.{FlushesPages}
-use Rattle.ftl_device.proofs.FlushLoops.{limits_then, clean_then, flushed_by}
+use Rattle.ftl_device.proofs.FlushLoops.{clean_then, flushed_by}
 use Rattle.ftl_device.proofs.FlushRooms.{begin_refused, tables_done, tables_stuck}
-use Rattle.ftl_device.proofs.FlushRuns.{passed_1, passed_2, passed_3, passed_more, refused_then, array_then, pages_end, room_end, table_ready}
+use Rattle.ftl_device.proofs.FlushRuns.{passed_1, passed_2, passed_3, stuck_then, kept_then, pages_end, room_end, table_ready}
 use Rattle.ftl_device.proofs.SpentLemmas.{flush_tables}
-use Rattle.ftl_device.proofs.LeaveLemmas.{leaves_cut, leaves_ends, leaves_stuck, limits_same}
-use Rattle.collection.proofs.Lefts.{calm_law}
-use Rattle.std.specs.Map.{keys_of}
+use Rattle.ftl_device.proofs.LeaveLemmas.{kept_stuck, limits_same}
 use Rattle.ftl_device.proofs.AnswerLemmas.{no_err, no_memory}
 use Rattle.ftl_device.proofs.flush.flush_ready.Goals as goal
 
 -- ---- it is done
 
+pub returns-clause-kept : goal.returns-clause-kept
+returns-clause-kept g c =
+    let roomed = passed_3 g.N.PageSource.view c.args.engine.now c.begin_flush.new.engine c.flush_translations.new.engine c.make_flush_room.new.engine c.in_ok-begin_flush.ensures.flushes c.in_ok-flush_translations.ensures.flushes c.in_ok-make_flush_room.ensures.flushes in
+    kept_then g.N.PageSource.view c.args.engine.now c.make_flush_room.new.engine c.write_tables.new.engine roomed tt c.in_ok-write_tables.ensures.leaves (limits_same _ _ c.write_tables.ensures.mapping)
+    (λ none. calm_law (ram c.make_flush_room.new.engine) (ram c.write_tables.new.engine) c.write_tables.ensures.beside c.in_ok-make_flush_room.ensures.flushes.calm) (λ honest k. (c.in_ok-write_tables.ensures.truth honest k).keeps)
+
 pub returns-clause-flushed : goal.returns-clause-flushed
 returns-clause-flushed g c = λ honest w.
-    let roomed = passed_3 g.N.PageSource.view c.args.engine.now c.begin_flush.new.engine c.flush_translations.new.engine c.make_flush_room.new.engine
-    c.in_ok-begin_flush.ensures.leaves c.begin_flush.ensures.keys.limits c.in_ok-begin_flush.ensures.truth
-    c.in_ok-flush_translations.ensures.leaves c.flush_translations.ensures.limits c.in_ok-flush_translations.ensures.truth
-    c.in_ok-make_flush_room.ensures.leaves c.make_flush_room.ensures.keys.limits c.in_ok-make_flush_room.ensures.truth in
-    let spells = c.in_ok-write_tables.ensures.truth (roomed.leaves.honest_is ∙ honest) (roomed.keeps honest w).truth in
-    let begun_size = c.begin_flush.ensures.leaves.geometry in
-    flushed_by c.args.engine.now.geometry c.make_flush_room.new.engine.geometry c.make_flush_room.new.engine.mapping (ram c.write_tables.new.engine) _ _ (c.write_tables.ensures.leaves.geometry ∙ roomed.leaves.geometry) roomed.leaves.geometry
-    (clean_then c.args.engine.now.geometry c.flush_translations.new.engine.geometry c.flush_translations.new.engine.mapping c.make_flush_room.new.engine.mapping (c.flush_translations.ensures.leaves.geometry ∙ c.begin_flush.ensures.leaves.geometry)
-    (let P : _ → Type 0 = λ h. (t : _) → t < translation_pages h → IsClean h t c.flush_translations.new.engine.mapping in subst P begun_size c.in_ok-flush_translations.ensures.clean) c.in_ok-make_flush_room.ensures.cleans)
-    c.write_tables.ensures.mapping spells
-
-pub returns-clause-renewed : goal.returns-clause-renewed
-returns-clause-renewed g c = λ honest w.
-    let roomed = passed_3 g.N.PageSource.view c.args.engine.now c.begin_flush.new.engine c.flush_translations.new.engine c.make_flush_room.new.engine
-    c.in_ok-begin_flush.ensures.leaves c.begin_flush.ensures.keys.limits c.in_ok-begin_flush.ensures.truth
-    c.in_ok-flush_translations.ensures.leaves c.flush_translations.ensures.limits c.in_ok-flush_translations.ensures.truth
-    c.in_ok-make_flush_room.ensures.leaves c.make_flush_room.ensures.keys.limits c.in_ok-make_flush_room.ensures.truth in
-    let spells = c.in_ok-write_tables.ensures.truth (roomed.leaves.honest_is ∙ honest) (roomed.keeps honest w).truth in
-    subst (λ h. HasNewTables (table_pages h) h (image_in g.N.PageSource.view.flash c.write_tables.new.engine)) roomed.leaves.geometry spells.renewed
-
-pub returns-clause-ends : goal.returns-clause-ends
-returns-clause-ends g c =
-    let roomed = passed_3 g.N.PageSource.view c.args.engine.now c.begin_flush.new.engine c.flush_translations.new.engine c.make_flush_room.new.engine
-    c.in_ok-begin_flush.ensures.leaves c.begin_flush.ensures.keys.limits c.in_ok-begin_flush.ensures.truth
-    c.in_ok-flush_translations.ensures.leaves c.flush_translations.ensures.limits c.in_ok-flush_translations.ensures.truth
-    c.in_ok-make_flush_room.ensures.leaves c.make_flush_room.ensures.keys.limits c.in_ok-make_flush_room.ensures.truth in
-    let tabled = passed_more g.N.PageSource.view c.args.engine.now c.make_flush_room.new.engine c.write_tables.new.engine roomed c.in_ok-write_tables.ensures.leaves
-    (limits_same _ _ c.write_tables.ensures.mapping) (λ honest k. (c.in_ok-write_tables.ensures.truth honest k).keeps) in
-    leaves_ends g.N.PageSource.view c.args.engine.now c.write_tables.new.engine (Ok tt) tabled.leaves tabled.limits (λ none. calm_law (ram c.make_flush_room.new.engine) (ram c.write_tables.new.engine) c.write_tables.ensures.beside c.in_ok-make_flush_room.ensures.calm)
-
-pub returns-clause-truth : goal.returns-clause-truth
-returns-clause-truth g c = λ honest w.
-    let roomed = passed_3 g.N.PageSource.view c.args.engine.now c.begin_flush.new.engine c.flush_translations.new.engine c.make_flush_room.new.engine
-    c.in_ok-begin_flush.ensures.leaves c.begin_flush.ensures.keys.limits c.in_ok-begin_flush.ensures.truth
-    c.in_ok-flush_translations.ensures.leaves c.flush_translations.ensures.limits c.in_ok-flush_translations.ensures.truth
-    c.in_ok-make_flush_room.ensures.leaves c.make_flush_room.ensures.keys.limits c.in_ok-make_flush_room.ensures.truth in
-    let tabled = passed_more g.N.PageSource.view c.args.engine.now c.make_flush_room.new.engine c.write_tables.new.engine roomed c.in_ok-write_tables.ensures.leaves
-    (limits_same _ _ c.write_tables.ensures.mapping) (λ honest k. (c.in_ok-write_tables.ensures.truth honest k).keeps) in
-    tabled.keeps honest w
+    let roomed = passed_3 g.N.PageSource.view c.args.engine.now c.begin_flush.new.engine c.flush_translations.new.engine c.make_flush_room.new.engine c.in_ok-begin_flush.ensures.flushes c.in_ok-flush_translations.ensures.flushes c.in_ok-make_flush_room.ensures.flushes in
+    let clean = clean_then c.args.engine.now.geometry c.flush_translations.new.engine.geometry c.flush_translations.new.engine.mapping c.make_flush_room.new.engine.mapping
+    (c.flush_translations.ensures.flushes.leaves.geometry ∙ c.begin_flush.ensures.flushes.leaves.geometry)
+    (let P : _ → Type 0 = λ h. (t : _) → t < translation_pages h → IsClean h t c.flush_translations.new.engine.mapping in subst P c.begin_flush.ensures.flushes.leaves.geometry c.in_ok-flush_translations.ensures.clean)
+    c.in_ok-make_flush_room.ensures.cleans in
+    flushed_by c.args.engine.now.geometry c.make_flush_room.new.engine.geometry c.make_flush_room.new.engine.mapping (ram c.write_tables.new.engine) _ _ (c.write_tables.ensures.leaves.geometry ∙ roomed.leaves.geometry) roomed.leaves.geometry clean
+    c.write_tables.ensures.mapping (c.in_ok-write_tables.ensures.truth (roomed.leaves.die.honest_is ∙ honest) (roomed.keeps honest w).truth)
 
 pub returns-clause-clean : goal.returns-clause-clean
 returns-clause-clean g c =
-    let now = clean_then c.args.engine.now.geometry c.flush_translations.new.engine.geometry c.flush_translations.new.engine.mapping c.make_flush_room.new.engine.mapping (c.flush_translations.ensures.leaves.geometry ∙ c.begin_flush.ensures.leaves.geometry)
-    (let P : _ → Type 0 = λ h. (t : _) → t < translation_pages h → IsClean h t c.flush_translations.new.engine.mapping in subst P c.begin_flush.ensures.leaves.geometry c.in_ok-flush_translations.ensures.clean) c.in_ok-make_flush_room.ensures.cleans in
+    let now = clean_then c.args.engine.now.geometry c.flush_translations.new.engine.geometry c.flush_translations.new.engine.mapping c.make_flush_room.new.engine.mapping
+    (c.flush_translations.ensures.flushes.leaves.geometry ∙ c.begin_flush.ensures.flushes.leaves.geometry)
+    (let P : _ → Type 0 = λ h. (t : _) → t < translation_pages h → IsClean h t c.flush_translations.new.engine.mapping in subst P c.begin_flush.ensures.flushes.leaves.geometry c.in_ok-flush_translations.ensures.clean)
+    c.in_ok-make_flush_room.ensures.cleans in
     λ t lt. subst (λ m. IsClean c.args.engine.now.geometry t m) (sym c.write_tables.ensures.mapping) (now t lt)
 
+pub returns-clause-renewed : goal.returns-clause-renewed
+returns-clause-renewed g c = λ honest w.
+    let roomed = passed_3 g.N.PageSource.view c.args.engine.now c.begin_flush.new.engine c.flush_translations.new.engine c.make_flush_room.new.engine c.in_ok-begin_flush.ensures.flushes c.in_ok-flush_translations.ensures.flushes c.in_ok-make_flush_room.ensures.flushes in
+    let spells = c.in_ok-write_tables.ensures.truth (roomed.leaves.die.honest_is ∙ honest) (roomed.keeps honest w).truth in
+    subst (λ h. HasNewTables (table_pages h) h (image_in g.N.PageSource.view.flash c.write_tables.new.engine)) roomed.leaves.geometry spells.renewed
+
 pub returns-clause-pins : goal.returns-clause-pins
-returns-clause-pins g c = λ none. ap (λ p. p.block) c.write_tables.ensures.beside.pin ∙ c.in_ok-make_flush_room.ensures.pins (c.in_ok-flush_translations.ensures.pins (c.in_ok-begin_flush.ensures.pins none))
+returns-clause-pins g c = λ none. ap (λ p. p.block) c.write_tables.ensures.beside.pin ∙ c.in_ok-make_flush_room.ensures.flushes.pins (c.in_ok-flush_translations.ensures.flushes.pins (c.in_ok-begin_flush.ensures.flushes.pins none))
 
 pub returns-clause-programs : goal.returns-clause-programs
 returns-clause-programs g c = record {
@@ -73,159 +55,100 @@ returns-clause-programs g c = record {
   back = c.flush_translations.new.engine;
   ready = c.make_flush_room.new.engine;
   begins = c.in_ok-begin_flush.ensures.begins;
-  pages = subst (λ h. FlushesPages g.N.PageSource.view (translation_pages h) c.begin_flush.new.engine c.flush_translations.new.engine) c.begin_flush.ensures.leaves.geometry c.in_ok-flush_translations.ensures.pages;
+  pages = subst (λ h. FlushesPages g.N.PageSource.view (translation_pages h) c.begin_flush.new.engine c.flush_translations.new.engine) c.begin_flush.ensures.flushes.leaves.geometry c.in_ok-flush_translations.ensures.pages;
   cleared = c.in_ok-make_flush_room.ensures.cleared;
   tables = c.in_ok-write_tables.ensures.rounds;
 }
+
+pub returns-clause-memory : goal.returns-clause-memory
+returns-clause-memory g c = λ bad. no_err _ _ _ refl bad
+
+pub returns-clause-keys : goal.returns-clause-keys
+returns-clause-keys g c = ap (λ m. keys_of m.cached) c.write_tables.ensures.mapping ∙ (c.make_flush_room.ensures.flushes.keys.keys ∙ (c.flush_translations.ensures.flushes.keys.keys ∙ c.begin_flush.ensures.flushes.keys.keys))
 
 -- ---- its free blocks
 
 pub returns-clause-count : goal.returns-clause-count
 returns-clause-count g c = λ known.
-    let begun = passed_1 g.N.PageSource.view c.args.engine.now c.begin_flush.new.engine c.in_ok-begin_flush.ensures.leaves c.begin_flush.ensures.keys.limits c.in_ok-begin_flush.ensures.truth in
-    let paged = passed_2 g.N.PageSource.view c.args.engine.now c.begin_flush.new.engine c.flush_translations.new.engine
-    c.in_ok-begin_flush.ensures.leaves c.begin_flush.ensures.keys.limits c.in_ok-begin_flush.ensures.truth
-    c.in_ok-flush_translations.ensures.leaves c.flush_translations.ensures.limits c.in_ok-flush_translations.ensures.truth in
-    let ready = table_ready (ram c.args.engine.now) (ram c.begin_flush.new.engine) c.begin_flush.ensures.leaves.safe.memory c.begin_flush.ensures.leaves.geometry
-    c.begin_flush.ensures.keys.limits.share known.2 (λ none. ap (λ e. ram e) (c.in_ok-begin_flush.ensures.begins.still none)) (λ some. c.in_ok-begin_flush.ensures.count some known.0 known.1 0 known.2)
-    (ram c.flush_translations.new.engine) (ram c.make_flush_room.new.engine) c.flush_translations.ensures.leaves.geometry c.flush_translations.ensures.limits.share
-    (λ none. c.in_ok-flush_translations.ensures.count none (begun.leaves.honest_is ∙ known.0) (begun.keeps known.0 known.1).truth) c.in_ok-flush_translations.ensures.spends
-    c.in_ok-make_flush_room.ensures.leaves.tells (λ none. c.in_ok-make_flush_room.ensures.count none (paged.leaves.honest_is ∙ known.0) (paged.keeps known.0 known.1).truth) c.in_ok-make_flush_room.ensures.spends in
+    let begun = passed_1 g.N.PageSource.view c.args.engine.now c.begin_flush.new.engine c.in_ok-begin_flush.ensures.flushes in
+    let paged = passed_2 g.N.PageSource.view c.args.engine.now c.begin_flush.new.engine c.flush_translations.new.engine c.in_ok-begin_flush.ensures.flushes c.in_ok-flush_translations.ensures.flushes in
+    let ready = table_ready (ram c.args.engine.now) (ram c.begin_flush.new.engine) c.begin_flush.ensures.flushes.leaves.safe.memory c.begin_flush.ensures.flushes.leaves.geometry
+    c.begin_flush.ensures.flushes.keys.limits.share known.2 (λ none. ap (λ e. ram e) (c.in_ok-begin_flush.ensures.begins.still none)) (λ some. c.in_ok-begin_flush.ensures.count some known.0 known.1 0 known.2)
+    (ram c.flush_translations.new.engine) (ram c.make_flush_room.new.engine) c.flush_translations.ensures.flushes.leaves.geometry c.flush_translations.ensures.flushes.keys.limits.share
+    (λ none. c.in_ok-flush_translations.ensures.count none (begun.leaves.die.honest_is ∙ known.0) (begun.keeps known.0 known.1).truth) c.in_ok-flush_translations.ensures.spends
+    c.in_ok-make_flush_room.ensures.flushes.leaves.tells (λ none. c.in_ok-make_flush_room.ensures.count none (paged.leaves.die.honest_is ∙ known.0) (paged.keeps known.0 known.1).truth) c.in_ok-make_flush_room.ensures.spends in
     tables_done (ram c.args.engine.now) (ram c.make_flush_room.new.engine) (ram c.write_tables.new.engine) ready c.in_ok-write_tables.ensures.leaves.tells c.in_ok-write_tables.ensures.cost
-
-pub returns-in_err-begin_flush-clause-count : goal.returns-in_err-begin_flush-clause-count
-returns-in_err-begin_flush-clause-count g c =
-    let p = err_from_is_err_and c.from_residual.result c.from_residual.ensures.1 in
-    let some = c.in_err-begin_flush.ensures.shared in
-    rw (p.1, p.2) (λ known. begin_refused (ram c.args.engine.now) (ram c.begin_flush.new.engine) some c.begin_flush.ensures.leaves.safe.memory c.begin_flush.ensures.leaves.geometry c.begin_flush.ensures.keys.limits.share _ (c.in_err-begin_flush.ensures.count some known.0 known.1 0 known.2))
-
-pub returns-in_err-flush_translations-clause-count : goal.returns-in_err-flush_translations-clause-count
-returns-in_err-flush_translations-clause-count g c =
-    let p = err_from_is_err_and c.from_residual-in_err-flush_translations.result c.from_residual-in_err-flush_translations.ensures.1 in
-    rw (p.1, p.2) (λ known.
-    let begun = passed_1 g.N.PageSource.view c.args.engine.now c.begin_flush.new.engine c.in_ok-begin_flush.ensures.leaves c.begin_flush.ensures.keys.limits c.in_ok-begin_flush.ensures.truth in
-    pages_end (ram c.args.engine.now) (ram c.begin_flush.new.engine) c.begin_flush.ensures.leaves.safe.memory c.begin_flush.ensures.leaves.geometry c.begin_flush.ensures.keys.limits.share known.2
-    (λ none. ap (λ e. ram e) (c.in_ok-begin_flush.ensures.begins.still none)) (λ some. c.in_ok-begin_flush.ensures.count some known.0 known.1 0 known.2) _ (ram c.flush_translations.new.engine)
-    (λ none. c.in_err-flush_translations.ensures.count none (begun.leaves.honest_is ∙ known.0) (begun.keeps known.0 known.1).truth) c.in_err-flush_translations.ensures.spends)
-
-pub returns-in_err-make_flush_room-clause-count : goal.returns-in_err-make_flush_room-clause-count
-returns-in_err-make_flush_room-clause-count g c =
-    let p = err_from_is_err_and c.from_residual-in_err-make_flush_room.result c.from_residual-in_err-make_flush_room.ensures.1 in
-    rw (p.1, p.2) (λ known.
-    let begun = passed_1 g.N.PageSource.view c.args.engine.now c.begin_flush.new.engine c.in_ok-begin_flush.ensures.leaves c.begin_flush.ensures.keys.limits c.in_ok-begin_flush.ensures.truth in
-    let paged = passed_2 g.N.PageSource.view c.args.engine.now c.begin_flush.new.engine c.flush_translations.new.engine
-    c.in_ok-begin_flush.ensures.leaves c.begin_flush.ensures.keys.limits c.in_ok-begin_flush.ensures.truth
-    c.in_ok-flush_translations.ensures.leaves c.flush_translations.ensures.limits c.in_ok-flush_translations.ensures.truth in
-    room_end (ram c.args.engine.now) (ram c.begin_flush.new.engine) c.begin_flush.ensures.leaves.safe.memory c.begin_flush.ensures.leaves.geometry c.begin_flush.ensures.keys.limits.share
-    known.2 (λ none. ap (λ e. ram e) (c.in_ok-begin_flush.ensures.begins.still none)) (λ some. c.in_ok-begin_flush.ensures.count some known.0 known.1 0 known.2)
-    (ram c.flush_translations.new.engine) (ram c.make_flush_room.new.engine) c.flush_translations.ensures.leaves.geometry c.flush_translations.ensures.limits.share
-    (λ none. c.in_ok-flush_translations.ensures.count none (begun.leaves.honest_is ∙ known.0) (begun.keeps known.0 known.1).truth) c.in_ok-flush_translations.ensures.spends _
-    c.in_err-make_flush_room.ensures.leaves.tells (λ none. c.in_err-make_flush_room.ensures.count none (paged.leaves.honest_is ∙ known.0) (paged.keeps known.0 known.1).truth) c.in_err-make_flush_room.ensures.spends)
 
 pub returns-in_err-write_tables-clause-count : goal.returns-in_err-write_tables-clause-count
 returns-in_err-write_tables-clause-count g c =
     let p = err_from_is_err_and c.from_residual-in_err-write_tables.result c.from_residual-in_err-write_tables.ensures.1 in
     rw (p.1, p.2) (λ known.
-    let begun = passed_1 g.N.PageSource.view c.args.engine.now c.begin_flush.new.engine c.in_ok-begin_flush.ensures.leaves c.begin_flush.ensures.keys.limits c.in_ok-begin_flush.ensures.truth in
-    let paged = passed_2 g.N.PageSource.view c.args.engine.now c.begin_flush.new.engine c.flush_translations.new.engine
-    c.in_ok-begin_flush.ensures.leaves c.begin_flush.ensures.keys.limits c.in_ok-begin_flush.ensures.truth
-    c.in_ok-flush_translations.ensures.leaves c.flush_translations.ensures.limits c.in_ok-flush_translations.ensures.truth in
-    let ready = table_ready (ram c.args.engine.now) (ram c.begin_flush.new.engine) c.begin_flush.ensures.leaves.safe.memory c.begin_flush.ensures.leaves.geometry
-    c.begin_flush.ensures.keys.limits.share known.2 (λ none. ap (λ e. ram e) (c.in_ok-begin_flush.ensures.begins.still none)) (λ some. c.in_ok-begin_flush.ensures.count some known.0 known.1 0 known.2)
-    (ram c.flush_translations.new.engine) (ram c.make_flush_room.new.engine) c.flush_translations.ensures.leaves.geometry c.flush_translations.ensures.limits.share
-    (λ none. c.in_ok-flush_translations.ensures.count none (begun.leaves.honest_is ∙ known.0) (begun.keeps known.0 known.1).truth) c.in_ok-flush_translations.ensures.spends
-    c.in_ok-make_flush_room.ensures.leaves.tells (λ none. c.in_ok-make_flush_room.ensures.count none (paged.leaves.honest_is ∙ known.0) (paged.keeps known.0 known.1).truth) c.in_ok-make_flush_room.ensures.spends in
+    let begun = passed_1 g.N.PageSource.view c.args.engine.now c.begin_flush.new.engine c.in_ok-begin_flush.ensures.flushes in
+    let paged = passed_2 g.N.PageSource.view c.args.engine.now c.begin_flush.new.engine c.flush_translations.new.engine c.in_ok-begin_flush.ensures.flushes c.in_ok-flush_translations.ensures.flushes in
     flush_tables _ (ram c.args.engine.now) (ram c.make_flush_room.new.engine) (ram c.write_tables.new.engine) c.in_err-write_tables.ensures.leaves.tells
-    (λ is less. tables_stuck (ram c.args.engine.now) (ram c.make_flush_room.new.engine) (ram c.write_tables.new.engine) ready less (c.in_err-write_tables.ensures.out is)))
+    (λ is less. tables_stuck (ram c.args.engine.now) (ram c.make_flush_room.new.engine) (ram c.write_tables.new.engine)
+    (table_ready (ram c.args.engine.now) (ram c.begin_flush.new.engine) c.begin_flush.ensures.flushes.leaves.safe.memory c.begin_flush.ensures.flushes.leaves.geometry
+    c.begin_flush.ensures.flushes.keys.limits.share known.2 (λ none. ap (λ e. ram e) (c.in_ok-begin_flush.ensures.begins.still none)) (λ some. c.in_ok-begin_flush.ensures.count some known.0 known.1 0 known.2)
+    (ram c.flush_translations.new.engine) (ram c.make_flush_room.new.engine) c.flush_translations.ensures.flushes.leaves.geometry c.flush_translations.ensures.flushes.keys.limits.share
+    (λ none. c.in_ok-flush_translations.ensures.count none (begun.leaves.die.honest_is ∙ known.0) (begun.keeps known.0 known.1).truth) c.in_ok-flush_translations.ensures.spends
+    c.in_ok-make_flush_room.ensures.flushes.leaves.tells (λ none. c.in_ok-make_flush_room.ensures.count none (paged.leaves.die.honest_is ∙ known.0) (paged.keeps known.0 known.1).truth) c.in_ok-make_flush_room.ensures.spends) less (c.in_err-write_tables.ensures.out is)))
+
+pub returns-in_err-begin_flush-clause-count : goal.returns-in_err-begin_flush-clause-count
+returns-in_err-begin_flush-clause-count g c =
+    let p = err_from_is_err_and c.from_residual.result c.from_residual.ensures.1 in
+    let some = c.in_err-begin_flush.ensures.shared in
+    rw (p.1, p.2) (λ known. begin_refused (ram c.args.engine.now) (ram c.begin_flush.new.engine) some c.begin_flush.ensures.flushes.leaves.safe.memory c.begin_flush.ensures.flushes.leaves.geometry
+    c.begin_flush.ensures.flushes.keys.limits.share _ (c.in_err-begin_flush.ensures.count some known.0 known.1 0 known.2))
+
+pub returns-in_err-flush_translations-clause-count : goal.returns-in_err-flush_translations-clause-count
+returns-in_err-flush_translations-clause-count g c =
+    let p = err_from_is_err_and c.from_residual-in_err-flush_translations.result c.from_residual-in_err-flush_translations.ensures.1 in
+    rw (p.1, p.2) (λ known.
+    let begun = passed_1 g.N.PageSource.view c.args.engine.now c.begin_flush.new.engine c.in_ok-begin_flush.ensures.flushes in
+    pages_end (ram c.args.engine.now) (ram c.begin_flush.new.engine) c.begin_flush.ensures.flushes.leaves.safe.memory c.begin_flush.ensures.flushes.leaves.geometry
+    c.begin_flush.ensures.flushes.keys.limits.share known.2 (λ none. ap (λ e. ram e) (c.in_ok-begin_flush.ensures.begins.still none)) (λ some. c.in_ok-begin_flush.ensures.count some known.0 known.1 0 known.2) _ (ram c.flush_translations.new.engine)
+    (λ none. c.in_err-flush_translations.ensures.count none (begun.leaves.die.honest_is ∙ known.0) (begun.keeps known.0 known.1).truth) c.in_err-flush_translations.ensures.spends)
+
+pub returns-in_err-make_flush_room-clause-count : goal.returns-in_err-make_flush_room-clause-count
+returns-in_err-make_flush_room-clause-count g c =
+    let p = err_from_is_err_and c.from_residual-in_err-make_flush_room.result c.from_residual-in_err-make_flush_room.ensures.1 in
+    rw (p.1, p.2) (λ known.
+    let begun = passed_1 g.N.PageSource.view c.args.engine.now c.begin_flush.new.engine c.in_ok-begin_flush.ensures.flushes in
+    let paged = passed_2 g.N.PageSource.view c.args.engine.now c.begin_flush.new.engine c.flush_translations.new.engine c.in_ok-begin_flush.ensures.flushes c.in_ok-flush_translations.ensures.flushes in
+    room_end (ram c.args.engine.now) (ram c.begin_flush.new.engine) c.begin_flush.ensures.flushes.leaves.safe.memory c.begin_flush.ensures.flushes.leaves.geometry
+    c.begin_flush.ensures.flushes.keys.limits.share known.2 (λ none. ap (λ e. ram e) (c.in_ok-begin_flush.ensures.begins.still none)) (λ some. c.in_ok-begin_flush.ensures.count some known.0 known.1 0 known.2)
+    (ram c.flush_translations.new.engine) (ram c.make_flush_room.new.engine) c.flush_translations.ensures.flushes.leaves.geometry c.flush_translations.ensures.flushes.keys.limits.share
+    (λ none. c.in_ok-flush_translations.ensures.count none (begun.leaves.die.honest_is ∙ known.0) (begun.keeps known.0 known.1).truth) c.in_ok-flush_translations.ensures.spends _
+    c.in_err-make_flush_room.ensures.flushes.leaves.tells (λ none. c.in_err-make_flush_room.ensures.count none (paged.leaves.die.honest_is ∙ known.0) (paged.keeps known.0 known.1).truth) c.in_err-make_flush_room.ensures.spends)
 
 -- ---- it was refused
 
-pub returns-in_err-begin_flush-clause-ends : goal.returns-in_err-begin_flush-clause-ends
-returns-in_err-begin_flush-clause-ends g c =
+pub returns-in_err-begin_flush-clause-kept : goal.returns-in_err-begin_flush-clause-kept
+returns-in_err-begin_flush-clause-kept g c =
     let p = err_from_is_err_and c.from_residual.result c.from_residual.ensures.1 in
-    rw (p.1, p.2) (leaves_stuck g.N.PageSource.view c.args.engine.now c.begin_flush.new.engine _ c.in_err-begin_flush.ensures.leaves c.begin_flush.ensures.keys.limits)
+    let on = c.in_err-begin_flush.ensures.flushes in
+    rw (p.1, p.2) (kept_stuck g.N.PageSource.view c.args.engine.now c.begin_flush.new.engine _ on.leaves on.keys.limits on.truth)
 
-pub returns-in_err-begin_flush-clause-cut : goal.returns-in_err-begin_flush-clause-cut
-returns-in_err-begin_flush-clause-cut g c =
-    let p = err_from_is_err_and c.from_residual.result c.from_residual.ensures.1 in
-    rw (p.1, p.2) (leaves_cut g.N.PageSource.view c.args.engine.now c.begin_flush.new.engine _ c.in_err-begin_flush.ensures.leaves)
-
-pub returns-in_err-begin_flush-clause-truth : goal.returns-in_err-begin_flush-clause-truth
-returns-in_err-begin_flush-clause-truth g c =
-    let p = err_from_is_err_and c.from_residual.result c.from_residual.ensures.1 in
-    rw (p.1, p.2) c.in_err-begin_flush.ensures.truth
-
-pub returns-in_err-flush_translations-clause-ends : goal.returns-in_err-flush_translations-clause-ends
-returns-in_err-flush_translations-clause-ends g c =
+pub returns-in_err-flush_translations-clause-kept : goal.returns-in_err-flush_translations-clause-kept
+returns-in_err-flush_translations-clause-kept g c =
     let p = err_from_is_err_and c.from_residual-in_err-flush_translations.result c.from_residual-in_err-flush_translations.ensures.1 in
-    let begun = passed_1 g.N.PageSource.view c.args.engine.now c.begin_flush.new.engine c.in_ok-begin_flush.ensures.leaves c.begin_flush.ensures.keys.limits c.in_ok-begin_flush.ensures.truth in
-    rw (p.1, p.2) (leaves_stuck g.N.PageSource.view c.args.engine.now c.flush_translations.new.engine _
-    (refused_then g.N.PageSource.view c.args.engine.now c.begin_flush.new.engine c.flush_translations.new.engine begun _ c.in_err-flush_translations.ensures.leaves) (limits_then _ _ _ begun.limits c.flush_translations.ensures.limits))
+    let on = c.in_err-flush_translations.ensures.flushes in
+    let begun = passed_1 g.N.PageSource.view c.args.engine.now c.begin_flush.new.engine c.in_ok-begin_flush.ensures.flushes in
+    rw (p.1, p.2) (stuck_then g.N.PageSource.view c.args.engine.now c.begin_flush.new.engine c.flush_translations.new.engine begun _ on.leaves on.keys.limits on.truth)
 
-pub returns-in_err-flush_translations-clause-cut : goal.returns-in_err-flush_translations-clause-cut
-returns-in_err-flush_translations-clause-cut g c =
-    let p = err_from_is_err_and c.from_residual-in_err-flush_translations.result c.from_residual-in_err-flush_translations.ensures.1 in
-    let begun = passed_1 g.N.PageSource.view c.args.engine.now c.begin_flush.new.engine c.in_ok-begin_flush.ensures.leaves c.begin_flush.ensures.keys.limits c.in_ok-begin_flush.ensures.truth in
-    rw (p.1, p.2) (leaves_cut g.N.PageSource.view c.args.engine.now c.flush_translations.new.engine _ (refused_then g.N.PageSource.view c.args.engine.now c.begin_flush.new.engine c.flush_translations.new.engine begun _ c.in_err-flush_translations.ensures.leaves))
-
-pub returns-in_err-flush_translations-clause-truth : goal.returns-in_err-flush_translations-clause-truth
-returns-in_err-flush_translations-clause-truth g c =
-    let p = err_from_is_err_and c.from_residual-in_err-flush_translations.result c.from_residual-in_err-flush_translations.ensures.1 in
-    let begun = passed_1 g.N.PageSource.view c.args.engine.now c.begin_flush.new.engine c.in_ok-begin_flush.ensures.leaves c.begin_flush.ensures.keys.limits c.in_ok-begin_flush.ensures.truth in
-    rw (p.1, p.2) (array_then g.N.PageSource.view c.args.engine.now c.begin_flush.new.engine c.flush_translations.new.engine begun _ c.in_err-flush_translations.ensures.truth)
-
-pub returns-in_err-make_flush_room-clause-ends : goal.returns-in_err-make_flush_room-clause-ends
-returns-in_err-make_flush_room-clause-ends g c =
+pub returns-in_err-make_flush_room-clause-kept : goal.returns-in_err-make_flush_room-clause-kept
+returns-in_err-make_flush_room-clause-kept g c =
     let p = err_from_is_err_and c.from_residual-in_err-make_flush_room.result c.from_residual-in_err-make_flush_room.ensures.1 in
-    let paged = passed_2 g.N.PageSource.view c.args.engine.now c.begin_flush.new.engine c.flush_translations.new.engine
-    c.in_ok-begin_flush.ensures.leaves c.begin_flush.ensures.keys.limits c.in_ok-begin_flush.ensures.truth
-    c.in_ok-flush_translations.ensures.leaves c.flush_translations.ensures.limits c.in_ok-flush_translations.ensures.truth in
-    rw (p.1, p.2) (leaves_stuck g.N.PageSource.view c.args.engine.now c.make_flush_room.new.engine _ (refused_then g.N.PageSource.view c.args.engine.now c.flush_translations.new.engine c.make_flush_room.new.engine paged _ c.in_err-make_flush_room.ensures.leaves)
-    (limits_then _ _ _ paged.limits c.make_flush_room.ensures.keys.limits))
+    let on = c.in_err-make_flush_room.ensures.flushes in
+    let paged = passed_2 g.N.PageSource.view c.args.engine.now c.begin_flush.new.engine c.flush_translations.new.engine c.in_ok-begin_flush.ensures.flushes c.in_ok-flush_translations.ensures.flushes in
+    rw (p.1, p.2) (stuck_then g.N.PageSource.view c.args.engine.now c.flush_translations.new.engine c.make_flush_room.new.engine paged _ on.leaves on.keys.limits on.truth)
 
-pub returns-in_err-make_flush_room-clause-cut : goal.returns-in_err-make_flush_room-clause-cut
-returns-in_err-make_flush_room-clause-cut g c =
-    let p = err_from_is_err_and c.from_residual-in_err-make_flush_room.result c.from_residual-in_err-make_flush_room.ensures.1 in
-    let paged = passed_2 g.N.PageSource.view c.args.engine.now c.begin_flush.new.engine c.flush_translations.new.engine
-    c.in_ok-begin_flush.ensures.leaves c.begin_flush.ensures.keys.limits c.in_ok-begin_flush.ensures.truth
-    c.in_ok-flush_translations.ensures.leaves c.flush_translations.ensures.limits c.in_ok-flush_translations.ensures.truth in
-    rw (p.1, p.2) (leaves_cut g.N.PageSource.view c.args.engine.now c.make_flush_room.new.engine _ (refused_then g.N.PageSource.view c.args.engine.now c.flush_translations.new.engine c.make_flush_room.new.engine paged _ c.in_err-make_flush_room.ensures.leaves))
-
-pub returns-in_err-make_flush_room-clause-truth : goal.returns-in_err-make_flush_room-clause-truth
-returns-in_err-make_flush_room-clause-truth g c =
-    let p = err_from_is_err_and c.from_residual-in_err-make_flush_room.result c.from_residual-in_err-make_flush_room.ensures.1 in
-    let paged = passed_2 g.N.PageSource.view c.args.engine.now c.begin_flush.new.engine c.flush_translations.new.engine
-    c.in_ok-begin_flush.ensures.leaves c.begin_flush.ensures.keys.limits c.in_ok-begin_flush.ensures.truth
-    c.in_ok-flush_translations.ensures.leaves c.flush_translations.ensures.limits c.in_ok-flush_translations.ensures.truth in
-    rw (p.1, p.2) (array_then g.N.PageSource.view c.args.engine.now c.flush_translations.new.engine c.make_flush_room.new.engine paged _ c.in_err-make_flush_room.ensures.truth)
-
-pub returns-in_err-write_tables-clause-ends : goal.returns-in_err-write_tables-clause-ends
-returns-in_err-write_tables-clause-ends g c =
+pub returns-in_err-write_tables-clause-kept : goal.returns-in_err-write_tables-clause-kept
+returns-in_err-write_tables-clause-kept g c =
     let p = err_from_is_err_and c.from_residual-in_err-write_tables.result c.from_residual-in_err-write_tables.ensures.1 in
-    let roomed = passed_3 g.N.PageSource.view c.args.engine.now c.begin_flush.new.engine c.flush_translations.new.engine c.make_flush_room.new.engine
-    c.in_ok-begin_flush.ensures.leaves c.begin_flush.ensures.keys.limits c.in_ok-begin_flush.ensures.truth
-    c.in_ok-flush_translations.ensures.leaves c.flush_translations.ensures.limits c.in_ok-flush_translations.ensures.truth
-    c.in_ok-make_flush_room.ensures.leaves c.make_flush_room.ensures.keys.limits c.in_ok-make_flush_room.ensures.truth in
-    rw (p.1, p.2) (leaves_stuck g.N.PageSource.view c.args.engine.now c.write_tables.new.engine _ (refused_then g.N.PageSource.view c.args.engine.now c.make_flush_room.new.engine c.write_tables.new.engine roomed _ c.in_err-write_tables.ensures.leaves)
-    (limits_then _ _ _ roomed.limits (limits_same _ _ c.write_tables.ensures.mapping)))
-
-pub returns-in_err-write_tables-clause-cut : goal.returns-in_err-write_tables-clause-cut
-returns-in_err-write_tables-clause-cut g c =
-    let p = err_from_is_err_and c.from_residual-in_err-write_tables.result c.from_residual-in_err-write_tables.ensures.1 in
-    let roomed = passed_3 g.N.PageSource.view c.args.engine.now c.begin_flush.new.engine c.flush_translations.new.engine c.make_flush_room.new.engine
-    c.in_ok-begin_flush.ensures.leaves c.begin_flush.ensures.keys.limits c.in_ok-begin_flush.ensures.truth
-    c.in_ok-flush_translations.ensures.leaves c.flush_translations.ensures.limits c.in_ok-flush_translations.ensures.truth
-    c.in_ok-make_flush_room.ensures.leaves c.make_flush_room.ensures.keys.limits c.in_ok-make_flush_room.ensures.truth in
-    rw (p.1, p.2) (leaves_cut g.N.PageSource.view c.args.engine.now c.write_tables.new.engine _ (refused_then g.N.PageSource.view c.args.engine.now c.make_flush_room.new.engine c.write_tables.new.engine roomed _ c.in_err-write_tables.ensures.leaves))
-
-pub returns-in_err-write_tables-clause-truth : goal.returns-in_err-write_tables-clause-truth
-returns-in_err-write_tables-clause-truth g c =
-    let p = err_from_is_err_and c.from_residual-in_err-write_tables.result c.from_residual-in_err-write_tables.ensures.1 in
-    let roomed = passed_3 g.N.PageSource.view c.args.engine.now c.begin_flush.new.engine c.flush_translations.new.engine c.make_flush_room.new.engine
-    c.in_ok-begin_flush.ensures.leaves c.begin_flush.ensures.keys.limits c.in_ok-begin_flush.ensures.truth
-    c.in_ok-flush_translations.ensures.leaves c.flush_translations.ensures.limits c.in_ok-flush_translations.ensures.truth
-    c.in_ok-make_flush_room.ensures.leaves c.make_flush_room.ensures.keys.limits c.in_ok-make_flush_room.ensures.truth in
-    rw (p.1, p.2) (array_then g.N.PageSource.view c.args.engine.now c.make_flush_room.new.engine c.write_tables.new.engine roomed _ c.in_err-write_tables.ensures.truth)
+    let roomed = passed_3 g.N.PageSource.view c.args.engine.now c.begin_flush.new.engine c.flush_translations.new.engine c.make_flush_room.new.engine c.in_ok-begin_flush.ensures.flushes c.in_ok-flush_translations.ensures.flushes c.in_ok-make_flush_room.ensures.flushes in
+    rw (p.1, p.2)
+    (stuck_then g.N.PageSource.view c.args.engine.now c.make_flush_room.new.engine c.write_tables.new.engine roomed _ c.in_err-write_tables.ensures.leaves (limits_same _ _ c.write_tables.ensures.mapping) c.in_err-write_tables.ensures.truth)
 
 -- ---- nothing more is said of a refusal
 
@@ -235,7 +158,7 @@ returns-in_err-begin_flush-clause-memory g c =
     no_memory _ _ (p.1 ∙ ap Err p.2)
 
 pub returns-in_err-begin_flush-clause-keys : goal.returns-in_err-begin_flush-clause-keys
-returns-in_err-begin_flush-clause-keys g c = c.begin_flush.ensures.keys.keys
+returns-in_err-begin_flush-clause-keys g c = c.begin_flush.ensures.flushes.keys.keys
 
 pub returns-in_err-begin_flush-clause-pins : goal.returns-in_err-begin_flush-clause-pins
 returns-in_err-begin_flush-clause-pins g c =
@@ -268,7 +191,7 @@ returns-in_err-flush_translations-clause-memory g c =
     no_memory _ _ (p.1 ∙ ap Err p.2)
 
 pub returns-in_err-flush_translations-clause-keys : goal.returns-in_err-flush_translations-clause-keys
-returns-in_err-flush_translations-clause-keys g c = c.flush_translations.ensures.keys ∙ c.begin_flush.ensures.keys.keys
+returns-in_err-flush_translations-clause-keys g c = c.flush_translations.ensures.flushes.keys.keys ∙ c.begin_flush.ensures.flushes.keys.keys
 
 pub returns-in_err-flush_translations-clause-pins : goal.returns-in_err-flush_translations-clause-pins
 returns-in_err-flush_translations-clause-pins g c =
@@ -301,7 +224,7 @@ returns-in_err-make_flush_room-clause-memory g c =
     no_memory _ _ (p.1 ∙ ap Err p.2)
 
 pub returns-in_err-make_flush_room-clause-keys : goal.returns-in_err-make_flush_room-clause-keys
-returns-in_err-make_flush_room-clause-keys g c = c.make_flush_room.ensures.keys.keys ∙ (c.flush_translations.ensures.keys ∙ c.begin_flush.ensures.keys.keys)
+returns-in_err-make_flush_room-clause-keys g c = c.make_flush_room.ensures.flushes.keys.keys ∙ (c.flush_translations.ensures.flushes.keys.keys ∙ c.begin_flush.ensures.flushes.keys.keys)
 
 pub returns-in_err-make_flush_room-clause-pins : goal.returns-in_err-make_flush_room-clause-pins
 returns-in_err-make_flush_room-clause-pins g c =
@@ -334,7 +257,7 @@ returns-in_err-write_tables-clause-memory g c =
     no_memory _ _ (p.1 ∙ ap Err p.2)
 
 pub returns-in_err-write_tables-clause-keys : goal.returns-in_err-write_tables-clause-keys
-returns-in_err-write_tables-clause-keys g c = ap (λ m. keys_of m.cached) c.write_tables.ensures.mapping ∙ (c.make_flush_room.ensures.keys.keys ∙ (c.flush_translations.ensures.keys ∙ c.begin_flush.ensures.keys.keys))
+returns-in_err-write_tables-clause-keys g c = ap (λ m. keys_of m.cached) c.write_tables.ensures.mapping ∙ (c.make_flush_room.ensures.flushes.keys.keys ∙ (c.flush_translations.ensures.flushes.keys.keys ∙ c.begin_flush.ensures.flushes.keys.keys))
 
 pub returns-in_err-write_tables-clause-pins : goal.returns-in_err-write_tables-clause-pins
 returns-in_err-write_tables-clause-pins g c =
@@ -361,48 +284,24 @@ returns-in_err-write_tables-clause-renewed g c =
     let p = err_from_is_err_and c.from_residual-in_err-write_tables.result c.from_residual-in_err-write_tables.ensures.1 in
     rw p.1 (λ honest w. tt)
 
--- ---- it was done
-
-pub returns-clause-cut : goal.returns-clause-cut
-returns-clause-cut g c = λ honest w bus. absurd (no_err _ _ _ refl bus)
-
-pub returns-clause-memory : goal.returns-clause-memory
-returns-clause-memory g c = λ bad. no_err _ _ _ refl bad
-
-pub returns-clause-keys : goal.returns-clause-keys
-returns-clause-keys g c = ap (λ m. keys_of m.cached) c.write_tables.ensures.mapping ∙ (c.make_flush_room.ensures.keys.keys ∙ (c.flush_translations.ensures.keys ∙ c.begin_flush.ensures.keys.keys))
-
 -- ---- what the calls want
 
-pub flush_translations-requires-clause-safe : goal.flush_translations-requires-clause-safe
-flush_translations-requires-clause-safe g c = c.begin_flush.ensures.leaves.safe
+pub begin_flush-requires : goal.begin_flush-requires
+begin_flush-requires g c = record { safe = c.requires.safe; going = c.requires.going; calm = c.requires.calm }
 
-pub flush_translations-requires-clause-going : goal.flush_translations-requires-clause-going
-flush_translations-requires-clause-going g c = c.in_ok-begin_flush.ensures.leaves.fault
+pub flush_translations-requires : goal.flush_translations-requires
+flush_translations-requires g c = record {
+  safe = c.begin_flush.ensures.flushes.leaves.safe;
+  going = c.in_ok-begin_flush.ensures.flushes.leaves.fault;
+  calm = c.in_ok-begin_flush.ensures.flushes.calm;
+}
 
-pub flush_translations-requires-clause-calm : goal.flush_translations-requires-clause-calm
-flush_translations-requires-clause-calm g c = c.in_ok-begin_flush.ensures.calm
+pub make_flush_room-requires : goal.make_flush_room-requires
+make_flush_room-requires g c = record {
+  safe = c.flush_translations.ensures.flushes.leaves.safe;
+  going = c.in_ok-flush_translations.ensures.flushes.leaves.fault;
+  calm = c.in_ok-flush_translations.ensures.flushes.calm;
+}
 
-pub make_flush_room-requires-clause-safe : goal.make_flush_room-requires-clause-safe
-make_flush_room-requires-clause-safe g c = c.flush_translations.ensures.leaves.safe
-
-pub make_flush_room-requires-clause-going : goal.make_flush_room-requires-clause-going
-make_flush_room-requires-clause-going g c = c.in_ok-flush_translations.ensures.leaves.fault
-
-pub make_flush_room-requires-clause-calm : goal.make_flush_room-requires-clause-calm
-make_flush_room-requires-clause-calm g c = c.flush_translations.ensures.calm c.in_ok-flush_translations.ensures.leaves.fault
-
-pub write_tables-requires-clause-safe : goal.write_tables-requires-clause-safe
-write_tables-requires-clause-safe g c = c.make_flush_room.ensures.leaves.safe
-
-pub write_tables-requires-clause-going : goal.write_tables-requires-clause-going
-write_tables-requires-clause-going g c = c.in_ok-make_flush_room.ensures.leaves.fault
-
-pub begin_flush-requires-clause-safe : goal.begin_flush-requires-clause-safe
-begin_flush-requires-clause-safe g c = c.requires.safe
-
-pub begin_flush-requires-clause-going : goal.begin_flush-requires-clause-going
-begin_flush-requires-clause-going g c = c.requires.going
-
-pub begin_flush-requires-clause-calm : goal.begin_flush-requires-clause-calm
-begin_flush-requires-clause-calm g c = c.requires.calm
+pub write_tables-requires : goal.write_tables-requires
+write_tables-requires g c = record { safe = c.make_flush_room.ensures.flushes.leaves.safe; going = c.in_ok-make_flush_room.ensures.flushes.leaves.fault }

@@ -41,7 +41,7 @@ rounds-preserved g c = record {
       let before = c.rounds.invariant.truth honest w in
       spells_next c.good-good-in-rounds.result c.args.engine.now.geometry (ram c.rounds.engine) (ram c.write_tables_once-in-rounds.new.engine) _ _ _
       c.rounds.invariant.leaves.geometry c.good-good-in-rounds.ensures before.keeps
-      (c.in_ok-write_tables_once-2.ensures.truth (c.rounds.invariant.leaves.honest_is ∙ honest) before.keeps.truth);
+      (c.in_ok-write_tables_once-2.ensures.truth (c.rounds.invariant.leaves.die.honest_is ∙ honest) before.keeps.truth);
 }
 
 pub returns-clause-rounds : goal.returns-clause-rounds
@@ -82,7 +82,7 @@ returns-in_err-write_tables_once-2-clause-truth g c =
     let p = err_from_is_err_and c.from_residual-in_err-write_tables_once-2.result c.from_residual-in_err-write_tables_once-2.ensures.1 in
     rw (p.1, p.2) (λ honest w.
     let before = (c.rounds.invariant.truth honest w).keeps in
-    keeps_refused c.args.engine.now.geometry (ram c.rounds.engine) (ram c.write_tables_once-in-rounds.new.engine) _ _ _ _ c.rounds.invariant.leaves.geometry before (c.in_err-write_tables_once-2.ensures.truth (c.rounds.invariant.leaves.honest_is ∙ honest) before.truth))
+    keeps_refused c.args.engine.now.geometry (ram c.rounds.engine) (ram c.write_tables_once-in-rounds.new.engine) _ _ _ _ c.rounds.invariant.leaves.geometry before (c.in_err-write_tables_once-2.ensures.truth (c.rounds.invariant.leaves.die.honest_is ∙ honest) before.truth))
 
 pub returns-clause-truth : goal.returns-clause-truth
 returns-clause-truth g c = λ honest w. spells_last c.rounds.good c.args.engine.now.geometry _ (ram c.rounds.engine) _ (c.rounds.invariant.truth honest w) (most_by _ _ _ c.good.ensures c.rounds-test.false) c.rounds.invariant.fewer

@@ -54,7 +54,7 @@ pages-preserved g c = record {
       c.pages.invariant.leaves.safe.memory c.write_table.ensures.stands.safe.memory
       (beside_mapping (ram c.pages.engine) (ram c.write_table.new.self) c.write_table.ensures.pin c.write_table.ensures.goes
       c.write_table.ensures.mapping) c.pages.invariant.table c.write_table.ensures.table before
-      (c.in_ok-write_table.ensures.truth (c.pages.invariant.leaves.honest_is ∙ honest) c.pages.invariant.leaves.fault before.keeps.truth.truth);
+      (c.in_ok-write_table.ensures.truth (c.pages.invariant.leaves.die.honest_is ∙ honest) c.pages.invariant.leaves.fault before.keeps.truth.truth);
 }
 
 pub returns-clause-round : goal.returns-clause-round
@@ -100,7 +100,7 @@ returns-in_err-write_table-clause-truth g c =
     c.pages.invariant.leaves.safe.memory c.write_table.ensures.stands.safe.memory
     (beside_mapping (ram c.pages.engine) (ram c.write_table.new.self) c.write_table.ensures.pin c.write_table.ensures.goes
     c.write_table.ensures.mapping) before
-    (c.in_err-write_table.ensures.truth (c.pages.invariant.leaves.honest_is ∙ honest) c.pages.invariant.leaves.fault before.keeps.truth.truth))
+    (c.in_err-write_table.ensures.truth (c.pages.invariant.leaves.die.honest_is ∙ honest) c.pages.invariant.leaves.fault before.keeps.truth.truth))
 
 -- ---- the rest
 

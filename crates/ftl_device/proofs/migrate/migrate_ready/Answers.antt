@@ -1,21 +1,20 @@
-use Rattle.std.proofs.Common.{◌∙◌, ◌<◌, ◌≤◌, Ok, Err, ap, sym, subst, refl, inr, OnOk, MatchResult}
+use Rattle.std.proofs.Common.{◌∙◌, ◌<◌, ◌≤◌, Err, ap, sym, subst, refl, inr, OnOk}
 use Rattle.std.proofs.lemmas.Result.{err_from_is_err_and}
 use Rattle.page_layout.specs.declared.geometry.Geometry.{Geometry}
 use Rattle.page_layout.specs.Geometry.{row_count}
-use Rattle.page_layout.specs.OnlyReads.{OnlyReads}
 use Rattle.collection.specs.State.{Ram}
 use Rattle.collection.specs.Safe.{ram, image_in}
 use Rattle.collection.specs.Renew.{HasNoneDue}
 use Rattle.collection.proofs.Looks.{none_from, ok_not_bus}
 use Rattle.collection.specs.Left.{IsCalm}
 use Rattle.allocation.specs.State.{free_count}
-use Rattle.ftl_device.specs.Calls.{Knows, KeepsArray, CallRefused}
+use Rattle.ftl_device.specs.Calls.{Knows}
 use Rattle.ftl_device.specs.Shortage.{HasFunds, CallShort}
 use Rattle.ftl_device.specs.Migrate.{Renews, FindsFrom}
 use Rattle.ftl_device.proofs.CursorLemmas.{due_from}
-use Rattle.ftl_device.proofs.LeaveLemmas.{leaves_stuck, leaves_cut, limits_same}
-use Rattle.ftl_device.proofs.MigrateLemmas.{over, cut_after, ends_after, none_old, ok_fewer, ok_some, still_ok, keeps_look, look_short, look_refused}
-use Rattle.ftl_device.proofs.AnswerLemmas.{no_some, no_err, no_memory, on_ok, from_0, free_still, ends_look, some_rests}
+use Rattle.ftl_device.proofs.LeaveLemmas.{limits_same}
+use Rattle.ftl_device.proofs.MigrateLemmas.{over, kept_after, look_stuck, none_old, ok_fewer, ok_some, still_ok, look_short}
+use Rattle.ftl_device.proofs.AnswerLemmas.{no_some, no_err, no_memory, on_ok, from_0, free_still, kept_look, some_rests}
 use Rattle.ftl_device.specs.Brings.{HasBrought, BringsPage}
 use Rattle.ftl_device.proofs.BringLemmas.{ok_brings}
 use Rattle.ftl_device.proofs.migrate.migrate_ready.Goals as goal
@@ -31,21 +30,10 @@ returns-in_default-clause-migrates g c = λ honest w.
     none_old c.args.engine.now.geometry (image_in g.N.PageSource.view.flash c.args.engine.now) (image_in g.N.PageSource.view.flash c.next_from.new.engine)
     (λ row. subst (HasNoneDue row) (ap (λ f. f.image) (sym (c.in_ok-next.ensures.same honest))) (none row (from_0 row)))
 
-pub returns-clause-ends : goal.returns-clause-ends
-returns-clause-ends g c =
-    let old = c.args.engine.now in
-    let mid = c.next_from.new.engine in
-    let same = still_ok (ram old) (ram mid) c.next_from.ensures.still (c.in_ok-next.ensures.leaves.fault ∙ sym c.requires.going) in
-    ends_after g.N.PageSource.view old mid c.renew_ready.new.engine _ c.renew_ready.result same c.in_ok-next.ensures.same
-    c.in_ok-next.ensures.leaves c.renew_ready.ensures.ends
-
-pub returns-clause-cut : goal.returns-clause-cut
-returns-clause-cut g c = λ honest k bus.
-    let old = c.args.engine.now in
-    let mid = c.next_from.new.engine in
-    let same = still_ok (ram old) (ram mid) c.next_from.ensures.still (c.in_ok-next.ensures.leaves.fault ∙ sym c.requires.going) in
-    cut_after g.N.PageSource.view old mid c.renew_ready.new.engine _ same c.in_ok-next.ensures.same c.in_ok-next.ensures.leaves honest k
-    (λ known. c.renew_ready.ensures.cut (c.in_ok-next.ensures.leaves.honest_is ∙ honest) known bus)
+pub returns-clause-kept : goal.returns-clause-kept
+returns-clause-kept g c =
+    let same = still_ok (ram c.args.engine.now) (ram c.next_from.new.engine) c.next_from.ensures.still (c.in_ok-next.ensures.leaves.fault ∙ sym c.requires.going) in
+    kept_after g.N.PageSource.view c.args.engine.now c.next_from.new.engine c.renew_ready.new.engine _ c.renew_ready.result same c.in_ok-next.ensures.same c.in_ok-next.ensures.leaves c.renew_ready.ensures.kept
 
 pub returns-clause-count : goal.returns-clause-count
 returns-clause-count g c = λ known five.
@@ -54,7 +42,7 @@ returns-clause-count g c = λ known five.
     let same = still_ok (ram old) (ram mid) c.next_from.ensures.still (c.in_ok-next.ensures.leaves.fault ∙ sym c.requires.going) in
     let still = ap (λ f. f.image) (c.in_ok-next.ensures.same known.0) in
     over (λ r i. HasFunds (g.N.PageSource.view.honest mid.nand) r i → 5 ≤ free_count r.blocks → CallShort r (ram c.renew_ready.new.engine) c.renew_ready.result) (ram old) (ram mid) _ _ same still
-    c.renew_ready.ensures.count (c.in_ok-next.ensures.leaves.honest_is ∙ known.0, known.1, known.2) five
+    c.renew_ready.ensures.count (c.in_ok-next.ensures.leaves.die.honest_is ∙ known.0, known.1, known.2) five
 
 pub returns-clause-migrates : goal.returns-clause-migrates
 returns-clause-migrates g c = λ honest w.
@@ -64,7 +52,7 @@ returns-clause-migrates g c = λ honest w.
     let still = ap (λ f. f.image) (c.in_ok-next.ensures.same honest) in
     let found = subst (FindsFrom c.args.cursor (image_in g.N.PageSource.view.flash old)) c.in-Some.is (c.in_ok-next.ensures.truth honest w) in
     let renews = over (λ r i. Knows r i → OnOk c.renew_ready.result (Renews c.in-Some.row r.geometry i (image_in g.N.PageSource.view.flash c.renew_ready.new.engine))) (ram old) (ram mid) _ _ same still
-    (c.renew_ready.ensures.renews (c.in_ok-next.ensures.leaves.honest_is ∙ honest)) w in
+    (c.renew_ready.ensures.renews (c.in_ok-next.ensures.leaves.die.honest_is ∙ honest)) w in
     ok_fewer c.renew_ready.result old.geometry _ _ c.in-Some.row w.truth.one (due_from c.args.cursor c.in-Some.row _ found) renews
 
 pub returns-clause-brought : goal.returns-clause-brought
@@ -81,21 +69,17 @@ returns-clause-brings g c = λ honest w.
     let same = still_ok (ram old) (ram mid) c.next_from.ensures.still (c.in_ok-next.ensures.leaves.fault ∙ sym c.requires.going) in
     let flashes = c.in_ok-next.ensures.same honest in
     let brings = over (λ r i. Knows r i → OnOk c.renew_ready.result (BringsPage g.N.PageSource.view c.in-Some.row mid c.renew_ready.new.engine)) (ram old) (ram mid) _ _ same (ap (λ f. f.image) flashes)
-    (c.renew_ready.ensures.brings (c.in_ok-next.ensures.leaves.honest_is ∙ honest)) w in
+    (c.renew_ready.ensures.brings (c.in_ok-next.ensures.leaves.die.honest_is ∙ honest)) w in
     ok_some (λ row. BringsPage g.N.PageSource.view row old c.renew_ready.new.engine) c.renew_ready.result c.in-Some.row
     (ok_brings g.N.PageSource.view c.in-Some.row old mid c.renew_ready.new.engine c.renew_ready.result same flashes (c.in_ok-next.ensures.leaves.went honest (ok_not_bus c.in_ok-next.next)) brings)
 
 -- ---- the look was refused
 
-pub returns-in_err-next-clause-ends : goal.returns-in_err-next-clause-ends
-returns-in_err-next-clause-ends g c =
+pub returns-in_err-next-clause-kept : goal.returns-in_err-next-clause-kept
+returns-in_err-next-clause-kept g c =
     let p = err_from_is_err_and c.from_residual.result c.from_residual.ensures.1 in
-    rw (p.1, p.2) (leaves_stuck g.N.PageSource.view c.args.engine.now c.next_from.new.engine _ c.in_err-next.ensures.leaves (limits_same _ _ (ap (λ (r : Ram). r.mapping) c.next_from.ensures.still)))
-
-pub returns-in_err-next-clause-cut : goal.returns-in_err-next-clause-cut
-returns-in_err-next-clause-cut g c =
-    let p = err_from_is_err_and c.from_residual.result c.from_residual.ensures.1 in
-    rw (p.1, p.2) (leaves_cut g.N.PageSource.view c.args.engine.now c.next_from.new.engine _ c.in_err-next.ensures.leaves)
+    rw (p.1, p.2)
+    (look_stuck g.N.PageSource.view c.args.engine.now c.next_from.new.engine _ c.in_err-next.ensures.leaves (limits_same _ _ (ap (λ (r : Ram). r.mapping) c.next_from.ensures.still)) c.in_err-next.ensures.truth)
 
 pub returns-in_err-next-clause-memory : goal.returns-in_err-next-clause-memory
 returns-in_err-next-clause-memory g c =
@@ -106,11 +90,6 @@ pub returns-in_err-next-clause-count : goal.returns-in_err-next-clause-count
 returns-in_err-next-clause-count g c =
     let p = err_from_is_err_and c.from_residual.result c.from_residual.ensures.1 in
     rw (p.1, p.2) (λ known five. look_short _ (ram c.args.engine.now) (ram c.next_from.new.engine) c.in_err-next.ensures.faults)
-
-pub returns-in_err-next-clause-truth : goal.returns-in_err-next-clause-truth
-returns-in_err-next-clause-truth g c =
-    let p = err_from_is_err_and c.from_residual.result c.from_residual.ensures.1 in
-    rw (p.1, p.2) (λ honest w. look_refused _ c.args.engine.now.geometry (image_in g.N.PageSource.view.flash c.args.engine.now) (image_in g.N.PageSource.view.flash c.next_from.new.engine) (ram c.next_from.new.engine) (c.in_err-next.ensures.truth honest w))
 
 pub returns-in_err-next-clause-rests : goal.returns-in_err-next-clause-rests
 returns-in_err-next-clause-rests g c =
@@ -144,21 +123,13 @@ returns-in_err-next-clause-next g c =
 
 -- ---- no page was found
 
-pub returns-in_default-clause-ends : goal.returns-in_default-clause-ends
-returns-in_default-clause-ends g c =
+pub returns-in_default-clause-kept : goal.returns-in_default-clause-kept
+returns-in_default-clause-kept g c =
     let same = still_ok (ram c.args.engine.now) (ram c.next_from.new.engine) c.next_from.ensures.still (c.in_ok-next.ensures.leaves.fault ∙ sym c.requires.going) in
-    ends_look g.N.PageSource.view c.args.engine.now c.next_from.new.engine _ c.requires.calm same c.in_ok-next.ensures.leaves
-
-pub returns-in_default-clause-cut : goal.returns-in_default-clause-cut
-returns-in_default-clause-cut g c = λ honest w bus. absurd (no_err _ _ _ refl bus)
+    kept_look g.N.PageSource.view c.args.engine.now c.next_from.new.engine _ c.requires.calm same c.in_ok-next.ensures.same c.in_ok-next.ensures.leaves
 
 pub returns-in_default-clause-memory : goal.returns-in_default-clause-memory
 returns-in_default-clause-memory g c = λ bad. no_err _ _ _ refl bad
-
-pub returns-in_default-clause-truth : goal.returns-in_default-clause-truth
-returns-in_default-clause-truth g c =
-    let same = still_ok (ram c.args.engine.now) (ram c.next_from.new.engine) c.next_from.ensures.still (c.in_ok-next.ensures.leaves.fault ∙ sym c.requires.going) in
-    λ honest w. keeps_look g.N.PageSource.view c.args.engine.now c.next_from.new.engine same c.in_ok-next.ensures.same honest w
 
 pub returns-in_default-clause-rests : goal.returns-in_default-clause-rests
 returns-in_default-clause-rests g c = λ none. c.next_from.ensures.only_reads
@@ -180,14 +151,6 @@ returns-in_default-clause-next g c = λ honest w. subst (FindsFrom c.args.cursor
 pub returns-clause-memory : goal.returns-clause-memory
 returns-clause-memory g c = c.renew_ready.ensures.memory
 
-pub returns-clause-truth : goal.returns-clause-truth
-returns-clause-truth g c =
-    let same = still_ok (ram c.args.engine.now) (ram c.next_from.new.engine) c.next_from.ensures.still (c.in_ok-next.ensures.leaves.fault ∙ sym c.requires.going) in
-    λ honest w. over (λ r i. Knows r i → MatchResult c.renew_ready.result
-    (λ _. KeepsArray r.geometry i (ram c.renew_ready.new.engine) (image_in g.N.PageSource.view.flash c.renew_ready.new.engine))
-    (CallRefused r.geometry i (ram c.renew_ready.new.engine) (image_in g.N.PageSource.view.flash c.renew_ready.new.engine))) (ram c.args.engine.now) (ram c.next_from.new.engine) _ _ same
-    (ap (λ f. f.image) (c.in_ok-next.ensures.same honest)) (c.renew_ready.ensures.truth (c.in_ok-next.ensures.leaves.honest_is ∙ honest)) w
-
 pub returns-clause-rests : goal.returns-clause-rests
 returns-clause-rests g c = some_rests c.renew_ready.result c.in-Some.row _
 
@@ -199,16 +162,12 @@ returns-clause-next g c = λ honest w. on_ok c.renew_ready.result _ (subst (Find
 
 -- ---- what the calls want
 
-pub renew_ready-requires-clause-safe : goal.renew_ready-requires-clause-safe
-renew_ready-requires-clause-safe g c = c.in_ok-next.ensures.leaves.safe
-
-pub renew_ready-requires-clause-going : goal.renew_ready-requires-clause-going
-renew_ready-requires-clause-going g c = c.in_ok-next.ensures.leaves.fault
-
-pub renew_ready-requires-clause-calm : goal.renew_ready-requires-clause-calm
-renew_ready-requires-clause-calm g c =
+pub renew_ready-requires : goal.renew_ready-requires
+renew_ready-requires g c =
     let same = still_ok (ram c.args.engine.now) (ram c.next_from.new.engine) c.next_from.ensures.still (c.in_ok-next.ensures.leaves.fault ∙ sym c.requires.going) in
-    subst IsCalm (sym same) c.requires.calm
-
-pub renew_ready-requires-clause-row : goal.renew_ready-requires-clause-row
-renew_ready-requires-clause-row g c = subst (λ (geometry : Geometry). c.in-Some.row < row_count geometry) (sym (ap (λ (r : Ram). r.geometry) c.next_from.ensures.still)) (c.in_ok-next.ensures.row c.in-Some.row c.in-Some.is)
+    record {
+      safe = c.in_ok-next.ensures.leaves.safe;
+      going = c.in_ok-next.ensures.leaves.fault;
+      calm = subst IsCalm (sym same) c.requires.calm;
+      row = subst (λ (geometry : Geometry). c.in-Some.row < row_count geometry) (sym (ap (λ (r : Ram). r.geometry) c.next_from.ensures.still)) (c.in_ok-next.ensures.row c.in-Some.row c.in-Some.is);
+    }

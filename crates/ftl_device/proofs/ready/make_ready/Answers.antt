@@ -19,19 +19,18 @@ use Rattle.ftl_device.proofs.ready.make_ready.Goals as goal
 
 -- ---- it was not prepared
 
-pub returns-in_err-row-clause-ends : goal.returns-in_err-row-clause-ends
-returns-in_err-row-clause-ends g c =
+pub returns-in_err-row-clause-kept : goal.returns-in_err-row-clause-kept
+returns-in_err-row-clause-kept g c =
     let p = err_from_is_err_and c.from_residual.result c.from_residual.ensures.1 in
-    rw (p.1, p.2)
-    (ends_refused g.N.PageSource.view c.args.engine.now
-    c.prepare.new.engine _ c.prepare.ensures.leaves.safe c.in_err-row.ensures.leaves.fault c.prepare.ensures.leaves.geometry
-    c.prepare.ensures.leaves.honest_is c.prepare.ensures.leaves.calm_is c.prepare.ensures.leaves.asked c.prepare.ensures.leaves.failed_is
-    (λ is. c.in_err-row.ensures.leaves.rose (ap Err is)) c.prepare.ensures.limits c.in_err-row.ensures.leaves.tells (λ honest ne. c.in_err-row.ensures.leaves.went honest (λ e. ne (err_same _ _ _ refl e))) (λ honest k ne. c.in_err-row.ensures.leaves.stops honest k (λ e. ne (err_same _ _ _ refl e))))
-
-pub returns-in_err-row-clause-cut : goal.returns-in_err-row-clause-cut
-returns-in_err-row-clause-cut g c =
-    let p = err_from_is_err_and c.from_residual.result c.from_residual.ensures.1 in
-    rw (p.1, p.2) (leaves_cut g.N.PageSource.view c.args.engine.now c.prepare.new.engine _ c.in_err-row.ensures.leaves)
+    rw (p.1, p.2) (record {
+      ends = ends_refused g.N.PageSource.view c.args.engine.now
+          c.prepare.new.engine _ c.prepare.ensures.leaves.safe c.in_err-row.ensures.leaves.fault c.prepare.ensures.leaves.geometry
+          c.prepare.ensures.leaves.die
+          (λ is. c.in_err-row.ensures.leaves.rose (ap Err is)) c.prepare.ensures.limits c.in_err-row.ensures.leaves.tells
+          (λ honest ne. c.in_err-row.ensures.leaves.went honest (λ e. ne (err_same _ _ _ refl e))) (λ honest k ne. c.in_err-row.ensures.leaves.stops honest k (λ e. ne (err_same _ _ _ refl e)));
+      cut = leaves_cut g.N.PageSource.view c.args.engine.now c.prepare.new.engine _ c.in_err-row.ensures.leaves;
+      truth = c.in_err-row.ensures.truth;
+    })
 
 pub returns-in_err-row-clause-readies : goal.returns-in_err-row-clause-readies
 returns-in_err-row-clause-readies g c =
@@ -58,22 +57,20 @@ cache_sector-requires-clause-entry g c =
 
 -- ---- there was no memory for its entry
 
-pub returns-in_err-cache_sector-clause-ends : goal.returns-in_err-cache_sector-clause-ends
-returns-in_err-cache_sector-clause-ends g c =
+pub returns-in_err-cache_sector-clause-kept : goal.returns-in_err-cache_sector-clause-kept
+returns-in_err-cache_sector-clause-kept g c =
     let p = err_from_is_err_and c.from_residual-in_err-cache_sector.result c.from_residual-in_err-cache_sector.ensures.1 in
-    rw (p.1, p.2)
-    (ends_memory g.N.PageSource.view c.args.engine.now
-    c.prepare.new.engine c.prepare.ensures.leaves.safe c.in_ok-row.ensures.leaves.fault c.prepare.ensures.leaves.geometry
-    c.prepare.ensures.leaves.honest_is c.prepare.ensures.leaves.calm_is c.prepare.ensures.leaves.asked c.prepare.ensures.leaves.failed_is
-    c.prepare.ensures.limits c.in_ok-row.ensures.calm c.in_ok-row.ensures.leaves.tells
-    (λ honest. c.in_ok-row.ensures.leaves.went honest (ok_not_bus _))
-    (λ honest k. c.in_ok-row.ensures.leaves.stops honest k (ok_not_bus _)) c.cache_sector.new.self
-    c.in_err-cache_sector.ensures.refused)
-
-pub returns-in_err-cache_sector-clause-cut : goal.returns-in_err-cache_sector-clause-cut
-returns-in_err-cache_sector-clause-cut g c =
-    let p = err_from_is_err_and c.from_residual-in_err-cache_sector.result c.from_residual-in_err-cache_sector.ensures.1 in
-    rw (p.1, p.2) (λ honest k bus. absurd (no_memory _ _ bus refl))
+    rw (p.1, p.2) (record {
+      ends = ends_memory g.N.PageSource.view c.args.engine.now
+          c.prepare.new.engine c.prepare.ensures.leaves.safe c.in_ok-row.ensures.leaves.fault c.prepare.ensures.leaves.geometry
+          c.prepare.ensures.leaves.die
+          c.prepare.ensures.limits c.in_ok-row.ensures.calm c.in_ok-row.ensures.leaves.tells
+          (λ honest. c.in_ok-row.ensures.leaves.went honest (ok_not_bus _))
+          (λ honest k. c.in_ok-row.ensures.leaves.stops honest k (ok_not_bus _)) c.cache_sector.new.self
+          c.in_err-cache_sector.ensures.refused;
+      cut = λ honest k bus. absurd (no_memory _ _ bus refl);
+      truth = λ honest w. subst (λ e. KeepsArray c.args.engine.now.geometry (image_in g.N.PageSource.view.flash c.args.engine.now) (ram e) (image_in g.N.PageSource.view.flash e)) (sym c.in_err-cache_sector.ensures.refused) (c.in_ok-row.ensures.truth honest w).keeps;
+    })
 
 pub returns-in_err-cache_sector-clause-readies : goal.returns-in_err-cache_sector-clause-readies
 returns-in_err-cache_sector-clause-readies g c =
@@ -93,22 +90,24 @@ returns-in_err-cache_sector-clause-readies g c =
       pins = λ none. ap (λ e. e.pinned) c.in_err-cache_sector.ensures.refused ∙ c.in_ok-row.ensures.pins none;
     })
 
-pub returns-in_err-cache_sector-clause-truth : goal.returns-in_err-cache_sector-clause-truth
-returns-in_err-cache_sector-clause-truth g c =
-    let p = err_from_is_err_and c.from_residual-in_err-cache_sector.result c.from_residual-in_err-cache_sector.ensures.1 in
-    rw (p.1, p.2) (λ honest w. subst (λ e. KeepsArray c.args.engine.now.geometry (image_in g.N.PageSource.view.flash c.args.engine.now) (ram e) (image_in g.N.PageSource.view.flash e)) (sym c.in_err-cache_sector.ensures.refused) (c.in_ok-row.ensures.truth honest w).keeps)
-
 -- ---- it is cached
 
-pub returns-clause-ends : goal.returns-clause-ends
-returns-clause-ends g c =
-    ends_loaded g.N.PageSource.view c.args.engine.now
-    c.prepare.new.engine c.prepare.ensures.leaves.safe c.in_ok-row.ensures.leaves.fault c.prepare.ensures.leaves.geometry
-    c.prepare.ensures.leaves.honest_is c.prepare.ensures.leaves.calm_is c.prepare.ensures.leaves.asked c.prepare.ensures.leaves.failed_is
-    c.prepare.ensures.limits c.in_ok-row.ensures.calm c.in_ok-row.ensures.leaves.tells
-    (λ honest. c.in_ok-row.ensures.leaves.went honest (ok_not_bus _))
-    (λ honest k. c.in_ok-row.ensures.leaves.stops honest k (ok_not_bus _)) c.cache_sector.new.self c.args.sector _
-    c.in_ok-cache_sector.ensures.loaded c.cache_sector.ensures.safe
+pub returns-clause-kept : goal.returns-clause-kept
+returns-clause-kept g c = record {
+  ends = ends_loaded g.N.PageSource.view c.args.engine.now
+      c.prepare.new.engine c.prepare.ensures.leaves.safe c.in_ok-row.ensures.leaves.fault c.prepare.ensures.leaves.geometry
+      c.prepare.ensures.leaves.die
+      c.prepare.ensures.limits c.in_ok-row.ensures.calm c.in_ok-row.ensures.leaves.tells
+      (λ honest. c.in_ok-row.ensures.leaves.went honest (ok_not_bus _))
+      (λ honest k. c.in_ok-row.ensures.leaves.stops honest k (ok_not_bus _)) c.cache_sector.new.self c.args.sector _
+      c.in_ok-cache_sector.ensures.loaded c.cache_sector.ensures.safe;
+  cut = λ honest w bus. absurd (no_err _ _ _ refl bus);
+  truth = λ honest w.
+      let found = c.in_ok-row.ensures.truth honest w in
+      keeps_loaded c.prepare.new.engine c.cache_sector.new.self c.args.sector _ c.in_ok-cache_sector.ensures.loaded g.N.PageSource.view.flash _ _
+      c.prepare.ensures.leaves.safe.memory c.cache_sector.ensures.safe.memory found.keeps
+      (c.cache_sector.ensures.truth _ found.keeps.truth.truth found.row_is);
+}
 
 pub returns-clause-readies : goal.returns-clause-readies
 returns-clause-readies g c = record {
@@ -131,13 +130,6 @@ returns-clause-cost g c = ready_then c.args.sector (ram c.args.engine.now) (ram 
 
 pub returns-clause-checked : goal.returns-clause-checked
 returns-clause-checked g c = is_looked_up (ram c.args.engine.now) c.prepare.new.engine c.cache_sector.new.self c.args.sector c.in_ok-row.row c.in_ok-cache_sector.ensures.loaded c.in_ok-row.ensures.prepared c.in_ok-row.ensures.checked
-
-pub returns-clause-truth : goal.returns-clause-truth
-returns-clause-truth g c = λ honest w.
-    let found = c.in_ok-row.ensures.truth honest w in
-    keeps_loaded c.prepare.new.engine c.cache_sector.new.self c.args.sector _ c.in_ok-cache_sector.ensures.loaded g.N.PageSource.view.flash _ _
-    c.prepare.ensures.leaves.safe.memory c.cache_sector.ensures.safe.memory found.keeps
-    (c.cache_sector.ensures.truth _ found.keeps.truth.truth found.row_is)
 
 -- ---- nothing more is said of a refusal
 
@@ -171,27 +163,10 @@ returns-in_err-cache_sector-clause-cost g c =
     let p = err_from_is_err_and c.from_residual-in_err-cache_sector.result c.from_residual-in_err-cache_sector.ensures.1 in
     rw p.1 tt
 
-pub returns-in_err-row-clause-truth : goal.returns-in_err-row-clause-truth
-returns-in_err-row-clause-truth g c =
-    let p = err_from_is_err_and c.from_residual.result c.from_residual.ensures.1 in
-    rw (p.1, p.2) c.in_err-row.ensures.truth
-
-pub returns-clause-cut : goal.returns-clause-cut
-returns-clause-cut g c = λ honest w bus. absurd (no_err _ _ _ refl bus)
-
 -- ---- what the calls want
 
-pub prepare-requires-clause-safe : goal.prepare-requires-clause-safe
-prepare-requires-clause-safe g c = c.requires.safe
-
-pub prepare-requires-clause-going : goal.prepare-requires-clause-going
-prepare-requires-clause-going g c = c.requires.going
-
-pub prepare-requires-clause-calm : goal.prepare-requires-clause-calm
-prepare-requires-clause-calm g c = c.requires.calm
-
-pub prepare-requires-clause-sector : goal.prepare-requires-clause-sector
-prepare-requires-clause-sector g c = c.requires.sector
+pub prepare-requires : goal.prepare-requires
+prepare-requires g c = record { safe = c.requires.safe; going = c.requires.going; calm = c.requires.calm; sector = c.requires.sector }
 
 pub cache_sector-requires-clause-safe : goal.cache_sector-requires-clause-safe
 cache_sector-requires-clause-safe g c = c.prepare.ensures.leaves.safe

@@ -7,7 +7,6 @@ use Rattle.page_layout.specs.Geometry.{row_count}
 use Rattle.collection.specs.State.{Ram}
 use Rattle.collection.proofs.Looks.{ok_not_bus}
 use Rattle.std.proofs.lemmas.Result.{err_from_is_err_and}
-use Rattle.page_layout.proofs.AskedLemmas.{asks_then}
 use Rattle.collection.specs.Safe.{ram, image_in}
 use Rattle.collection.proofs.Costs.{risen_over}
 use Rattle.ftl_device.proofs.RoomLemmas.{keeps_room, refused_room, room_pins, ok_any}
@@ -18,8 +17,9 @@ use Rattle.ftl_device.proofs.PrepareLemmas.{tells_found, went_found, found_after
 use Rattle.ftl_device.proofs.ReadLemmas.{finds_noted, prepared_by}
 use Rattle.ftl_device.specs.Shortage.{HasFunds}
 use Rattle.ftl_device.proofs.SpentLemmas.{after_room, room_refused, place_refused, found_costs}
+use Rattle.ftl_device.proofs.DieLemmas.{die_then}
 use Rattle.ftl_device.proofs.LeaveLemmas.{leaves_then, leaves_refused, limits_same}
-use Rattle.ftl_device.proofs.AnswerLemmas.{at_most, no_true}
+use Rattle.ftl_device.proofs.AnswerLemmas.{no_true}
 use Rattle.ftl_device.proofs.StoppedLemmas.{cuts_looked, cuts_on, stops_still}
 use Rattle.ftl_device.proofs.ready.prepare.Goals as goal
 
@@ -36,12 +36,12 @@ pub returns-clause-truth : goal.returns-clause-truth
 returns-clause-truth g c = λ honest w.
     let room = c.in_ok-make_room.ensures.truth honest w in
     let knows = c.in_ok-make_room.ensures.pinned honest w in
-    let place = c.in_ok-make_place.ensures.truth (c.make_room.ensures.leaves.honest_is ∙ honest) room.truth in
+    let place = c.in_ok-make_place.ensures.truth (c.make_room.ensures.leaves.die.honest_is ∙ honest) room.truth in
     let keeps = engine_keeps c.args.engine.now.geometry (ram c.make_room.new.engine) (ram c.make_place.new.engine)
     (image_in g.N.PageSource.view.flash c.args.engine.now) _ _ c.make_room.ensures.leaves.geometry c.make_room.ensures.leaves.safe.memory
     c.make_place.ensures.leaves.safe.memory c.make_place.ensures.beside
     (keeps_room (ram c.args.engine.now) (ram c.make_room.new.engine) _ _ room knows) place in
-    let still = c.make_place.ensures.leaves.honest_is ∙ (c.make_room.ensures.leaves.honest_is ∙ honest) in
+    let still = c.make_place.ensures.leaves.die.honest_is ∙ (c.make_room.ensures.leaves.die.honest_is ∙ honest) in
     found_after (ram c.make_place.new.engine) (ram c.find_row.new.engine) _ c.find_row.ensures.memory c.find_row.result c.args.sector c.args.engine.now.geometry _ (g.N.PageSource.view.flash c.make_place.new.engine.nand) (g.N.PageSource.view.flash c.find_row.new.engine.nand)
     keeps (c.find_row.ensures.same still) (c.find_row.ensures.truth still place.truth)
 
@@ -55,7 +55,7 @@ returns-in_err-make_place-clause-truth g c =
     (image_in g.N.PageSource.view.flash c.args.engine.now) _ _ _ c.make_room.ensures.leaves.geometry c.make_room.ensures.leaves.safe.memory
     c.make_place.ensures.leaves.safe.memory c.make_place.ensures.beside
     (keeps_room (ram c.args.engine.now) (ram c.make_room.new.engine) _ _ room knows)
-    (c.in_err-make_place.ensures.truth (c.make_room.ensures.leaves.honest_is ∙ honest) room.truth))
+    (c.in_err-make_place.ensures.truth (c.make_room.ensures.leaves.die.honest_is ∙ honest) room.truth))
 
 pub returns-in_err-make_room-clause-truth : goal.returns-in_err-make_room-clause-truth
 returns-in_err-make_room-clause-truth g c =
@@ -115,23 +115,20 @@ returns-clause-leaves g c = (
       safe = c.find_row.ensures.safe;
       fault = ap (λ r. r.fault) c.find_row.ensures.memory;
       geometry = ap (λ r. r.geometry) c.find_row.ensures.memory ∙ placed.geometry;
-      honest_is = c.find_row.ensures.honest ∙ placed.honest_is;
-      calm_is = c.find_row.ensures.calm ∙ placed.calm_is;
-      asked = asks_then g.N.PageSource.view.called c.args.engine.now.nand c.make_place.new.engine.nand c.find_row.new.engine.nand placed.asked c.find_row.ensures.asked;
-      failed_is = at_most _ _ _ placed.failed_is c.find_row.ensures.failed;
-      rose = λ bus. risen_over _ _ _ placed.failed_is (c.find_row.ensures.rose bus);
+      die = die_then g.N.PageSource.view _ _ _ placed.die (record { honest_is = c.find_row.ensures.honest; calm_is = c.find_row.ensures.calm; asked = c.find_row.ensures.asked; failed_is = c.find_row.ensures.failed });
+      rose = λ bus. risen_over _ _ _ placed.die.failed_is (c.find_row.ensures.rose bus);
       tells = tells_found c.find_row.result (ram c.args.engine.now) (ram c.make_room.new.engine) (ram c.make_place.new.engine)
           (ram c.find_row.new.engine) _ c.in_ok-make_room.ensures.leaves.tells c.in_ok-make_place.ensures.leaves.tells c.find_row.ensures.memory
           c.find_row.ensures.faults;
       went = λ honest ne. went_found (ram c.make_place.new.engine) (ram c.find_row.new.engine) _ c.find_row.ensures.memory (ram c.args.engine.now) _ _
-          _ _ _ _ (placed.went honest (ok_not_bus _)) (c.find_row.ensures.same (placed.honest_is ∙ honest) ne)
-          (c.find_row.ensures.told (placed.honest_is ∙ honest) ne);
+          _ _ _ _ (placed.went honest (ok_not_bus _)) (c.find_row.ensures.same (placed.die.honest_is ∙ honest) ne)
+          (c.find_row.ensures.told (placed.die.honest_is ∙ honest) ne);
       stops = λ honest k ne. stops_still g.N.PageSource.view c.args.engine.now c.make_place.new.engine c.find_row.new.engine
-          (c.find_row.ensures.same (placed.honest_is ∙ honest) ne) (c.find_row.ensures.told (placed.honest_is ∙ honest) ne)
+          (c.find_row.ensures.same (placed.die.honest_is ∙ honest) ne) (c.find_row.ensures.told (placed.die.honest_is ∙ honest) ne)
           (placed.stops honest k (ok_not_bus _));
       cut = λ honest k bus.
           let room = c.in_ok-make_room.ensures.truth honest k in
-          let place = c.in_ok-make_place.ensures.truth (c.make_room.ensures.leaves.honest_is ∙ honest) room.truth in
+          let place = c.in_ok-make_place.ensures.truth (c.make_room.ensures.leaves.die.honest_is ∙ honest) room.truth in
           let keeps = engine_keeps c.args.engine.now.geometry (ram c.make_room.new.engine) (ram c.make_place.new.engine)
           (image_in g.N.PageSource.view.flash c.args.engine.now) _ _ c.make_room.ensures.leaves.geometry c.make_room.ensures.leaves.safe.memory
           c.make_place.ensures.leaves.safe.memory c.make_place.ensures.beside
@@ -139,7 +136,7 @@ returns-clause-leaves g c = (
           cuts_on g.N.PageSource.view c.args.engine.now c.make_place.new.engine c.find_row.new.engine placed.geometry
           (limits_then _ _ _ c.make_room.ensures.keys.limits c.make_place.ensures.no_more.limits) keeps.array (placed.stops honest k (ok_not_bus _))
           (cuts_looked g.N.PageSource.view c.make_place.new.engine c.find_row.new.engine c.make_place.ensures.leaves.safe place.truth
-          (c.find_row.ensures.cut (placed.honest_is ∙ honest) bus));
+          (c.find_row.ensures.cut (placed.die.honest_is ∙ honest) bus));
     })
 
 pub returns-clause-pins : goal.returns-clause-pins
@@ -245,29 +242,15 @@ returns-clause-row g c = subst (λ (geometry : Geometry). IfOk c.find_row.result
 
 -- ---- what the calls want
 
-pub make_room-requires-clause-flushes : goal.make_room-requires-clause-flushes
-make_room-requires-clause-flushes g c = λ e. absurd (no_true e)
+pub make_place-requires : goal.make_place-requires
+make_place-requires g c = record { safe = c.make_room.ensures.leaves.safe; going = c.in_ok-make_room.ensures.leaves.fault }
 
-pub make_place-requires-clause-safe : goal.make_place-requires-clause-safe
-make_place-requires-clause-safe g c = c.make_room.ensures.leaves.safe
+pub find_row-requires : goal.find_row-requires
+find_row-requires g c = record {
+  safe = c.make_place.ensures.leaves.safe;
+  going = c.in_ok-make_place.ensures.leaves.fault;
+  sector = subst (λ (geometry : Geometry). c.args.sector < geometry.sectors) (sym (c.make_place.ensures.leaves.geometry ∙ c.make_room.ensures.leaves.geometry)) c.requires.sector;
+}
 
-pub make_place-requires-clause-going : goal.make_place-requires-clause-going
-make_place-requires-clause-going g c = c.in_ok-make_room.ensures.leaves.fault
-
-pub find_row-requires-clause-safe : goal.find_row-requires-clause-safe
-find_row-requires-clause-safe g c = c.make_place.ensures.leaves.safe
-
-pub find_row-requires-clause-going : goal.find_row-requires-clause-going
-find_row-requires-clause-going g c = c.in_ok-make_place.ensures.leaves.fault
-
-pub find_row-requires-clause-sector : goal.find_row-requires-clause-sector
-find_row-requires-clause-sector g c = subst (λ (geometry : Geometry). c.args.sector < geometry.sectors) (sym (c.make_place.ensures.leaves.geometry ∙ c.make_room.ensures.leaves.geometry)) c.requires.sector
-
-pub make_room-requires-clause-safe : goal.make_room-requires-clause-safe
-make_room-requires-clause-safe g c = c.requires.safe
-
-pub make_room-requires-clause-going : goal.make_room-requires-clause-going
-make_room-requires-clause-going g c = c.requires.going
-
-pub make_room-requires-clause-calm : goal.make_room-requires-clause-calm
-make_room-requires-clause-calm g c = c.requires.calm
+pub make_room-requires : goal.make_room-requires
+make_room-requires g c = record { safe = c.requires.safe; flushes = λ e. absurd (no_true e); going = c.requires.going; calm = c.requires.calm }

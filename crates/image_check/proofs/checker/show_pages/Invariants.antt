@@ -1,4 +1,4 @@
-use Rattle.std.proofs.Common.{◌≡◌, ◌≤◌, ◌<◌, ◌+◌, true, length}
+use Rattle.std.proofs.Common.{◌≡◌, ◌≤◌, ◌<◌, ◌+◌, true}
 use Rattle.page_layout.specs.Page.{IsImage}
 use Rattle.page_layout.specs.OnlyReads.{OnlyReads}
 use Rattle.image_check.specs.Passed.{IsPass, IsSamePass, Shows}
@@ -9,12 +9,8 @@ invariant-loop-row g l =
     let source = g.S.PageSource in
     record {
       only_reads : OnlyReads source.view l.fn.source l.source;
-      geometry_was : (source.view.flash l.fn.source).geometry ≡ l.geometry;
       pass_is : IsPass l.row l.pass;
       pass_same : IsSamePass l.fn.pass l.pass;
-      pass_geometry : l.pass.survey.geometry ≡ l.geometry;
-      body_whole : length l.body ≡ l.geometry.data_bytes;
-      spare_whole : length l.spare ≡ l.geometry.spare_bytes;
       same : source.view.honest l.fn.source ≡ true → source.view.flash l.source ≡ source.view.flash l.fn.source;
       told : source.view.honest l.fn.source ≡ true → source.view.recorded l.source ≡ source.view.recorded l.fn.source;
       whole : 0 < l.row → source.view.honest l.fn.source ≡ true → IsImage l.geometry (source.view.flash l.source).image;

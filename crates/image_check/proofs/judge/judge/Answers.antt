@@ -1,110 +1,95 @@
-use Rattle.std.proofs.Common.{refl}
+use Rattle.std.proofs.Common.{◌≡◌, ◌+◌, length, refl, sym, ap, ◌∙◌}
 use Rattle.std.proofs.lemmas.Result.{err_from_is_err_and}
-use Rattle.image_check.specs.Blocks.{AreStates}
-use Rattle.image_check.specs.Surveyed.{SurveysPairs}
-use Rattle.image_check.specs.Refused.{Next, HoldBetween}
-use Rattle.image_check.proofs.ChainLemmas.{hold_join, hold_more, fails_here, fails_later}
-use Rattle.image_check.proofs.JudgeLemmas.{IsSorted, sorted_of, rows_hold, rows_fail, states_given, pairs_given, distinct_of}
+use Rattle.page_layout.specs.declared.geometry.Geometry.{Geometry}
+use Rattle.page_layout.specs.Geometry.{translation_pages, table_pages}
+use Rattle.image_check.specs.Refused.{Next}
+use Rattle.image_check.proofs.ChainLemmas.{hold_more, fails_here}
+use Rattle.image_check.proofs.JudgeLemmas.{still_sized, blocks_few, rows_held, rows_refused, blocks_held, blocks_refused, pairs_sorted}
 use Rattle.image_check.proofs.judge.judge.Goals as goal
 
-pub returns-in_err-describe-clause-err : goal.returns-in_err-describe-clause-err
-returns-in_err-describe-clause-err c =
+pub describe-requires : goal.describe-requires
+describe-requires c = record { sized = c.requires.sized; scratch = c.requires.scratch }
+
+pub judge_rows-requires : goal.judge_rows-requires
+judge_rows-requires c =
+    let still = still_sized c.args.survey.now c.describe.new.survey _ c.describe.ensures.others c.requires.sized in
+    let same : c.args.survey.now.geometry ≡ c.describe.new.survey.geometry = sym still.geometry_is in
+    record {
+      newest = still.newest;
+      directory = c.requires.certificate.directory ∙ ap (λ (g : Geometry). translation_pages g + table_pages g) same;
+      sectors = c.requires.certificate.sectors ∙ ap (λ (g : Geometry). g.sectors) same;
+      passed = c.requires.passed ∙ ap (λ (g : Geometry). g.sectors) same;
+    }
+
+pub judge_blocks-requires : goal.judge_blocks-requires
+judge_blocks-requires c =
+    let size : length c.deref.result.now ≡ c.args.survey.now.geometry.blocks = ap length c.deref.ensures.value ∙ c.in_ok-describe.ensures.size in
+    record { few = blocks_few c.args.survey.now.geometry _ size; sized = c.requires.certificate.blocks ∙ sym size }
+
+pub returns-in_err-describe : goal.returns-in_err-describe
+returns-in_err-describe c =
     let p = err_from_is_err_and c.from_residual.result c.from_residual.ensures.1 in
-    rw (p.1, p.2) (λ capacity image h passes.
-    c.in_err-describe.ensures.err capacity image c.args.certificate.now h)
+    let bad = c.in_err-describe.ensures in
+    rw (p.1, p.2) (record {
+      ok = tt;
+      err = λ capacity image h passes. bad.err capacity image c.args.certificate.now h;
+      named = bad.named;
+    })
 
-pub returns-in_err-judge_rows-clause-err : goal.returns-in_err-judge_rows-clause-err
-returns-in_err-judge_rows-clause-err c =
+pub returns-in_err-judge_rows : goal.returns-in_err-judge_rows
+returns-in_err-judge_rows c =
     let p = err_from_is_err_and c.from_residual-in_err-judge_rows.result c.from_residual-in_err-judge_rows.ensures.1 in
-    rw (p.1, p.2) (λ capacity image h passes.
-    let g = c.args.survey.now.geometry in
+    let old = c.args.survey.now in
     let claim = c.args.certificate.now in
-    let s = c.describe.new.survey in
     let done = c.in_ok-describe.ensures in
-    let first : HoldBetween g capacity image claim 1 4 = done.ok capacity image claim h in
-    let sorted : IsSorted g image s = sorted_of image c.args.survey.now s h done.others done.permutation in
-    (fails_later g capacity image claim 1 4 _ first (rows_fail g s.geometry capacity image s.newest.items claim c.args.passed.now _ sorted.geometry_is sorted.keys passes (distinct_of g capacity image claim first) c.in_err-judge_rows.ensures.err)))
+    rw (p.1, p.2) (record {
+      ok = tt;
+      err = λ capacity image h passes.
+          rows_refused capacity image old c.describe.new.survey claim c.args.passed.now _ h done.others done.permutation passes (done.ok capacity image claim h) c.in_err-judge_rows.ensures.err;
+      named = c.in_err-judge_rows.ensures.named;
+    })
 
-pub returns-in_err-judge_blocks-clause-err : goal.returns-in_err-judge_blocks-clause-err
-returns-in_err-judge_blocks-clause-err c =
+pub returns-in_err-judge_blocks : goal.returns-in_err-judge_blocks
+returns-in_err-judge_blocks c =
     let p = err_from_is_err_and c.from_residual-in_err-judge_blocks.result c.from_residual-in_err-judge_blocks.ensures.1 in
-    rw (p.1, p.2) (λ capacity image h passes.
-    let g = c.args.survey.now.geometry in
     let claim = c.args.certificate.now in
-    let s = c.describe.new.survey in
+    let old = c.args.survey.now in
     let done = c.in_ok-describe.ensures in
-    let first : HoldBetween g capacity image claim 1 4 = done.ok capacity image claim h in
-    let sorted : IsSorted g image s = sorted_of image c.args.survey.now s h done.others done.permutation in
-    let rows : HoldBetween g capacity image claim 1 6 = hold_join g capacity image claim 1 4 6 first (rows_hold g s.geometry capacity image s.newest.items claim c.args.passed.now sorted.geometry_is sorted.keys passes c.in_ok-judge_rows.ensures.ok) in
-    let given : AreStates g image c.deref.result.now = states_given g image c.describe.new.scratch.states.items c.deref.result.now c.deref.ensures.value (done.states image h) in
-    (fails_later g capacity image claim 1 6 _ rows (c.in_err-judge_blocks.ensures.err g capacity image given)))
+    rw (p.1, p.2) (record {
+      ok = tt;
+      err = λ capacity image h passes.
+          let rows = rows_held capacity image old c.describe.new.survey claim c.args.passed.now h done.others done.permutation passes (done.ok capacity image claim h) c.in_ok-judge_rows.ensures.ok in
+          blocks_refused old.geometry capacity image claim _ c.deref.result.now _ rows c.deref.ensures.value (done.states image h) c.in_err-judge_blocks.ensures.err;
+      named = c.in_err-judge_blocks.ensures.named;
+    })
 
-pub returns-in_err-check_next-clause-err : goal.returns-in_err-check_next-clause-err
-returns-in_err-check_next-clause-err c =
+pub returns-in_err-check_next : goal.returns-in_err-check_next
+returns-in_err-check_next c =
     let p = err_from_is_err_and c.from_residual-in_err-check_next.result c.from_residual-in_err-check_next.ensures.1 in
-    rw (p.1, p.2) (λ capacity image h passes.
-    let g = c.args.survey.now.geometry in
+    let old = c.args.survey.now in
+    let done = c.in_ok-describe.ensures in
     let claim = c.args.certificate.now in
-    let s = c.describe.new.survey in
-    let done = c.in_ok-describe.ensures in
-    let first : HoldBetween g capacity image claim 1 4 = done.ok capacity image claim h in
-    let sorted : IsSorted g image s = sorted_of image c.args.survey.now s h done.others done.permutation in
-    let rows : HoldBetween g capacity image claim 1 6 = hold_join g capacity image claim 1 4 6 first (rows_hold g s.geometry capacity image s.newest.items claim c.args.passed.now sorted.geometry_is sorted.keys passes c.in_ok-judge_rows.ensures.ok) in
-    let given : AreStates g image c.deref.result.now = states_given g image c.describe.new.scratch.states.items c.deref.result.now c.deref.ensures.value (done.states image h) in
-    let blocks : HoldBetween g capacity image claim 1 10 = hold_join g capacity image claim 1 6 10 rows (c.in_ok-judge_blocks.ensures.ok g capacity image given) in
-    let pairs : SurveysPairs g image c.deref-2.result.now = pairs_given g image s.pairs.items c.deref-2.result.now c.deref-2.ensures.value sorted.pairs in
-    (fails_here g capacity image claim Next 1 _ blocks (c.in_err-check_next.ensures.err g capacity image pairs)))
+    rw (p.1, p.2) (record {
+      ok = tt;
+      err = λ capacity image h passes.
+          let rows = rows_held capacity image old c.describe.new.survey claim c.args.passed.now h done.others done.permutation passes (done.ok capacity image claim h) c.in_ok-judge_rows.ensures.ok in
+          let blocks = blocks_held old.geometry capacity image claim _ c.deref.result.now rows c.deref.ensures.value (done.states image h) c.in_ok-judge_blocks.ensures.ok in
+          let pairs = pairs_sorted image old c.describe.new.survey c.deref-2.result.now h done.others done.permutation c.deref-2.ensures.value in
+          fails_here old.geometry capacity image claim Next 1 _ blocks (c.in_err-check_next.ensures.err old.geometry capacity image pairs);
+      named = c.in_err-check_next.ensures.named;
+    })
 
-pub returns-clause-ok : goal.returns-clause-ok
-returns-clause-ok c = λ capacity image h passes.
-    let g = c.args.survey.now.geometry in
+pub returns : goal.returns
+returns c =
+    let old = c.args.survey.now in
     let claim = c.args.certificate.now in
-    let s = c.describe.new.survey in
     let done = c.in_ok-describe.ensures in
-    let first : HoldBetween g capacity image claim 1 4 = done.ok capacity image claim h in
-    let sorted : IsSorted g image s = sorted_of image c.args.survey.now s h done.others done.permutation in
-    let rows : HoldBetween g capacity image claim 1 6 = hold_join g capacity image claim 1 4 6 first (rows_hold g s.geometry capacity image s.newest.items claim c.args.passed.now sorted.geometry_is sorted.keys passes c.in_ok-judge_rows.ensures.ok) in
-    let given : AreStates g image c.deref.result.now = states_given g image c.describe.new.scratch.states.items c.deref.result.now c.deref.ensures.value (done.states image h) in
-    let blocks : HoldBetween g capacity image claim 1 10 = hold_join g capacity image claim 1 6 10 rows (c.in_ok-judge_blocks.ensures.ok g capacity image given) in
-    let pairs : SurveysPairs g image c.deref-2.result.now = pairs_given g image s.pairs.items c.deref-2.result.now c.deref-2.ensures.value sorted.pairs in
-    hold_more g capacity image claim Next 1 10 11 refl refl blocks (c.in_ok-check_next.ensures.ok g image pairs)
-
-pub returns-in_err-describe-clause-ok : goal.returns-in_err-describe-clause-ok
-returns-in_err-describe-clause-ok c =
-    let p = err_from_is_err_and c.from_residual.result c.from_residual.ensures.1 in
-    rw p.1 (tt)
-
-pub returns-in_err-describe-clause-named : goal.returns-in_err-describe-clause-named
-returns-in_err-describe-clause-named c =
-    let p = err_from_is_err_and c.from_residual.result c.from_residual.ensures.1 in
-    rw (p.1, p.2) c.in_err-describe.ensures.named
-
-pub returns-in_err-judge_rows-clause-ok : goal.returns-in_err-judge_rows-clause-ok
-returns-in_err-judge_rows-clause-ok c =
-    let p = err_from_is_err_and c.from_residual-in_err-judge_rows.result c.from_residual-in_err-judge_rows.ensures.1 in
-    rw p.1 (tt)
-
-pub returns-in_err-judge_rows-clause-named : goal.returns-in_err-judge_rows-clause-named
-returns-in_err-judge_rows-clause-named c =
-    let p = err_from_is_err_and c.from_residual-in_err-judge_rows.result c.from_residual-in_err-judge_rows.ensures.1 in
-    rw (p.1, p.2) c.in_err-judge_rows.ensures.named
-
-pub returns-in_err-judge_blocks-clause-ok : goal.returns-in_err-judge_blocks-clause-ok
-returns-in_err-judge_blocks-clause-ok c =
-    let p = err_from_is_err_and c.from_residual-in_err-judge_blocks.result c.from_residual-in_err-judge_blocks.ensures.1 in
-    rw p.1 (tt)
-
-pub returns-in_err-judge_blocks-clause-named : goal.returns-in_err-judge_blocks-clause-named
-returns-in_err-judge_blocks-clause-named c =
-    let p = err_from_is_err_and c.from_residual-in_err-judge_blocks.result c.from_residual-in_err-judge_blocks.ensures.1 in
-    rw (p.1, p.2) c.in_err-judge_blocks.ensures.named
-
-pub returns-in_err-check_next-clause-ok : goal.returns-in_err-check_next-clause-ok
-returns-in_err-check_next-clause-ok c =
-    let p = err_from_is_err_and c.from_residual-in_err-check_next.result c.from_residual-in_err-check_next.ensures.1 in
-    rw p.1 (tt)
-
-pub returns-in_err-check_next-clause-named : goal.returns-in_err-check_next-clause-named
-returns-in_err-check_next-clause-named c =
-    let p = err_from_is_err_and c.from_residual-in_err-check_next.result c.from_residual-in_err-check_next.ensures.1 in
-    rw (p.1, p.2) c.in_err-check_next.ensures.named
+    record {
+      ok = λ capacity image h passes.
+          let rows = rows_held capacity image old c.describe.new.survey claim c.args.passed.now h done.others done.permutation passes (done.ok capacity image claim h) c.in_ok-judge_rows.ensures.ok in
+          let blocks = blocks_held old.geometry capacity image claim _ c.deref.result.now rows c.deref.ensures.value (done.states image h) c.in_ok-judge_blocks.ensures.ok in
+          let pairs = pairs_sorted image old c.describe.new.survey c.deref-2.result.now h done.others done.permutation c.deref-2.ensures.value in
+          hold_more old.geometry capacity image claim Next 1 10 11 refl refl blocks (c.in_ok-check_next.ensures.ok old.geometry image pairs);
+      err = tt;
+      named = tt;
+    }

@@ -1,4 +1,4 @@
-use Rattle.std.proofs.Common.{◌≡◌, ◌+◌, ◌^◌, ◌≤◌, ◌<◌, true, length}
+use Rattle.std.proofs.Common.{◌≡◌, ◌+◌, ◌^◌, ◌≤◌, ◌<◌, true}
 use Rattle.page_layout.specs.Page.{IsImage}
 use Rattle.page_layout.specs.Newest.{latest_below}
 use Rattle.page_layout.specs.Array.{marks}
@@ -11,9 +11,6 @@ invariant-loop-row g l =
     let source = g.S.PageSource in
     record {
       only_reads : OnlyReads source.view l.fn.source l.source;
-      geometry_was : (source.view.flash l.fn.source).geometry ≡ l.geometry;
-      body_whole : length l.body ≡ l.geometry.data_bytes;
-      spare_whole : length l.spare ≡ l.geometry.spare_bytes;
       same : source.view.honest l.fn.source ≡ true → source.view.flash l.source ≡ source.view.flash l.fn.source;
       whole : 0 < l.row → source.view.honest l.fn.source ≡ true → IsImage l.geometry (source.view.flash l.source).image;
       read_few : source.view.reads l.source ≤ source.view.reads l.fn.source + l.row;

@@ -1,5 +1,5 @@
 use Rattle.std.proofs.Common.{◌+◌, sym, subst, ◌∙◌, arith, refl}
-use Rattle.image_check.proofs.SequenceLemmas.{Looked, looked_kept, looked_found, looked_apart, looked_end, looked_some, looked_none, found_of, none_of}
+use Rattle.image_check.proofs.SequenceLemmas.{Looked, looked_start, looked_kept, looked_found, looked_apart, looked_end, looked_some, looked_none, found_of, none_of}
 use Rattle.image_check.proofs.sequences.find_repeated.Goals.{then-first-second+in-Some, then-first-second+in_default-2, then-first-second+in_default}
 use Rattle.image_check.proofs.sequences.find_repeated.Goals.{else-first-second}
 use Rattle.image_check.proofs.sequences.find_repeated.Goals as goal
@@ -30,3 +30,6 @@ returns-clause-found c = found_of _ c.args.pairs.now c.loop-i.lowest (looked_end
 
 pub returns-clause-none : goal.returns-clause-none
 returns-clause-none c = none_of _ c.args.pairs.now c.loop-i.lowest (looked_end c.loop-i.i c.args.pairs.now c.loop-i.lowest (omega arith) c.loop-i.invariant.near c.loop-i.auto.i-end c.loop-i.invariant.looked)
+
+pub loop-i-init : goal.loop-i-init
+loop-i-init c = record { looked = looked_start c.args.pairs.now; near = omega arith }

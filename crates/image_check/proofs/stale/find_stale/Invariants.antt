@@ -1,4 +1,4 @@
-use Rattle.std.proofs.Common.{◌≡◌, ◌≤◌, ◌+◌, ◌*◌, true, min, length}
+use Rattle.std.proofs.Common.{◌≡◌, ◌≤◌, ◌+◌, ◌*◌, true, min}
 use Rattle.page_layout.specs.Geometry.{entries}
 use Rattle.page_layout.specs.OnlyReads.{OnlyReads}
 use Rattle.image_check.specs.Surveyed.{SurveysKeys}
@@ -11,9 +11,6 @@ invariant-loop-page g l =
     let source = g.S.PageSource in
     record {
       only_reads : OnlyReads source.view l.fn.source l.source;
-      geometry_was : (source.view.flash l.fn.source).geometry ≡ l.geometry;
-      body_whole : length l.body ≡ l.geometry.data_bytes;
-      spare_whole : length l.spare ≡ l.geometry.spare_bytes;
       same : source.view.honest l.fn.source ≡ true → source.view.flash l.source ≡ source.view.flash l.fn.source;
       noted : source.view.honest l.fn.source ≡ true → SurveysKeys l.geometry (source.view.flash l.fn.source).image l.newest → AreStaleBelow l.geometry (source.view.flash l.fn.source).image (min (l.page * entries l.geometry) l.geometry.sectors) l.stale.items;
       rising : IsRisingBelow (min (l.page * entries l.geometry) l.geometry.sectors) l.stale.items;

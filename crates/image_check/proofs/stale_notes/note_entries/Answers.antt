@@ -41,3 +41,15 @@ returns-clause-noted c = λ image p h at e b.
     let dir : claimed claim.directory t ≡ Some c.args.row = claimed_at claim.directory t c.directory_row.result c.directory_row.ensures.is ∙ c.same_row.ensures.yes c.if-not-same_row.false in
     noted_page g image claim c.args.row t first c.min-end.result c.args.body.now c.args.noted.now c.note_differing.new.noted
     (entry_page g image claim c.args.row t p c.in-Some.found c.key.result c.args.body.now at (sym c.in-Some.is ∙ e) c.key.ensures c.in-Translation.is (omega arith) dir b) begins ends h c.note_differing.ensures.noted
+
+pub returns-in_default-clause-most : goal.returns-in_default-clause-most
+returns-in_default-clause-most c = refl
+
+pub returns-then-page-translation_pages-clause-most : goal.returns-then-page-translation_pages-clause-most
+returns-then-page-translation_pages-clause-most c = refl
+
+pub returns-then-not-same_row-clause-most : goal.returns-then-not-same_row-clause-most
+returns-then-not-same_row-clause-most c = refl
+
+pub returns-clause-most : goal.returns-clause-most
+returns-clause-most c = c.note_differing.ensures.most

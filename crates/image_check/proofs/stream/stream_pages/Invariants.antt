@@ -1,4 +1,3 @@
-use Rattle.std.proofs.Common.{◌≡◌, length}
 use Rattle.image_check.specs.PageReader.{IsReadTo}
 use Rattle.image_check.specs.Passed.{IsPass, IsSamePass, Shows}
 use Rattle.image_check.proofs.stream.stream_pages.Given as goal
@@ -8,8 +7,5 @@ invariant-loop-row g l =
     record {
       pass_is : IsPass l.row l.pass;
       pass_same : IsSamePass l.fn.pass l.pass;
-      pass_geometry : l.pass.survey.geometry ≡ l.geometry;
-      body_whole : length l.body ≡ l.geometry.data_bytes;
-      spare_whole : length l.spare ≡ l.geometry.spare_bytes;
       read : IsReadTo l.geometry l.row (g.R.DumpReader.remaining l.fn.reader) (g.R.DumpReader.remaining l.reader) (λ image. Shows image l.row l.pass);
     }

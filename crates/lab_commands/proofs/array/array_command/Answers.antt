@@ -15,12 +15,7 @@ use Rattle.lab_commands.proofs.array.array_command.Goals as goal
 
 pub returns-in_err-told : goal.returns-in_err-told
 returns-in_err-told g c =
-    let o = g.W.Output.contents c.args.out.now in
-    let a = g.F.LabFiles.answers c.args.files.now in
-    rw (handed c.from_residual.result _ c.from_residual.ensures.1) (record {
-      ok = tt;
-      fault = (inl (left_all _ _ o c.in_err-told.ensures.kept, c.in_err-told.ensures.fault));
-    })
+    rw (handed c.from_residual.result _ c.from_residual.ensures.1) (record { ok = tt; fault = inl (left_all _ _ (g.W.Output.contents c.args.out.now) c.in_err-told.ensures.kept, c.in_err-told.ensures.fault) })
 
 pub returns-in_err-put_map : goal.returns-in_err-put_map
 returns-in_err-put_map g c =

@@ -34,10 +34,10 @@ pub returns-in-Ok-clause-beside : goal.returns-in-Ok-clause-beside
 returns-in-Ok-clause-beside g c = c.in_ok-target.ensures.made ∙ c.open_file.ensures.kept
 
 pub returns-clause-no_more : goal.returns-clause-no_more
-returns-clause-no_more g c = no_more_then _ _ _ (no_more_then _ _ _ c.open_file.ensures.no_more c.create_beside.ensures.no_more) c.discard.ensures.no_more
+returns-clause-no_more g c = no_more_then _ _ _ (no_more_then _ _ _ c.open_file.ensures.no_more c.create_beside.ensures.no_more) c.unmade.ensures.no_more
 
 pub returns-clause-kept : goal.returns-clause-kept
-returns-clause-kept g c = c.discard.ensures.kept ∙ (c.in_ok-target.ensures.made ∙ c.open_file.ensures.kept)
+returns-clause-kept g c = c.unmade.ensures.kept ∙ (c.in_ok-target.ensures.made ∙ c.open_file.ensures.kept)
 
 pub returns-in-Ok-clause-made : goal.returns-in-Ok-clause-made
 returns-in-Ok-clause-made g c = record { known = g.F.Reader.DumpReader.remaining c.in_ok-dump.dump; opened = c.in_ok-dump.ensures.bytes; made = c.in-Ok.ensures.ok }
@@ -48,9 +48,8 @@ returns-in-Ok-clause-sized g c = c.in-Ok.ensures.sized
 pub returns-clause-fault : goal.returns-clause-fault
 returns-clause-fault g c =
     let a = g.F.LabFiles.answers c.args.files.now in
-    let dump = c.args.words.now.dump in
-    let out = c.args.words.now.out in
+    let words = c.args.words.now in
     let err = c.in-Err in
-    subst (λ told. IsFileUnmade a c.args.geometry.now dump.now out.now told) (sym c.unmade_as.ensures)
-    (unmade a dump out c.args.geometry.now _ err.unwritten.fault c.in_ok-dump.ensures.bytes err.ensures.err (λ is. c.open_file.ensures.fails c.write_sectors.new.dump (err.ensures.source is))
+    subst (λ told. IsFileUnmade a c.args.geometry.now words.dump.now words.out.now told) (sym c.unmade.ensures.told)
+    (unmade a words.dump words.out c.args.geometry.now _ err.unwritten.fault c.in_ok-dump.ensures.bytes err.ensures.err (λ is. c.open_file.ensures.fails c.write_sectors.new.dump (err.ensures.source is))
     (λ is. c.open_file.ensures.no_more.writes_same (c.create_beside.ensures.fails err.unwritten.target (err.ensures.target is))))

@@ -8,33 +8,19 @@ use Rattle.lab_commands.proofs.array.place.Goals as goal
 
 pub returns-in_err-geometry : goal.returns-in_err-geometry
 returns-in_err-geometry g c =
-    rw (handed c.from_residual.result _ c.from_residual.ensures.1) (record {
-      placed = tt;
-      sized = tt;
-      fault = (inl c.in_err-geometry.ensures.fault);
-      no_more = tt;
-      kept = refl;
-    })
+    rw (handed c.from_residual.result _ c.from_residual.ensures.1) (record { placed = tt; sized = tt; fault = inl c.in_err-geometry.ensures.fault; no_more = tt; kept = refl })
 
 pub returns-in_err-last : goal.returns-in_err-last
 returns-in_err-last g c =
-    rw (handed c.from_residual-in_err-last.result _ c.from_residual-in_err-last.ensures.1) (record {
-      placed = tt;
-      sized = tt;
-      fault = (inr (c.in_ok-geometry.geometry, c.in_ok-geometry.ensures.ok, inl c.in_err-last.ensures.fault));
-      no_more = tt;
-      kept = refl;
-    })
+    let shape = c.in_ok-geometry in
+    rw (handed c.from_residual-in_err-last.result _ c.from_residual-in_err-last.ensures.1) (record { placed = tt; sized = tt; fault = inr (shape.geometry, shape.ensures.ok, inl c.in_err-last.ensures.fault); no_more = tt; kept = refl })
 
 pub returns-in_err-allow_both : goal.returns-in_err-allow_both
 returns-in_err-allow_both g c =
-    rw (handed c.from_residual-in_err-allow_both.result _ c.from_residual-in_err-allow_both.ensures.1) (record {
-      placed = tt;
-      sized = tt;
-      fault = (inr (c.in_ok-geometry.geometry, c.in_ok-geometry.ensures.ok, inr (c.in_ok-last.last, c.in_ok-last.ensures.ok, inl c.in_err-allow_both.ensures.fault)));
-      no_more = tt;
-      kept = ap g.F.LabFiles.kept c.allow_both.ensures.same;
-    })
+    let shape = c.in_ok-geometry in
+    let last = c.in_ok-last in
+    let handing = c.from_residual-in_err-allow_both in
+    rw (handed handing.result _ handing.ensures.1) (record { placed = tt; sized = tt; fault = inr (shape.geometry, shape.ensures.ok, inr (last.last, last.ensures.ok, inl c.in_err-allow_both.ensures.fault)); no_more = tt; kept = ap g.F.LabFiles.kept c.allow_both.ensures.same })
 
 pub returns-in_err-room : goal.returns-in_err-room
 returns-in_err-room g c =

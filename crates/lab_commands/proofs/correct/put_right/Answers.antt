@@ -1,48 +1,30 @@
-use Rattle.std.proofs.Common.{inl, inr, sym, subst, ◌∙◌}
+use Rattle.std.proofs.Common.{sym, subst, ◌∙◌}
 use Rattle.lab_commands.specs.Undone.{IsFileUnmade}
-use Rattle.lab_commands.proofs.UndoneLemmas.{unwritten_before, no_more_then, unmade, handed}
+use Rattle.lab_commands.proofs.UndoneLemmas.{handed, no_more_then, unbegun, unmade}
 use Rattle.lab_commands.proofs.correct.put_right.Goals as goal
 
-pub returns-in_err-dump : goal.returns-in_err-dump
-returns-in_err-dump g c =
-    rw (handed c.from_residual.result _ c.from_residual.ensures.1) (record {
-      made = tt;
-      fault = (inl c.in_err-dump.ensures.fault);
-      no_more = c.open_file.ensures.no_more;
-      beside = tt;
-      kept = c.open_file.ensures.kept;
-    })
-
-pub returns-in_err-target : goal.returns-in_err-target
-returns-in_err-target g c =
-    let a = g.F.LabFiles.answers c.args.files.now in
-    let b = g.F.LabFiles.answers c.open_file.new.files in
-    rw (handed c.from_residual-in_err-target.result _ c.from_residual-in_err-target.ensures.1) (record {
-      made = tt;
-      fault = (inr (inr (inl (unwritten_before a b c.args.words.now.out.now _ c.in_ok-dump.ensures.no_more c.in_err-target.ensures.fault))));
-      no_more = no_more_then _ _ _ c.open_file.ensures.no_more c.create_beside.ensures.no_more;
-      beside = tt;
-      kept = c.in_err-target.ensures.kept ∙ c.open_file.ensures.kept;
-    })
+pub returns-in_err-begun : goal.returns-in_err-begun
+returns-in_err-begun g c =
+    let why = unbegun (g.F.LabFiles.answers c.args.files.now) c.args.chip.now.raw c.args.words.now.dump.now c.args.words.now.out.now c.in_err-begun.field-0.0 c.in_err-begun.ensures.fault in
+    rw (handed c.from_residual.result _ c.from_residual.ensures.1) (record { made = tt; fault = why; no_more = c.begin_pages.ensures.no_more; beside = tt; kept = c.in_err-begun.ensures.kept })
 
 pub returns-in-Ok-clause-no_more : goal.returns-in-Ok-clause-no_more
-returns-in-Ok-clause-no_more g c = no_more_then _ _ _ c.open_file.ensures.no_more c.create_beside.ensures.no_more
+returns-in-Ok-clause-no_more g c = c.begin_pages.ensures.no_more
 
 pub returns-in-Ok-clause-beside : goal.returns-in-Ok-clause-beside
-returns-in-Ok-clause-beside g c = c.in_ok-target.ensures.made ∙ c.open_file.ensures.kept
+returns-in-Ok-clause-beside g c = c.in_ok-begun.ensures.made
 
 pub returns-clause-no_more : goal.returns-clause-no_more
-returns-clause-no_more g c = no_more_then _ _ _ (no_more_then _ _ _ c.open_file.ensures.no_more c.create_beside.ensures.no_more) c.discard.ensures.no_more
+returns-clause-no_more g c = no_more_then _ _ _ c.begin_pages.ensures.no_more c.unmade.ensures.no_more
 
 pub returns-clause-kept : goal.returns-clause-kept
-returns-clause-kept g c = c.discard.ensures.kept ∙ (c.in_ok-target.ensures.made ∙ c.open_file.ensures.kept)
+returns-clause-kept g c = c.unmade.ensures.kept ∙ c.in_ok-begun.ensures.made
 
 pub returns-clause-fault : goal.returns-clause-fault
 returns-clause-fault g c =
     let a = g.F.LabFiles.answers c.args.files.now in
-    let dump = c.args.words.now.dump in
-    let out = c.args.words.now.out in
+    let words = c.args.words.now in
     let err = c.in-Err in
-    subst (λ told. IsFileUnmade a c.args.chip.now.raw dump.now out.now told) (sym c.unmade_as.ensures)
-    (unmade a dump out c.args.chip.now.raw _ err.unwritten.fault c.in_ok-dump.ensures.bytes err.ensures.err (λ is. c.open_file.ensures.fails c.correct_dump.new.reader (err.ensures.source is))
-    (λ is. c.open_file.ensures.no_more.writes_same (c.create_beside.ensures.fails err.unwritten.target (err.ensures.target is))))
+    subst (λ told. IsFileUnmade a c.args.chip.now.raw words.dump.now words.out.now told) (sym c.unmade.ensures.told)
+    (unmade a words.dump words.out c.args.chip.now.raw _ err.unwritten.fault c.in_ok-begun.ensures.bytes err.ensures.err
+    (λ is. c.in_ok-begun.ensures.reads c.correct_dump.new.reader (err.ensures.source is)) (λ is. c.in_ok-begun.ensures.writes err.unwritten.target (err.ensures.target is)))

@@ -16,10 +16,9 @@ returns-in_err-there g c =
 
 pub returns-in_err-is_some_dump : goal.returns-in_err-is_some_dump
 returns-in_err-is_some_dump g c =
-    let a = g.F.LabFiles.answers c.args.files.now in
     let told = c.in_err-is_some_dump.field-0.0 in
     rw (handed c.from_residual-in_err-is_some_dump.result _ c.from_residual-in_err-is_some_dump.ensures.1) (record {
       ok = tt;
-      fault = unasked_dumps a c.args.words.now told (c.in_ok-there.there, search rules, c.in_ok-there.ensures.said) (subst (λ (ds : List (Bor (List ℕ))). IsSomeUnread a (texts ds) told) c.deref.ensures.value (subst (λ f. IsSomeUnread (g.F.LabFiles.answers f) (texts c.deref.result.now) told) c.standing.ensures.same c.in_err-is_some_dump.ensures.fault));
+      fault = unasked_dumps (g.F.LabFiles.answers c.args.files.now) c.args.words.now told (c.in_ok-there.there, search rules, c.in_ok-there.ensures.said) (subst (λ (ds : List (Bor (List ℕ))). IsSomeUnread (g.F.LabFiles.answers c.args.files.now) (texts ds) told) c.deref.ensures.value (subst (λ f. IsSomeUnread (g.F.LabFiles.answers f) (texts c.deref.result.now) told) c.standing.ensures.same c.in_err-is_some_dump.ensures.fault));
       same = c.is_some_dump.ensures.same ∙ c.standing.ensures.same;
     })

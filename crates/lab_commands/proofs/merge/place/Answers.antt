@@ -7,11 +7,7 @@ use Rattle.lab_commands.proofs.merge.place.Goals as goal
 
 pub returns-in_err-geometry : goal.returns-in_err-geometry
 returns-in_err-geometry g c =
-    rw (handed c.from_residual.result _ c.from_residual.ensures.1) (record {
-      placed = tt;
-      fault = (inl c.in_err-geometry.ensures.fault);
-      kept = refl;
-    })
+    rw (handed c.from_residual.result _ c.from_residual.ensures.1) (record { placed = tt; fault = inl c.in_err-geometry.ensures.fault; kept = refl })
 
 pub returns-in_err-allow_merge : goal.returns-in_err-allow_merge
 returns-in_err-allow_merge g c =

@@ -10,11 +10,7 @@ use Rattle.lab_commands.proofs.origin.place.Goals as goal
 
 pub returns-in_err-geometry : goal.returns-in_err-geometry
 returns-in_err-geometry g c =
-    rw (handed c.from_residual.result _ c.from_residual.ensures.1) (record {
-      placed = tt;
-      fault = (inl c.in_err-geometry.ensures.fault);
-      kept = refl;
-    })
+    rw (handed c.from_residual.result _ c.from_residual.ensures.1) (record { placed = tt; fault = inl c.in_err-geometry.ensures.fault; kept = refl })
 
 pub returns-in_err-last : goal.returns-in_err-last
 returns-in_err-last g c =

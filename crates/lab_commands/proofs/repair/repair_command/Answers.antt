@@ -8,14 +8,9 @@ use Rattle.lab_commands.specs.Undone.{form_of}
 use Rattle.lab_commands.proofs.UndoneLemmas.{left_all, handed}
 use Rattle.lab_commands.proofs.repair.repair_command.Goals as goal
 
-pub returns-in_err-told : goal.returns-in_err-told
-returns-in_err-told g c =
-    let o = g.W.Output.contents c.args.out.now in
-    let a = g.F.LabFiles.answers c.args.files.now in
-    rw (handed c.from_residual.result _ c.from_residual.ensures.1) (record {
-      ok = tt;
-      fault = (inl (left_all _ _ o c.in_err-told.ensures.kept, c.in_err-told.ensures.fault));
-    })
+pub returns-in_err-mended : goal.returns-in_err-mended
+returns-in_err-mended g c =
+    rw (handed c.from_residual.result _ c.from_residual.ensures.1) (record { ok = tt; fault = inl (left_all _ _ (g.W.Output.contents c.args.out.now) c.in_err-mended.ensures.kept, c.in_err-mended.ensures.fault) })
 
 pub returns : goal.returns
 returns g c =
@@ -25,12 +20,12 @@ returns g c =
     let broke = g.W.Output.failed c.print_repaired.new.out in
     let k = g.F.LabFiles.kept c.args.files.now in
     let l = g.F.LabFiles.kept c.put_mended.new.files in
-    let mends = c.in_ok-told.told.mends.items in
-    let has = c.in_ok-told.ensures.put in
+    let mends = c.in_ok-mended.mended.mends.items in
+    let has = c.in_ok-mended.ensures.put in
     let printed : Prints broke o p (repair_text (form_of c.args.words.showing) (told_tries has.put.bits has.put.g mends) mends) c.print_repaired.result =
     subst (λ f. Prints broke o p (repair_text f (told_tries has.put.bits has.put.g mends) mends) c.print_repaired.result) c.printer.ensures
     (subst (λ (n : ℕ). Prints broke o p (repair_text c.printer.result.form n mends) c.print_repaired.result) has.tried
-    (subst (λ (ms : List Mend). Prints broke o p (repair_text c.printer.result.form c.in_ok-told.told.tries ms) c.print_repaired.result) c.deref.ensures.value c.print_repaired.ensures)) in
+    (subst (λ (ms : List Mend). Prints broke o p (repair_text c.printer.result.form c.in_ok-mended.mended.tries ms) c.print_repaired.result) c.deref.ensures.value c.print_repaired.ensures)) in
     record {
       ok = done_by (WroteRepair a c.args.words k l o p) broke o p _ c.print_repaired.result c.ended.result printed c.ended.ensures (λ told. record { mends = mends; put = has.put; told = told });
       fault =

@@ -81,263 +81,112 @@ steps-smaller g c =
 
 -- ---- the block was erased
 
-pub returns-in_default-clause-goes : goal.returns-in_default-clause-goes
-returns-in_default-clause-goes g c = but_then c.args.pinned.block _ _ _ c.steps.invariant.goes c.step_on.ensures.goes
-
-pub returns-in_default-clause-released : goal.returns-in_default-clause-released
-returns-in_default-clause-released g c =
+pub returns-in_default : goal.returns-in_default
+returns-in_default g c =
+    let e = ends_erased _ c.in_ok-step.step (sym c.next_page-going_on.ensures ∙ none_from c.next_page-going_on.result c.in_default.not-Some) in
     let i = c.steps.invariant in
     let old = ram c.args.self.now in
     let now = ram c.steps.self in
     let new = ram c.step_on.new.self in
-    let e = ends_erased _ c.in_ok-step.step (sym c.next_page-going_on.ensures ∙ none_from c.next_page-going_on.result c.in_default.not-Some) in
-    released_from c.args.pinned.block old now new i.goes c.requires.half_done.within c.requires.half_done.closed (c.in_ok-step.ensures.released (ap Ok e))
-
-pub returns-in_default-clause-reads : goal.returns-in_default-clause-reads
-returns-in_default-clause-reads g c = read_all c.args.flushing c.args.pinned.first c.steps.first (ram c.args.self.now) (ram c.steps.self) _ _ _ c.steps.invariant.acts.safe.memory c.steps.invariant.goes.geometry c.steps.invariant.reads c.step_on.ensures.reads
-
-pub returns-in_default-clause-erases : goal.returns-in_default-clause-erases
-returns-in_default-clause-erases g c =
-    let e = ends_erased _ c.in_ok-step.step (sym c.next_page-going_on.ensures ∙ none_from c.next_page-going_on.result c.in_default.not-Some) in
-    once_erased c.in_ok-step.step _ _ e c.in_ok-step.ensures.erases ∙ ap counted c.steps.invariant.as_erased
-
-pub returns-in_default-clause-refreshes : goal.returns-in_default-clause-refreshes
-returns-in_default-clause-refreshes g c = λ on. refreshes_then _ _ _ c.steps.invariant.goes.geometry (c.steps.invariant.refreshes on) (c.step_on.ensures.refreshes on)
-
-pub returns-in_default-clause-cost : goal.returns-in_default-clause-cost
-returns-in_default-clause-cost g c =
-    let i = c.steps.invariant in
-    let old = ram c.args.self.now in
-    let now = ram c.steps.self in
-    let new = ram c.step_on.new.self in
-    let e = ends_erased _ c.in_ok-step.step (sym c.next_page-going_on.ensures ∙ none_from c.next_page-going_on.result c.in_default.not-Some) in
-    collected_cost c.args.flushing c.args.pinned.block c.steps.first old now new _ _ _ i.under_way
-    (none_due_by c.args.flushing c.args.pinned.block c.steps.first now new c.in_ok-step.step e c.in_ok-step.ensures.cost)
-    (erased_by c.args.flushing c.args.pinned.block c.steps.first now new c.in_ok-step.step e c.in_ok-step.ensures.cost)
-
-pub returns-in_default-clause-sparing : goal.returns-in_default-clause-sparing
-returns-in_default-clause-sparing g c = λ honest w passed idle.
-    let i = c.steps.invariant in
-    let old = ram c.args.self.now in
-    let now = ram c.steps.self in
-    let new = ram c.step_on.new.self in
-    let e = ends_erased _ c.in_ok-step.step (sym c.next_page-going_on.ensures ∙ none_from c.next_page-going_on.result c.in_default.not-Some) in
-    collected_few c.args.flushing c.args.pinned.block c.steps.first old now new _ _ _ (honest, w, passed) (λ on. (c.requires.flushes on, due_few c.args.flushing (ram c.args.self.now) c.requires.unmarked)) idle.few i.under_way
-    (none_due_by c.args.flushing c.args.pinned.block c.steps.first now new c.in_ok-step.step e c.in_ok-step.ensures.cost)
-    (erased_by c.args.flushing c.args.pinned.block c.steps.first now new c.in_ok-step.step e c.in_ok-step.ensures.cost)
-
-pub returns-in_default-clause-less_work : goal.returns-in_default-clause-less_work
-returns-in_default-clause-less_work g c =
-    let i = c.steps.invariant in
-    let old = ram c.args.self.now in
-    let now = ram c.steps.self in
-    let new = ram c.step_on.new.self in
-    let e = ends_erased _ c.in_ok-step.step (sym c.next_page-going_on.ensures ∙ none_from c.next_page-going_on.result c.in_default.not-Some) in
-    less_work c.args.flushing c.args.pinned.block c.steps.first old now new _ _ _ i.acts.safe.memory c.step_on.ensures.acts.safe.memory i.goes.geometry i.under_way (erased_by c.args.flushing c.args.pinned.block c.steps.first now new c.in_ok-step.step e c.in_ok-step.ensures.cost)
-
-pub returns-in_default-clause-acts : goal.returns-in_default-clause-acts
-returns-in_default-clause-acts g c = acts_then _ _ _ tt _ c.steps.invariant.goes.geometry c.steps.invariant.acts (acts_ok _ _ _ _ c.in_ok-step.ensures.acts)
-
-pub returns-in_default-clause-truth : goal.returns-in_default-clause-truth
-returns-in_default-clause-truth g c = λ honest w passed.
-    let i = c.steps.invariant in
-    let old = ram c.args.self.now in
-    let now = ram c.steps.self in
-    let new = ram c.step_on.new.self in
-    let e = ends_erased _ c.in_ok-step.step (sym c.next_page-going_on.ensures ∙ none_from c.next_page-going_on.result c.in_default.not-Some) in
-    let so = i.under_way.truth (honest, w, passed) in
-    emptied_then c.args.pinned.block c.steps.first _ old now new _ _ _ i.goes c.step_on.ensures.goes.geometry so
-    (emptied_by c.args.pinned.block now new _ _ c.in_ok-step.step e
-    (c.in_ok-step.ensures.truth (i.acts.honest_is ∙ honest) so.same.truth (let n = so.none in rw i.goes.geometry n)))
-
-pub returns-in_default-clause-count : goal.returns-in_default-clause-count
-returns-in_default-clause-count g c = λ honest w passed small.
-    let i = c.steps.invariant in
-    let old = ram c.args.self.now in
-    let now = ram c.steps.self in
-    let new = ram c.step_on.new.self in
-    let e = ends_erased _ c.in_ok-step.step (sym c.next_page-going_on.ensures ∙ none_from c.next_page-going_on.result c.in_default.not-Some) in
-    counts_collected c.args.flushing c.args.pinned.block c.steps.first old now new _ _ _ c.step_on.ensures.acts.safe.memory
-    (c.step_on.ensures.goes.geometry ∙ i.goes.geometry) (honest, w, passed) (begins_small (ram c.args.self.now) c.args.pinned small)
-    (λ on. (c.requires.flushes on, due_few c.args.flushing (ram c.args.self.now) c.requires.unmarked)) i.under_way
-    (erased_by c.args.flushing c.args.pinned.block c.steps.first now new c.in_ok-step.step e c.in_ok-step.ensures.cost)
-
-pub returns-in_default-clause-thrifty : goal.returns-in_default-clause-thrifty
-returns-in_default-clause-thrifty g c = λ honest w passed small ne.
-    let i = c.steps.invariant in
-    let old = ram c.args.self.now in
-    let now = ram c.steps.self in
-    let new = ram c.step_on.new.self in
-    let e = ends_erased _ c.in_ok-step.step (sym c.next_page-going_on.ensures ∙ none_from c.next_page-going_on.result c.in_default.not-Some) in
-    thrifty_erased c.args.flushing c.args.pinned.block c.steps.first old now new _ _ _ (honest, w, passed) (begins_small (ram c.args.self.now) c.args.pinned small)
-    (λ on. (c.requires.flushes on, due_few c.args.flushing (ram c.args.self.now) c.requires.unmarked)) i.under_way
-    (erased_by c.args.flushing c.args.pinned.block c.steps.first now new c.in_ok-step.step e c.in_ok-step.ensures.cost)
-
-pub returns-in_default-clause-few : goal.returns-in_default-clause-few
-returns-in_default-clause-few g c = λ honest w passed small ne.
-    let e = ends_erased _ c.in_ok-step.step (sym c.next_page-going_on.ensures ∙ none_from c.next_page-going_on.result c.in_default.not-Some) in
-    unpinned_few (ram c.step_on.new.self) (c.in_ok-step.ensures.next ∙ pin_erased c.args.pinned.block _ c.in_ok-step.step e)
+    record {
+      acts = acts_then _ _ _ tt _ c.steps.invariant.goes.geometry c.steps.invariant.acts (acts_ok _ _ _ _ c.in_ok-step.ensures.acts);
+      idle = c.in_ok-step.ensures.idle (ap Ok e);
+      unpinned = c.in_ok-step.ensures.next ∙ pin_erased c.args.pinned.block _ c.in_ok-step.step e;
+      goes = but_then c.args.pinned.block _ _ _ c.steps.invariant.goes c.step_on.ensures.goes;
+      released = released_from c.args.pinned.block old now new i.goes c.requires.half_done.within c.requires.half_done.closed (c.in_ok-step.ensures.released (ap Ok e));
+      keys = keys_then _ _ _ c.steps.invariant.keys c.step_on.ensures.keys;
+      refreshes = λ on. refreshes_then _ _ _ c.steps.invariant.goes.geometry (c.steps.invariant.refreshes on) (c.step_on.ensures.refreshes on);
+      cost = collected_cost c.args.flushing c.args.pinned.block c.steps.first old now new _ _ _ i.under_way
+          (none_due_by c.args.flushing c.args.pinned.block c.steps.first now new c.in_ok-step.step e c.in_ok-step.ensures.cost)
+          (erased_by c.args.flushing c.args.pinned.block c.steps.first now new c.in_ok-step.step e c.in_ok-step.ensures.cost);
+      sparing = λ honest w passed idle.
+          collected_few c.args.flushing c.args.pinned.block c.steps.first old now new _ _ _ (honest, w, passed) (λ on. (c.requires.flushes on, due_few c.args.flushing (ram c.args.self.now) c.requires.unmarked)) idle.few i.under_way
+          (none_due_by c.args.flushing c.args.pinned.block c.steps.first now new c.in_ok-step.step e c.in_ok-step.ensures.cost)
+          (erased_by c.args.flushing c.args.pinned.block c.steps.first now new c.in_ok-step.step e c.in_ok-step.ensures.cost);
+      reads = read_all c.args.flushing c.args.pinned.first c.steps.first (ram c.args.self.now) (ram c.steps.self) _ _ _ c.steps.invariant.acts.safe.memory c.steps.invariant.goes.geometry c.steps.invariant.reads c.step_on.ensures.reads;
+      erases = once_erased c.in_ok-step.step _ _ e c.in_ok-step.ensures.erases ∙ ap counted c.steps.invariant.as_erased;
+      less_work = less_work c.args.flushing c.args.pinned.block c.steps.first old now new _ _ _ i.acts.safe.memory c.step_on.ensures.acts.safe.memory i.goes.geometry i.under_way (erased_by c.args.flushing c.args.pinned.block c.steps.first now new c.in_ok-step.step e c.in_ok-step.ensures.cost);
+      truth = λ honest w passed.
+          let so = i.under_way.truth (honest, w, passed) in
+          emptied_then c.args.pinned.block c.steps.first _ old now new _ _ _ i.goes c.step_on.ensures.goes.geometry so
+          (emptied_by c.args.pinned.block now new _ _ c.in_ok-step.step e
+          (c.in_ok-step.ensures.truth (i.acts.honest_is ∙ honest) so.same.truth (let n = so.none in rw i.goes.geometry n)));
+      count = λ honest w passed small.
+          counts_collected c.args.flushing c.args.pinned.block c.steps.first old now new _ _ _ c.step_on.ensures.acts.safe.memory
+          (c.step_on.ensures.goes.geometry ∙ i.goes.geometry) (honest, w, passed) (begins_small (ram c.args.self.now) c.args.pinned small)
+          (λ on. (c.requires.flushes on, due_few c.args.flushing (ram c.args.self.now) c.requires.unmarked)) i.under_way
+          (erased_by c.args.flushing c.args.pinned.block c.steps.first now new c.in_ok-step.step e c.in_ok-step.ensures.cost);
+      thrifty = λ honest w passed small ne.
+          thrifty_erased c.args.flushing c.args.pinned.block c.steps.first old now new _ _ _ (honest, w, passed) (begins_small (ram c.args.self.now) c.args.pinned small)
+          (λ on. (c.requires.flushes on, due_few c.args.flushing (ram c.args.self.now) c.requires.unmarked)) i.under_way
+          (erased_by c.args.flushing c.args.pinned.block c.steps.first now new c.in_ok-step.step e c.in_ok-step.ensures.cost);
+      few = λ honest w passed small ne.
+          unpinned_few (ram c.step_on.new.self) (c.in_ok-step.ensures.next ∙ pin_erased c.args.pinned.block _ c.in_ok-step.step e);
+      stops = λ honest w passed ne.
+          let so = i.under_way.truth (honest, w, passed) in
+          let before = i.stops honest w passed in
+          let sized : IsSized (ram c.args.self.now) (ram c.steps.self) = record { geometry = i.goes.geometry; capacity = i.keys.limits.capacity; share = i.keys.limits.share } in
+          let now = i.acts.honest_is ∙ honest in
+          stops_then (ram c.args.self.now) (ram c.steps.self) _ _ _ _ _ _ sized so.same.array before (c.in_ok-step.ensures.stops now so.same.truth (let n = so.none in rw i.goes.geometry n) (ok_not_bus _));
+      cut = λ _ _ _ is. absurd (ok_not_bus _ is);
+    }
 
 -- ---- a step was refused
 
-pub returns-in_err-step-clause-refreshes : goal.returns-in_err-step-clause-refreshes
-returns-in_err-step-clause-refreshes g c = λ on. refreshes_then _ _ _ c.steps.invariant.goes.geometry (c.steps.invariant.refreshes on) (c.step_on.ensures.refreshes on)
-
-pub returns-in_err-step-clause-reads : goal.returns-in_err-step-clause-reads
-returns-in_err-step-clause-reads g c = read_all c.args.flushing c.args.pinned.first c.steps.first (ram c.args.self.now) (ram c.steps.self) _ _ _ c.steps.invariant.acts.safe.memory c.steps.invariant.goes.geometry c.steps.invariant.reads c.step_on.ensures.reads
-
-pub returns-in_err-step-clause-cost : goal.returns-in_err-step-clause-cost
-returns-in_err-step-clause-cost g c =
+pub returns-in_err-step : goal.returns-in_err-step
+returns-in_err-step g c =
+    let p = err_from_is_err_and c.from_residual.result c.from_residual.ensures.1 in
     let i = c.steps.invariant in
     let old = ram c.args.self.now in
     let now = ram c.steps.self in
     let new = ram c.step_on.new.self in
-    let p = err_from_is_err_and c.from_residual.result c.from_residual.ensures.1 in
-    rw (p.1, p.2) (refused_cost c.args.flushing c.args.pinned.block c.steps.first old now new _ _ _ _ i.under_way c.in_err-step.ensures.cost)
-
-pub returns-in_err-step-clause-acts : goal.returns-in_err-step-clause-acts
-returns-in_err-step-clause-acts g c =
-    let p = err_from_is_err_and c.from_residual.result c.from_residual.ensures.1 in
-    rw (p.1, p.2) (acts_then _ _ _ tt _ c.steps.invariant.goes.geometry c.steps.invariant.acts (acts_err _ _ _ c.in_err-step.ensures.acts))
-
-pub returns-in_err-step-clause-truth : goal.returns-in_err-step-clause-truth
-returns-in_err-step-clause-truth g c = λ honest w passed.
-    let i = c.steps.invariant in
-    let old = ram c.args.self.now in
-    let now = ram c.steps.self in
-    let new = ram c.step_on.new.self in
-    let so = i.under_way.truth (honest, w, passed) in
-    let p = err_from_is_err_and c.from_residual.result c.from_residual.ensures.1 in
-    rw (p.1, p.2) (refused_then old now new _ _ _ i.goes c.step_on.ensures.goes.geometry _ so.same (c.in_err-step.ensures.truth (i.acts.honest_is ∙ honest) so.same.truth (let n = so.none in rw i.goes.geometry n)))
-
-pub returns-in_err-step-clause-count : goal.returns-in_err-step-clause-count
-returns-in_err-step-clause-count g c = λ honest w passed small.
-    let i = c.steps.invariant in
-    let old = ram c.args.self.now in
-    let now = ram c.steps.self in
-    let new = ram c.step_on.new.self in
-    let so = i.under_way.truth (honest, w, passed) in
-    let p = err_from_is_err_and c.from_residual.result c.from_residual.ensures.1 in
-    rw (p.1, p.2)
-    (refused_counts c.args.flushing c.args.pinned.block c.steps.first old now new _ _ _ _ _ i.goes.geometry (honest, w, passed) (begins_small (ram c.args.self.now) c.args.pinned small)
-    (λ on. (c.requires.flushes on, due_few c.args.flushing (ram c.args.self.now) c.requires.unmarked)) i.under_way (λ is. c.in_err-step.ensures.owed (ap (λ f. Err f) is))
-    c.in_err-step.ensures.cost
-    (c.in_err-step.ensures.truth (i.acts.honest_is ∙ honest) so.same.truth (let n = so.none in rw i.goes.geometry n)))
-
-pub returns-in_err-step-clause-thrifty : goal.returns-in_err-step-clause-thrifty
-returns-in_err-step-clause-thrifty g c = λ honest w passed small.
-    let i = c.steps.invariant in
-    let old = ram c.args.self.now in
-    let now = ram c.steps.self in
-    let new = ram c.step_on.new.self in
-    let so = i.under_way.truth (honest, w, passed) in
-    let p = err_from_is_err_and c.from_residual.result c.from_residual.ensures.1 in
-    rw (p.1, p.2)
-    (λ ne. thrifty_refused c.args.flushing c.args.pinned.block c.steps.first old now new _ _ _ _ (honest, w, passed) (begins_small (ram c.args.self.now) c.args.pinned small)
-    (λ on. (c.requires.flushes on, due_few c.args.flushing (ram c.args.self.now) c.requires.unmarked)) i.under_way c.in_err-step.ensures.cost
-    (undamaged _ _ _ _ _ (c.in_err-step.ensures.truth (i.acts.honest_is ∙ honest) so.same.truth (let n = so.none in rw i.goes.geometry n)))
-    (λ e. ne (ap (λ f. Err f) e)))
-
-pub returns-in_err-step-clause-few : goal.returns-in_err-step-clause-few
-returns-in_err-step-clause-few g c = λ honest w passed small.
-    let i = c.steps.invariant in
-    let now = ram c.steps.self in
-    let new = ram c.step_on.new.self in
-    let so = i.under_way.truth (honest, w, passed) in
-    let p = err_from_is_err_and c.from_residual.result c.from_residual.ensures.1 in
-    rw (p.1, p.2)
-    (λ ne. few_left (ram c.args.self.now) now new c.args.pinned c.steps.first _ _ _ i.acts.safe.memory c.step_on.ensures.acts.safe.memory
-    i.goes.geometry c.step_on.ensures.goes.geometry c.requires.half_done.within i.closed
-    c.in_err-step.ensures.unmoved i.keys.limits.share (c.in_err-step.ensures.next ∙ i.pinned) small so.same.truth _ so.copies_left
-    so.few (c.in_err-step.ensures.truth (i.acts.honest_is ∙ honest) so.same.truth (let n = so.none in rw i.goes.geometry n))
-    (λ e. ne (ap (λ f. Err f) e)))
-
--- ---- what a stop leaves
-
-pub returns-in_err-step-clause-stops : goal.returns-in_err-step-clause-stops
-returns-in_err-step-clause-stops g c =
-    let p = err_from_is_err_and c.from_residual.result c.from_residual.ensures.1 in
-    rw (p.1, p.2) (λ honest w passed ne.
-    let i = c.steps.invariant in
-    let so = i.under_way.truth (honest, w, passed) in
-    let before = i.stops honest w passed in
     let sized : IsSized (ram c.args.self.now) (ram c.steps.self) = record { geometry = i.goes.geometry; capacity = i.keys.limits.capacity; share = i.keys.limits.share } in
-    let now = i.acts.honest_is ∙ honest in
-    stops_then (ram c.args.self.now) (ram c.steps.self) _ _ _ _ _ _ sized so.same.array before (c.in_err-step.ensures.stops now so.same.truth (let n = so.none in rw i.goes.geometry n) (not_bus _ ne)))
-
-pub returns-in_default-clause-stops : goal.returns-in_default-clause-stops
-returns-in_default-clause-stops g c = λ honest w passed ne.
-    let i = c.steps.invariant in
-    let so = i.under_way.truth (honest, w, passed) in
-    let before = i.stops honest w passed in
-    let sized : IsSized (ram c.args.self.now) (ram c.steps.self) = record { geometry = i.goes.geometry; capacity = i.keys.limits.capacity; share = i.keys.limits.share } in
-    let now = i.acts.honest_is ∙ honest in
-    stops_then (ram c.args.self.now) (ram c.steps.self) _ _ _ _ _ _ sized so.same.array before (c.in_ok-step.ensures.stops now so.same.truth (let n = so.none in rw i.goes.geometry n) (ok_not_bus _))
-
--- ---- what a fault of the die leaves
-
-pub returns-in_err-step-clause-cut : goal.returns-in_err-step-clause-cut
-returns-in_err-step-clause-cut g c =
-    let p = err_from_is_err_and c.from_residual.result c.from_residual.ensures.1 in
-    rw (p.1, p.2) (λ honest w passed is.
-    let i = c.steps.invariant in
-    let so = i.under_way.truth (honest, w, passed) in
-    let before = i.stops honest w passed in
-    let sized : IsSized (ram c.args.self.now) (ram c.steps.self) = record { geometry = i.goes.geometry; capacity = i.keys.limits.capacity; share = i.keys.limits.share } in
-    let now = i.acts.honest_is ∙ honest in
-    cut_after (ram c.args.self.now) (ram c.steps.self) _ _ _ _ _ sized so.same.array before (c.in_err-step.ensures.cut now so.same.truth (let n = so.none in rw i.goes.geometry n) (err_same _ _ is)))
-
-pub returns-in_default-clause-cut : goal.returns-in_default-clause-cut
-returns-in_default-clause-cut g c = λ _ _ _ is. absurd (ok_not_bus _ is)
-
-pub returns-in_err-step-clause-idle : goal.returns-in_err-step-clause-idle
-returns-in_err-step-clause-idle g c =
-    let p = err_from_is_err_and c.from_residual.result c.from_residual.ensures.1 in
-    rw p.1 (tt)
-
-pub returns-in_err-step-clause-unpinned : goal.returns-in_err-step-clause-unpinned
-returns-in_err-step-clause-unpinned g c =
-    let p = err_from_is_err_and c.from_residual.result c.from_residual.ensures.1 in
-    rw p.1 (tt)
-
-pub returns-in_err-step-clause-released : goal.returns-in_err-step-clause-released
-returns-in_err-step-clause-released g c =
-    let p = err_from_is_err_and c.from_residual.result c.from_residual.ensures.1 in
-    rw p.1 (tt)
-
-pub returns-in_err-step-clause-sparing : goal.returns-in_err-step-clause-sparing
-returns-in_err-step-clause-sparing g c =
-    let p = err_from_is_err_and c.from_residual.result c.from_residual.ensures.1 in
-    rw p.1 (λ _ _ _ _. tt)
-
-pub returns-in_err-step-clause-erases : goal.returns-in_err-step-clause-erases
-returns-in_err-step-clause-erases g c =
-    let p = err_from_is_err_and c.from_residual.result c.from_residual.ensures.1 in
-    rw p.1 (tt)
-
-pub returns-in_err-step-clause-less_work : goal.returns-in_err-step-clause-less_work
-returns-in_err-step-clause-less_work g c =
-    let p = err_from_is_err_and c.from_residual.result c.from_residual.ensures.1 in
-    rw p.1 (tt)
-
-pub returns-in_err-step-clause-goes : goal.returns-in_err-step-clause-goes
-returns-in_err-step-clause-goes g c = but_then c.args.pinned.block _ _ _ c.steps.invariant.goes c.step_on.ensures.goes
-
-pub returns-in_err-step-clause-keys : goal.returns-in_err-step-clause-keys
-returns-in_err-step-clause-keys g c = keys_then _ _ _ c.steps.invariant.keys c.step_on.ensures.keys
-
-pub returns-in_default-clause-keys : goal.returns-in_default-clause-keys
-returns-in_default-clause-keys g c = keys_then _ _ _ c.steps.invariant.keys c.step_on.ensures.keys
-
-pub returns-in_default-clause-idle : goal.returns-in_default-clause-idle
-returns-in_default-clause-idle g c =
-    let e = ends_erased _ c.in_ok-step.step (sym c.next_page-going_on.ensures ∙ none_from c.next_page-going_on.result c.in_default.not-Some) in
-    c.in_ok-step.ensures.idle (ap Ok e)
-
-pub returns-in_default-clause-unpinned : goal.returns-in_default-clause-unpinned
-returns-in_default-clause-unpinned g c =
-    let e = ends_erased _ c.in_ok-step.step (sym c.next_page-going_on.ensures ∙ none_from c.next_page-going_on.result c.in_default.not-Some) in
-    c.in_ok-step.ensures.next ∙ pin_erased c.args.pinned.block _ c.in_ok-step.step e
+    rw (p.1, p.2) (record {
+      acts = acts_then _ _ _ tt _ c.steps.invariant.goes.geometry c.steps.invariant.acts (acts_err _ _ _ c.in_err-step.ensures.acts);
+      idle = tt;
+      unpinned = tt;
+      goes = but_then c.args.pinned.block _ _ _ c.steps.invariant.goes c.step_on.ensures.goes;
+      released = tt;
+      keys = keys_then _ _ _ c.steps.invariant.keys c.step_on.ensures.keys;
+      refreshes = λ on. refreshes_then _ _ _ c.steps.invariant.goes.geometry (c.steps.invariant.refreshes on) (c.step_on.ensures.refreshes on);
+      cost = refused_cost c.args.flushing c.args.pinned.block c.steps.first old now new _ _ _ _ i.under_way c.in_err-step.ensures.cost;
+      sparing = λ _ _ _ _. tt;
+      reads = read_all c.args.flushing c.args.pinned.first c.steps.first (ram c.args.self.now) (ram c.steps.self) _ _ _ c.steps.invariant.acts.safe.memory c.steps.invariant.goes.geometry c.steps.invariant.reads c.step_on.ensures.reads;
+      erases = tt;
+      less_work = tt;
+      truth = λ honest w passed.
+          let so = i.under_way.truth (honest, w, passed) in
+          refused_then old now new _ _ _ i.goes c.step_on.ensures.goes.geometry _ so.same (c.in_err-step.ensures.truth (i.acts.honest_is ∙ honest) so.same.truth (let n = so.none in rw i.goes.geometry n));
+      count = λ honest w passed small.
+          let so = i.under_way.truth (honest, w, passed) in
+          refused_counts c.args.flushing c.args.pinned.block c.steps.first old now new _ _ _ _ _ i.goes.geometry (honest, w, passed) (begins_small (ram c.args.self.now) c.args.pinned small)
+          (λ on. (c.requires.flushes on, due_few c.args.flushing (ram c.args.self.now) c.requires.unmarked)) i.under_way (λ is. c.in_err-step.ensures.owed (ap (λ f. Err f) is))
+          c.in_err-step.ensures.cost
+          (c.in_err-step.ensures.truth (i.acts.honest_is ∙ honest) so.same.truth (let n = so.none in rw i.goes.geometry n));
+      thrifty = λ honest w passed small.
+          let so = i.under_way.truth (honest, w, passed) in
+          λ ne. thrifty_refused c.args.flushing c.args.pinned.block c.steps.first old now new _ _ _ _ (honest, w, passed) (begins_small (ram c.args.self.now) c.args.pinned small)
+          (λ on. (c.requires.flushes on, due_few c.args.flushing (ram c.args.self.now) c.requires.unmarked)) i.under_way c.in_err-step.ensures.cost
+          (undamaged _ _ _ _ _ (c.in_err-step.ensures.truth (i.acts.honest_is ∙ honest) so.same.truth (let n = so.none in rw i.goes.geometry n)))
+          (λ e. ne (ap (λ f. Err f) e));
+      few = λ honest w passed small.
+          let so = i.under_way.truth (honest, w, passed) in
+          λ ne. few_left (ram c.args.self.now) now new c.args.pinned c.steps.first _ _ _ i.acts.safe.memory c.step_on.ensures.acts.safe.memory
+          i.goes.geometry c.step_on.ensures.goes.geometry c.requires.half_done.within i.closed
+          c.in_err-step.ensures.unmoved i.keys.limits.share (c.in_err-step.ensures.next ∙ i.pinned) small so.same.truth _ so.copies_left
+          so.few (c.in_err-step.ensures.truth (i.acts.honest_is ∙ honest) so.same.truth (let n = so.none in rw i.goes.geometry n))
+          (λ e. ne (ap (λ f. Err f) e));
+      stops = λ honest w passed ne.
+          let so = i.under_way.truth (honest, w, passed) in
+          let before = i.stops honest w passed in
+          let now = i.acts.honest_is ∙ honest in
+          stops_then (ram c.args.self.now) (ram c.steps.self) _ _ _ _ _ _ sized so.same.array before (c.in_err-step.ensures.stops now so.same.truth (let n = so.none in rw i.goes.geometry n) (not_bus _ ne));
+      cut = λ honest w passed is.
+          let so = i.under_way.truth (honest, w, passed) in
+          let before = i.stops honest w passed in
+          let now = i.acts.honest_is ∙ honest in
+          cut_after (ram c.args.self.now) (ram c.steps.self) _ _ _ _ _ sized so.same.array before (c.in_err-step.ensures.cut now so.same.truth (let n = so.none in rw i.goes.geometry n) (err_same _ _ is));
+    })
 
 pub step_on-requires-clause-safe : goal.step_on-requires-clause-safe
 step_on-requires-clause-safe g c = c.steps.invariant.acts.safe

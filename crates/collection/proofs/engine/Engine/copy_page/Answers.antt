@@ -18,96 +18,7 @@ use Rattle.collection.proofs.Acts.{acts_err}
 use Rattle.collection.proofs.Afters.{acts_on, programs_on, for_some}
 use Rattle.collection.proofs.engine.Engine.copy_page.Goals as goal
 
-pub returns-in_err-replace-clause-truth : goal.returns-in_err-replace-clause-truth
-returns-in_err-replace-clause-truth g c = λ honest w shut live.
-    let p = err_from_is_err_and c.from_residual.result c.from_residual.ensures.1 in
-    rw (p.1, p.2) (c.in_err-replace.ensures.truth honest (may_copy (ram c.args.self.now) _ c.args.row c.args.found.now _ w c.requires.key live))
-
-pub returns-in_err-replace-clause-renews : goal.returns-in_err-replace-clause-renews
-returns-in_err-replace-clause-renews g c = λ honest w live.
-    let p = err_from_is_err_and c.from_residual.result c.from_residual.ensures.1 in
-    rw (p.1, p.2) (c.in_err-replace.ensures.truth honest (may_copy (ram c.args.self.now) _ c.args.row c.args.found.now _ w c.requires.key live))
-
-pub returns-clause-goes : goal.returns-clause-goes
-returns-clause-goes g c = goes_marked c.args.flushing c.key.result 0 (ram c.args.self.now) (ram c.replace.new.self) _ c.mark.ensures.marked c.replace.ensures.goes
-
-pub returns-clause-refreshes : goal.returns-clause-refreshes
-returns-clause-refreshes g c = λ on. refreshes_marked c.args.flushing (key_of c.args.found.now) c.in_ok-replace.field-0 (ram c.args.self.now)
-    (ram c.replace.new.self) _
-    (marked_at c.args.flushing (key_of c.args.found.now) c.key.result (ram c.replace.new.self) _ c.key.ensures c.mark.ensures.marked) on
-    c.requires.safe.memory c.requires.key c.replace.ensures.goes.geometry c.replace.ensures.pin c.in_ok-replace.ensures.mapping
-
-pub returns-clause-cost : goal.returns-clause-cost
-returns-clause-cost g c = cost_marked c.args.flushing (key_of c.args.found.now) c.in_ok-replace.field-0 (ram c.args.self.now) (ram c.replace.new.self)
-    _ (marked_at c.args.flushing (key_of c.args.found.now) c.key.result (ram c.replace.new.self) _ c.key.ensures c.mark.ensures.marked)
-    (stream_of c.args.found.now.kind) c.requires.safe.memory c.requires.key c.in_ok-replace.ensures.cost c.replace.ensures.goes.geometry
-    c.replace.ensures.pin c.in_ok-replace.ensures.mapping
-
-pub returns-clause-pinned : goal.returns-clause-pinned
-returns-clause-pinned g c = λ off. pin_marked c.args.flushing c.key.result 0 (ram c.args.self.now) (ram c.replace.new.self) _ c.mark.ensures.marked off ∙ c.replace.ensures.pin
-
-pub returns-clause-touched : goal.returns-clause-touched
-returns-clause-touched g c = λ honest w shut live.
-    let r = ram c.args.self.now in
-    let b = ram c.replace.new.self in
-    let old = (g.N.PageSource.view.flash c.args.self.now.nand).image in
-    let new = (g.N.PageSource.view.flash c.replace.new.self.nand).image in
-    let replaced = c.in_ok-replace.ensures.truth honest (may_copy r _ c.args.row c.args.found.now _ w c.requires.key live) in
-    let moved = moved_out r b old new c.args.row c.in_ok-replace.field-0 c.args.found.now c.args.self.now.page.body.items c.requires.safe.memory
-    c.replace.ensures.acts.safe.memory c.replace.ensures.goes.geometry w live c.requires.key c.requires.row shut c.in_ok-replace.ensures.row
-    replaced in
-    let follows = followed c.args.flushing (key_of c.args.found.now) c.in_ok-replace.field-0 r b _
-    (marked_at c.args.flushing (key_of c.args.found.now) c.key.result b _ c.key.ensures c.mark.ensures.marked)
-    c.replace.ensures.goes.geometry c.replace.ensures.pin c.in_ok-replace.ensures.mapping in
-    rw c.mark.ensures.nand (copied_touches c.args.flushing (key_of c.args.found.now) c.args.row c.in_ok-replace.field-0 r _ old new
-    c.requires.safe.memory c.requires.key live.newest follows shut moved.same.leaves moved.gone (moves_one (key_of c.args.found.now) c.in_ok-replace.field-0 _ _ follows.mapping))
-
-pub returns-clause-programmed : goal.returns-clause-programmed
-returns-clause-programmed g c = last_marked c.args.found.now.kind c.args.found.now.number (ram c.replace.new.self) _ _ _ (ap (λ r. r.next) c.mark.ensures.marked) (ap page_in c.mark.ensures.page) c.in_ok-replace.ensures.programmed
-
-pub returns-clause-truth : goal.returns-clause-truth
-returns-clause-truth g c = λ honest w shut live.
-    let r = ram c.args.self.now in
-    let b = ram c.replace.new.self in
-    let old = (g.N.PageSource.view.flash c.args.self.now.nand).image in
-    let new = (g.N.PageSource.view.flash c.replace.new.self.nand).image in
-    let replaced = c.in_ok-replace.ensures.truth honest (may_copy r _ c.args.row c.args.found.now _ w c.requires.key live) in
-    let moved = moved_out r b old new c.args.row c.in_ok-replace.field-0 c.args.found.now c.args.self.now.page.body.items c.requires.safe.memory
-    c.replace.ensures.acts.safe.memory c.replace.ensures.goes.geometry w live c.requires.key c.requires.row shut c.in_ok-replace.ensures.row
-    replaced in
-    rw c.mark.ensures.nand (moved_marked c.args.flushing c.key.result c.in_ok-replace.field-0 r b _ c.mark.ensures.marked c.args.row old new moved)
-
-pub returns-clause-renews : goal.returns-clause-renews
-returns-clause-renews g c = λ honest w live.
-    let r = ram c.args.self.now in
-    let b = ram c.replace.new.self in
-    let old = (g.N.PageSource.view.flash c.args.self.now.nand).image in
-    let new = (g.N.PageSource.view.flash c.replace.new.self.nand).image in
-    let replaced = c.in_ok-replace.ensures.truth honest (may_copy r _ c.args.row c.args.found.now _ w c.requires.key live) in
-    let renewed = renewed_by r b old new c.args.row c.in_ok-replace.field-0 c.args.found.now c.args.self.now.page.body.items live c.in_ok-replace.ensures.row replaced in
-    rw c.mark.ensures.nand (renewed_marked c.args.flushing c.key.result c.in_ok-replace.field-0 r b _ c.mark.ensures.marked (key_of c.args.found.now) old new renewed)
-
--- ---- what a stop leaves
-
-pub returns-in_err-replace-clause-stops : goal.returns-in_err-replace-clause-stops
-returns-in_err-replace-clause-stops g c =
-    let p = err_from_is_err_and c.from_residual.result c.from_residual.ensures.1 in
-    rw (p.1, p.2) (λ honest w live ne. c.in_err-replace.ensures.stops honest (may_copy (ram c.args.self.now) _ c.args.row c.args.found.now _ w c.requires.key live) (not_bus _ ne))
-
-pub returns-clause-stops : goal.returns-clause-stops
-returns-clause-stops g c = λ honest w live ne. rw c.mark.ensures.nand (c.in_ok-replace.ensures.stops honest (may_copy (ram c.args.self.now) _ c.args.row c.args.found.now _ w c.requires.key live) (ok_not_bus _))
-
--- ---- what a fault of the die leaves
-
-pub returns-in_err-replace-clause-cut : goal.returns-in_err-replace-clause-cut
-returns-in_err-replace-clause-cut g c =
-    let p = err_from_is_err_and c.from_residual.result c.from_residual.ensures.1 in
-    rw (p.1, p.2) (λ honest w live is.
-    let r = ram c.args.self.now in
-    let old = (g.N.PageSource.view.flash c.args.self.now.nand).image in
-    let body = c.args.self.now.page.body.items in
-    cut_put c.args.found.now.kind c.args.found.now.number body r _ _ _ (copied_array r.geometry old c.args.row c.args.found.now body c.requires.key live)
-    (c.in_err-replace.ensures.cut honest (may_copy r _ c.args.row c.args.found.now _ w c.requires.key live) (err_same _ _ is)))
+-- ---- what is called
 
 pub replace-requires-clause-safe : goal.replace-requires-clause-safe
 replace-requires-clause-safe g c = c.requires.safe
@@ -127,72 +38,87 @@ mark-requires-clause-safe g c = c.replace.ensures.acts.safe
 pub mark-requires-clause-key : goal.mark-requires-clause-key
 mark-requires-clause-key g c = subst (IsKeyOf c.replace.new.self.geometry) (sym c.key.ensures) (subst (λ x. IsKeyOf x (key_of c.args.found.now)) (sym c.replace.ensures.goes.geometry) c.requires.key)
 
-pub returns-clause-acts : goal.returns-clause-acts
-returns-clause-acts g c = acts_on c.args.self.now c.replace.new.self c.mark.new.self c.in_ok-replace.field-0 _ c.mark.ensures.safe (ap (λ r. r.fault) c.mark.ensures.marked)
-    (ap (λ r. r.blocks) c.mark.ensures.marked) (ap (λ r. r.next) c.mark.ensures.marked) c.mark.ensures.nand c.in_ok-replace.ensures.acts
+-- ---- no page was put
 
-pub returns-clause-only_programs : goal.returns-clause-only_programs
-returns-clause-only_programs g c = programs_on g.N.PageSource.view c.args.self.now.nand c.replace.new.self.nand _ c.mark.ensures.nand c.replace.ensures.only_programs
-
-pub returns-clause-keys : goal.returns-clause-keys
-returns-clause-keys g c = subst (KeepsKeys c.args.self.now.mapping) (sym (ap (λ r. r.mapping) c.mark.ensures.marked)) (keys_set (key_of c.args.found.now) c.in_ok-replace.field-0 _ _ c.in_ok-replace.ensures.mapping)
-
-pub returns-clause-pin : goal.returns-clause-pin
-returns-clause-pin g c = ap (λ r. r.pin.block) c.mark.ensures.marked ∙ ap (λ p. p.block) c.replace.ensures.pin
-
-pub returns-clause-settled : goal.returns-clause-settled
-returns-clause-settled g c = (c.in_ok-replace.field-0, subst (SetsMapping (key_of c.args.found.now) c.in_ok-replace.field-0 c.args.self.now.mapping) (sym (ap (λ r. r.mapping) c.mark.ensures.marked)) c.in_ok-replace.ensures.mapping)
-
-pub returns-clause-unmoved : goal.returns-clause-unmoved
-returns-clause-unmoved g c = tt
-
-pub returns-clause-cut : goal.returns-clause-cut
-returns-clause-cut g c = λ _ _ _ e. absurd (ok_not_bus _ e)
-
-pub returns-in_err-replace-clause-acts : goal.returns-in_err-replace-clause-acts
-returns-in_err-replace-clause-acts g c =
+pub returns-in_err-replace : goal.returns-in_err-replace
+returns-in_err-replace g c =
     let p = err_from_is_err_and c.from_residual.result c.from_residual.ensures.1 in
-    rw (p.1, p.2) (acts_err _ _ _ c.in_err-replace.ensures.acts)
+    rw (p.1, p.2) (record {
+      leaves =
+          let r = ram c.args.self.now in
+          let old = (g.N.PageSource.view.flash c.args.self.now.nand).image in
+          let body = c.args.self.now.page.body.items in
+          let e = c.in_err-replace.ensures in
+          record {
+            acts = acts_err _ _ _ e.acts;
+            goes = e.goes;
+            only_programs = e.only_programs;
+            keys = keys_same _ _ e.mapping;
+            refreshes = λ _. refreshes_same r (ram c.replace.new.self) e.mapping e.pin;
+            pinned = λ _. e.pin;
+            pin = ap (λ p. p.block) e.pin;
+            unmoved = e.mapping;
+            touched = λ _ _ _ _. tt;
+            programmed = tt;
+            truth = λ honest w shut live. e.truth honest (may_copy r old c.args.row c.args.found.now body w c.requires.key live);
+            stops = λ honest w live ne. e.stops honest (may_copy r old c.args.row c.args.found.now body w c.requires.key live) (not_bus _ ne);
+            cut = λ honest w live is. cut_put c.args.found.now.kind c.args.found.now.number body r _ _ _ (copied_array r.geometry old c.args.row c.args.found.now body c.requires.key live)
+                (e.cut honest (may_copy r old c.args.row c.args.found.now body w c.requires.key live) (err_same _ _ is));
+          };
+      cost = fault_costs (stream_of c.args.found.now.kind) (ram c.args.self.now) (ram c.replace.new.self) _ c.in_err-replace.ensures.cost;
+      settled = tt;
+      renews = λ honest w live.
+          (c.in_err-replace.ensures.truth honest (may_copy (ram c.args.self.now) _ c.args.row c.args.found.now _ w c.requires.key live));
+    })
 
-pub returns-in_err-replace-clause-goes : goal.returns-in_err-replace-clause-goes
-returns-in_err-replace-clause-goes g c = c.replace.ensures.goes
+-- ---- it was put
 
-pub returns-in_err-replace-clause-only_programs : goal.returns-in_err-replace-clause-only_programs
-returns-in_err-replace-clause-only_programs g c = c.replace.ensures.only_programs
-
-pub returns-in_err-replace-clause-keys : goal.returns-in_err-replace-clause-keys
-returns-in_err-replace-clause-keys g c = keys_same _ _ c.in_err-replace.ensures.mapping
-
-pub returns-in_err-replace-clause-refreshes : goal.returns-in_err-replace-clause-refreshes
-returns-in_err-replace-clause-refreshes g c = λ _. refreshes_same (ram c.args.self.now) (ram c.replace.new.self) c.in_err-replace.ensures.mapping c.replace.ensures.pin
-
-pub returns-in_err-replace-clause-cost : goal.returns-in_err-replace-clause-cost
-returns-in_err-replace-clause-cost g c =
-    let p = err_from_is_err_and c.from_residual.result c.from_residual.ensures.1 in
-    rw (p.1, p.2) (fault_costs (stream_of c.args.found.now.kind) (ram c.args.self.now) (ram c.replace.new.self) _ c.in_err-replace.ensures.cost)
-
-pub returns-in_err-replace-clause-pinned : goal.returns-in_err-replace-clause-pinned
-returns-in_err-replace-clause-pinned g c = λ _. c.replace.ensures.pin
-
-pub returns-in_err-replace-clause-pin : goal.returns-in_err-replace-clause-pin
-returns-in_err-replace-clause-pin g c = ap (λ p. p.block) c.replace.ensures.pin
-
-pub returns-in_err-replace-clause-settled : goal.returns-in_err-replace-clause-settled
-returns-in_err-replace-clause-settled g c =
-    let p = err_from_is_err_and c.from_residual.result c.from_residual.ensures.1 in
-    rw p.1 (tt)
-
-pub returns-in_err-replace-clause-unmoved : goal.returns-in_err-replace-clause-unmoved
-returns-in_err-replace-clause-unmoved g c =
-    let p = err_from_is_err_and c.from_residual.result c.from_residual.ensures.1 in
-    rw p.1 c.in_err-replace.ensures.mapping
-
-pub returns-in_err-replace-clause-touched : goal.returns-in_err-replace-clause-touched
-returns-in_err-replace-clause-touched g c =
-    let p = err_from_is_err_and c.from_residual.result c.from_residual.ensures.1 in
-    rw p.1 (λ _ _ _ _. tt)
-
-pub returns-in_err-replace-clause-programmed : goal.returns-in_err-replace-clause-programmed
-returns-in_err-replace-clause-programmed g c =
-    let p = err_from_is_err_and c.from_residual.result c.from_residual.ensures.1 in
-    rw p.1 (tt)
+pub returns : goal.returns
+returns g c =
+    let b = ram c.replace.new.self in
+    let old = (g.N.PageSource.view.flash c.args.self.now.nand).image in
+    let new = (g.N.PageSource.view.flash c.replace.new.self.nand).image in
+    record {
+      leaves =
+          let r = ram c.args.self.now in
+          let rec = c.args.found.now in
+          let row' = c.in_ok-replace.field-0 in
+          let body = c.args.self.now.page.body.items in
+          let m = c.mark.ensures in
+          let e = c.in_ok-replace.ensures in
+          let marked = marked_at c.args.flushing (key_of rec) c.key.result b _ c.key.ensures m.marked in
+          record {
+            acts = acts_on c.args.self.now c.replace.new.self c.mark.new.self row' _ m.safe (ap (λ r. r.fault) m.marked)
+                (ap (λ r. r.blocks) m.marked) (ap (λ r. r.next) m.marked) m.nand e.acts;
+            goes = goes_marked c.args.flushing c.key.result 0 r b _ m.marked e.goes;
+            only_programs = programs_on g.N.PageSource.view c.args.self.now.nand c.replace.new.self.nand _ m.nand e.only_programs;
+            keys = subst (KeepsKeys c.args.self.now.mapping) (sym (ap (λ r. r.mapping) m.marked)) (keys_set (key_of rec) row' _ _ e.mapping);
+            refreshes = λ on. refreshes_marked c.args.flushing (key_of rec) row' r b _ marked on c.requires.safe.memory c.requires.key e.goes.geometry e.pin e.mapping;
+            pinned = λ off. pin_marked c.args.flushing c.key.result 0 r b _ m.marked off ∙ e.pin;
+            pin = ap (λ r. r.pin.block) m.marked ∙ ap (λ p. p.block) e.pin;
+            unmoved = tt;
+            touched = λ honest w shut live.
+                let out = moved_out r b old new c.args.row row' rec body c.requires.safe.memory e.acts.safe.memory e.goes.geometry w live c.requires.key c.requires.row shut e.row
+                (e.truth honest (may_copy r old c.args.row rec body w c.requires.key live)) in
+                let follows = followed c.args.flushing (key_of rec) row' r b _ marked e.goes.geometry e.pin e.mapping in
+                rw m.nand (copied_touches c.args.flushing (key_of rec) c.args.row row' r _ old new
+                c.requires.safe.memory c.requires.key live.newest follows shut out.same.leaves out.gone (moves_one (key_of rec) row' _ _ follows.mapping));
+            programmed = last_marked rec.kind rec.number b _ _ _ (ap (λ r. r.next) m.marked) (ap page_in m.page) e.programmed;
+            truth = λ honest w shut live.
+                let out = moved_out r b old new c.args.row row' rec body c.requires.safe.memory e.acts.safe.memory e.goes.geometry w live c.requires.key c.requires.row shut e.row
+                (e.truth honest (may_copy r old c.args.row rec body w c.requires.key live)) in
+                rw m.nand (moved_marked c.args.flushing c.key.result row' r b _ m.marked c.args.row old new out);
+            stops = λ honest w live ne. rw m.nand (e.stops honest (may_copy r old c.args.row rec body w c.requires.key live) (ok_not_bus _));
+            cut = λ _ _ _ e. absurd (ok_not_bus _ e);
+          };
+      cost = cost_marked c.args.flushing (key_of c.args.found.now) c.in_ok-replace.field-0 (ram c.args.self.now) (ram c.replace.new.self)
+          _ (marked_at c.args.flushing (key_of c.args.found.now) c.key.result (ram c.replace.new.self) _ c.key.ensures c.mark.ensures.marked)
+          (stream_of c.args.found.now.kind) c.requires.safe.memory c.requires.key c.in_ok-replace.ensures.cost c.replace.ensures.goes.geometry
+          c.replace.ensures.pin c.in_ok-replace.ensures.mapping;
+      settled = (c.in_ok-replace.field-0, subst (SetsMapping (key_of c.args.found.now) c.in_ok-replace.field-0 c.args.self.now.mapping) (sym (ap (λ r. r.mapping) c.mark.ensures.marked)) c.in_ok-replace.ensures.mapping);
+      renews = λ honest w live.
+          let r = ram c.args.self.now in
+          let replaced = c.in_ok-replace.ensures.truth honest (may_copy r _ c.args.row c.args.found.now _ w c.requires.key live) in
+          let renewed = renewed_by r b old new c.args.row c.in_ok-replace.field-0 c.args.found.now c.args.self.now.page.body.items live c.in_ok-replace.ensures.row replaced in
+          rw c.mark.ensures.nand (renewed_marked c.args.flushing c.key.result c.in_ok-replace.field-0 r b _ c.mark.ensures.marked (key_of c.args.found.now) old new renewed);
+    }

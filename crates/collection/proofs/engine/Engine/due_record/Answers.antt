@@ -9,55 +9,43 @@ use Rattle.collection.proofs.Finds.{at_none}
 use Rattle.collection.proofs.Exits.{none_not_some}
 use Rattle.collection.proofs.engine.Engine.due_record.Goals as goal
 
-pub returns-then-is_due-clause-truth : goal.returns-then-is_due-clause-truth
-returns-then-is_due-clause-truth g c = λ honest w.
-    let image = (g.N.PageSource.view.flash c.args.self.now.nand).image in
-    let page = c.live_record.new.self.page in
-    let live = subst (LooksAt c.args.row page.body.items image) c.in-Some.is (c.in_ok-live.ensures.truth honest w) in
-    due_page image c.args.row (page_in page) c.in-Some.found page.body.items (c.in_ok-live.ensures.stands honest) live (sym c.is_due.ensures ∙ c.if-is_due.true)
+pub returns-then-is_due : goal.returns-then-is_due
+returns-then-is_due g c = record {
+  looks = looks_ok _ _ _ _ c.in_ok-live.ensures.looks;
+  checked = λ x is. c.in_ok-live.ensures.checked x (c.in-Some.is ∙ is);
+  truth = λ honest w.
+      let image = (g.N.PageSource.view.flash c.args.self.now.nand).image in
+      let page = c.live_record.new.self.page in
+      let live = subst (LooksAt c.args.row page.body.items image) c.in-Some.is (c.in_ok-live.ensures.truth honest w) in
+      due_page image c.args.row (page_in page) c.in-Some.found page.body.items (c.in_ok-live.ensures.stands honest) live (sym c.is_due.ensures ∙ c.if-is_due.true);
+}
 
-pub returns-else-is_due-clause-truth : goal.returns-else-is_due-clause-truth
-returns-else-is_due-clause-truth g c = λ honest w.
-    let image = (g.N.PageSource.view.flash c.args.self.now.nand).image in
-    let page = c.live_record.new.self.page in
-    let live = subst (LooksAt c.args.row page.body.items image) c.in-Some.is (c.in_ok-live.ensures.truth honest w) in
-    no_due_page image c.args.row (page_in page) c.in-Some.found page.body.items (c.in_ok-live.ensures.stands honest) live (sym c.is_due.ensures ∙ c.if-is_due.false)
+pub returns-else-is_due : goal.returns-else-is_due
+returns-else-is_due g c = record {
+  looks = looks_ok _ _ _ _ c.in_ok-live.ensures.looks;
+  checked = λ _ is. absurd (none_not_some _ is);
+  truth = λ honest w.
+      let image = (g.N.PageSource.view.flash c.args.self.now.nand).image in
+      let page = c.live_record.new.self.page in
+      let live = subst (LooksAt c.args.row page.body.items image) c.in-Some.is (c.in_ok-live.ensures.truth honest w) in
+      no_due_page image c.args.row (page_in page) c.in-Some.found page.body.items (c.in_ok-live.ensures.stands honest) live (sym c.is_due.ensures ∙ c.if-is_due.false);
+}
 
-pub returns-in_err-live-clause-looks : goal.returns-in_err-live-clause-looks
-returns-in_err-live-clause-looks g c =
+pub returns-in_err-live : goal.returns-in_err-live
+returns-in_err-live g c =
     let p = err_from_is_err_and c.from_residual.result c.from_residual.ensures.1 in
-    rw (p.1, p.2) (c.in_err-live.ensures.looks)
+    rw (p.1, p.2) (record {
+      looks = c.in_err-live.ensures.looks;
+      checked = tt;
+      truth = c.in_err-live.ensures.truth;
+    })
 
-pub returns-in_err-live-clause-checked : goal.returns-in_err-live-clause-checked
-returns-in_err-live-clause-checked g c =
-    let p = err_from_is_err_and c.from_residual.result c.from_residual.ensures.1 in
-    rw p.1 tt
-
-pub returns-in_err-live-clause-truth : goal.returns-in_err-live-clause-truth
-returns-in_err-live-clause-truth g c =
-    let p = err_from_is_err_and c.from_residual.result c.from_residual.ensures.1 in
-    rw (p.1, p.2) (c.in_err-live.ensures.truth)
-
-pub returns-in_default-clause-looks : goal.returns-in_default-clause-looks
-returns-in_default-clause-looks g c = looks_ok _ _ _ _ c.in_ok-live.ensures.looks
-
-pub returns-in_default-clause-checked : goal.returns-in_default-clause-checked
-returns-in_default-clause-checked g c = λ _ is. absurd (none_not_some _ is)
-
-pub returns-in_default-clause-truth : goal.returns-in_default-clause-truth
-returns-in_default-clause-truth g c = λ honest w. none_at _ c.args.row (at_none c.args.row _ _ c.in_ok-live.live (c.in_ok-live.ensures.truth honest w) (none_from c.in_ok-live.live c.in_default.not-Some))
-
-pub returns-then-is_due-clause-looks : goal.returns-then-is_due-clause-looks
-returns-then-is_due-clause-looks g c = looks_ok _ _ _ _ c.in_ok-live.ensures.looks
-
-pub returns-then-is_due-clause-checked : goal.returns-then-is_due-clause-checked
-returns-then-is_due-clause-checked g c = λ x is. c.in_ok-live.ensures.checked x (c.in-Some.is ∙ is)
-
-pub returns-else-is_due-clause-looks : goal.returns-else-is_due-clause-looks
-returns-else-is_due-clause-looks g c = looks_ok _ _ _ _ c.in_ok-live.ensures.looks
-
-pub returns-else-is_due-clause-checked : goal.returns-else-is_due-clause-checked
-returns-else-is_due-clause-checked g c = λ _ is. absurd (none_not_some _ is)
+pub returns-in_default : goal.returns-in_default
+returns-in_default g c = record {
+  looks = looks_ok _ _ _ _ c.in_ok-live.ensures.looks;
+  checked = λ _ is. absurd (none_not_some _ is);
+  truth = λ honest w. none_at _ c.args.row (at_none c.args.row _ _ c.in_ok-live.live (c.in_ok-live.ensures.truth honest w) (none_from c.in_ok-live.live c.in_default.not-Some));
+}
 
 pub live_record-requires-clause-safe : goal.live_record-requires-clause-safe
 live_record-requires-clause-safe g c = c.requires.safe

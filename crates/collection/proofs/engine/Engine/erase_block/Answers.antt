@@ -1,16 +1,13 @@
-use Rattle.std.proofs.Common.{◌∙◌, [], ◌∷◌, length, true, false, ap, refl, subst}
-use Rattle.std.proofs.lemmas.List.{length-replicate}
+use Rattle.std.proofs.Common.{◌∙◌, [], ◌∷◌, true, false, refl}
 use Rattle.page_layout.specs.Flash.{Erase, Steps, block_at}
 use Rattle.page_layout.specs.Recording.{Records}
-use Rattle.page_layout.specs.Page.{IsImage}
 use Rattle.page_layout.proofs.AskedLemmas.{asks_one}
 use Rattle.onfi_cycles.specs.declared.nand.Outcome.TheVariants.{Passed, Failed}
 use Rattle.onfi_cycles.specs.Outcomes.{is_passed}
 use Rattle.allocation.specs.View.{state}
 use Rattle.collection.specs.Safe.{ram}
-use Rattle.collection.proofs.Looks.{ok_not_bus}
 use Rattle.collection.proofs.Programs.{at_outcome}
-use Rattle.collection.proofs.Erases.{ended_by, cleared_ram, cleared_goes, released, went_erase, ended_kept, closed_good}
+use Rattle.collection.proofs.Erases.{erase_acts, erase_goes, erase_released, erase_holds, closed_good}
 use Rattle.collection.proofs.Stops.{erase_stops}
 use Rattle.collection.proofs.Cuts.{erase_cut}
 use Rattle.collection.proofs.engine.Engine.erase_block.Goals as goal
@@ -21,160 +18,74 @@ retire-requires-clause-good g c = closed_good (state c.args.self.now.blocks) c.a
 -- ---- it passed
 
 pub returns-in-Ok-Passed-clause-acts : goal.returns-in-Ok-Passed-clause-acts
-returns-in-Ok-Passed-clause-acts g c = record {
-  safe = record {
-    memory = cleared_ram c.args.block (ram c.args.self.now) _ c.requires.safe.memory
-        (record {
-          geometry = refl;
-          directory = refl;
-          mapping = refl;
-          next = refl;
-          block = refl;
-          marks = ap length c.clear_marks.ensures
-              ∙ length-replicate (length c.args.self.now.marks.items) false;
-        })
-        (ended_by true (ram c.args.self.now) c.args.block _ c.requires.safe.memory c.requires.block c.requires.closed c.freed.ensures.is).made;
-    geometry = c.erase.ensures.geometry ∙ c.requires.safe.geometry;
-    page = c.requires.safe.page;
-    scratch = c.requires.safe.scratch;
-  };
-  fault = refl;
-  honest_is = c.erase.ensures.honest;
-  calm_is = c.erase.ensures.calm;
-  asked = asks_one g.N.PageSource.view.called c.args.self.now.nand c.erase.new.self _ c.erase.ensures.called;
-  failed_is = c.erase.ensures.failed;
-  rose = λ e. absurd (ok_not_bus _ e);
-  went = λ honest _.
-      let before = g.N.PageSource.view.flash c.args.self.now.nand in
-      let after = g.N.PageSource.view.flash c.erase.new.self in
-      let step = at_outcome (λ o. Steps before (Erase c.args.block (is_passed o) (block_at after c.args.block)) after) c.in-Ok-Passed.field-0 Passed (c.in-Ok-Passed.ensures.step honest) c.in-Ok-Passed.field-0-is in
-      let records = at_outcome
-      (λ o. Records (g.N.PageSource.view.recorded c.args.self.now.nand) (Erase c.args.block (is_passed o) (block_at after c.args.block) ∷ [])
-      (g.N.PageSource.view.recorded c.erase.new.self)) c.in-Ok-Passed.field-0 Passed (c.in-Ok-Passed.ensures.recorded honest)
-      c.in-Ok-Passed.field-0-is in
-      went_erase (ram c.args.self.now) _ before after _ _ c.args.block true (block_at after c.args.block) step records (ended_by true (ram c.args.self.now) c.args.block _ c.requires.safe.memory c.requires.block c.requires.closed c.freed.ensures.is) refl;
-}
+returns-in-Ok-Passed-clause-acts g c =
+    let before = g.N.PageSource.view.flash c.args.self.now.nand in
+    let after = g.N.PageSource.view.flash c.erase.new.self in
+    let o = c.in-Ok-Passed.field-0 in
+    erase_acts g.N.PageSource.view true c.args.block c.args.self.now c.erase.new.self c.freed.new.self c.clear_marks.new.marks
+    c.requires.safe c.requires.block c.requires.closed c.freed.ensures.is c.clear_marks.ensures c.erase.ensures.geometry
+    c.erase.ensures.honest c.erase.ensures.calm (asks_one g.N.PageSource.view.called c.args.self.now.nand c.erase.new.self _ c.erase.ensures.called) c.erase.ensures.failed
+    (λ honest. at_outcome (λ z. Steps before (Erase c.args.block (is_passed z) (block_at after c.args.block)) after) o Passed (c.in-Ok-Passed.ensures.step honest) c.in-Ok-Passed.field-0-is)
+    (λ honest. at_outcome (λ z. Records (g.N.PageSource.view.recorded c.args.self.now.nand) (Erase c.args.block (is_passed z) (block_at after c.args.block) ∷ []) (g.N.PageSource.view.recorded c.erase.new.self)) o Passed (c.in-Ok-Passed.ensures.recorded honest) c.in-Ok-Passed.field-0-is)
 
 pub returns-in-Ok-Passed-clause-goes : goal.returns-in-Ok-Passed-clause-goes
 returns-in-Ok-Passed-clause-goes g c =
-    (cleared_goes c.args.block (ram c.args.self.now) _
-    (record {
-      geometry = refl;
-      directory = refl;
-      mapping = refl;
-      next = refl;
-      block = refl;
-      marks = ap length c.clear_marks.ensures
-          ∙ length-replicate (length c.args.self.now.marks.items) false;
-    })
-    (ended_by true (ram c.args.self.now) c.args.block _ c.requires.safe.memory c.requires.block c.requires.closed c.freed.ensures.is).made)
+    erase_goes g.N.PageSource.view true c.args.block c.args.self.now c.erase.new.self c.freed.new.self c.clear_marks.new.marks
+    c.requires.safe c.requires.block c.requires.closed c.freed.ensures.is c.clear_marks.ensures c.erase.ensures.geometry
 
 pub returns-in-Ok-Passed-clause-released : goal.returns-in-Ok-Passed-clause-released
-returns-in-Ok-Passed-clause-released g c = released true c.args.block _ _ (ended_by true (ram c.args.self.now) c.args.block _ c.requires.safe.memory c.requires.block c.requires.closed c.freed.ensures.is)
+returns-in-Ok-Passed-clause-released g c =
+    erase_released g.N.PageSource.view true c.args.block c.args.self.now c.erase.new.self c.freed.new.self c.clear_marks.new.marks
+    c.requires.safe c.requires.block c.requires.closed c.freed.ensures.is c.clear_marks.ensures c.erase.ensures.geometry
 
 pub returns-in-Ok-Passed-clause-truth : goal.returns-in-Ok-Passed-clause-truth
 returns-in-Ok-Passed-clause-truth g c = λ honest w none.
-    let before = g.N.PageSource.view.flash c.args.self.now.nand in
     let after = g.N.PageSource.view.flash c.erase.new.self in
-    let step = at_outcome (λ o. Steps before (Erase c.args.block (is_passed o) (block_at after c.args.block)) after) c.in-Ok-Passed.field-0 Passed (c.in-Ok-Passed.ensures.step honest) c.in-Ok-Passed.field-0-is in
-    let whole : IsImage c.args.self.now.geometry after.image = subst (λ x. IsImage x after.image) (c.erase.ensures.geometry ∙ c.requires.safe.geometry) (c.in-Ok-Passed.ensures.whole honest).image_whole in
-    (ended_kept (ram c.args.self.now) _ before after c.args.block true (block_at after c.args.block) c.requires.safe.memory w c.requires.safe.geometry
-    none step whole
-    (record {
-      geometry = refl;
-      directory = refl;
-      mapping = refl;
-      next = refl;
-      block = refl;
-      marks = ap length c.clear_marks.ensures
-          ∙ length-replicate (length c.args.self.now.marks.items) false;
-    })
-    (ended_by true (ram c.args.self.now) c.args.block _ c.requires.safe.memory c.requires.block c.requires.closed c.freed.ensures.is))
-
--- ---- it failed
-
-pub returns-in-Ok-Failed-clause-acts : goal.returns-in-Ok-Failed-clause-acts
-returns-in-Ok-Failed-clause-acts g c = record {
-  safe = record {
-    memory = cleared_ram c.args.block (ram c.args.self.now) _ c.requires.safe.memory
-        (record {
-          geometry = refl;
-          directory = refl;
-          mapping = refl;
-          next = refl;
-          block = refl;
-          marks = ap length c.clear_marks-in-Ok-Failed.ensures
-              ∙ length-replicate (length c.args.self.now.marks.items) false;
-        })
-        (ended_by false (ram c.args.self.now) c.args.block _ c.requires.safe.memory c.requires.block c.requires.closed c.retire.ensures.is).made;
-    geometry = c.erase.ensures.geometry ∙ c.requires.safe.geometry;
-    page = c.requires.safe.page;
-    scratch = c.requires.safe.scratch;
-  };
-  fault = refl;
-  honest_is = c.erase.ensures.honest;
-  calm_is = c.erase.ensures.calm;
-  asked = asks_one g.N.PageSource.view.called c.args.self.now.nand c.erase.new.self _ c.erase.ensures.called;
-  failed_is = c.erase.ensures.failed;
-  rose = λ e. absurd (ok_not_bus _ e);
-  went = λ honest _.
-      let before = g.N.PageSource.view.flash c.args.self.now.nand in
-      let after = g.N.PageSource.view.flash c.erase.new.self in
-      let step = at_outcome (λ o. Steps before (Erase c.args.block (is_passed o) (block_at after c.args.block)) after) c.in-Ok-Failed.field-0 Failed (c.in-Ok-Failed.ensures.step honest) c.in-Ok-Failed.field-0-is in
-      let records = at_outcome
-      (λ o. Records (g.N.PageSource.view.recorded c.args.self.now.nand) (Erase c.args.block (is_passed o) (block_at after c.args.block) ∷ [])
-      (g.N.PageSource.view.recorded c.erase.new.self)) c.in-Ok-Failed.field-0 Failed (c.in-Ok-Failed.ensures.recorded honest)
-      c.in-Ok-Failed.field-0-is in
-      went_erase (ram c.args.self.now) _ before after _ _ c.args.block false (block_at after c.args.block) step records (ended_by false (ram c.args.self.now) c.args.block _ c.requires.safe.memory c.requires.block c.requires.closed c.retire.ensures.is) refl;
-}
-
-pub returns-in-Ok-Failed-clause-goes : goal.returns-in-Ok-Failed-clause-goes
-returns-in-Ok-Failed-clause-goes g c =
-    (cleared_goes c.args.block (ram c.args.self.now) _
-    (record {
-      geometry = refl;
-      directory = refl;
-      mapping = refl;
-      next = refl;
-      block = refl;
-      marks = ap length c.clear_marks-in-Ok-Failed.ensures
-          ∙ length-replicate (length c.args.self.now.marks.items) false;
-    })
-    (ended_by false (ram c.args.self.now) c.args.block _ c.requires.safe.memory c.requires.block c.requires.closed c.retire.ensures.is).made)
-
-pub returns-in-Ok-Failed-clause-released : goal.returns-in-Ok-Failed-clause-released
-returns-in-Ok-Failed-clause-released g c = released false c.args.block _ _ (ended_by false (ram c.args.self.now) c.args.block _ c.requires.safe.memory c.requires.block c.requires.closed c.retire.ensures.is)
-
-pub returns-in-Ok-Failed-clause-truth : goal.returns-in-Ok-Failed-clause-truth
-returns-in-Ok-Failed-clause-truth g c = λ honest w none.
-    let before = g.N.PageSource.view.flash c.args.self.now.nand in
-    let after = g.N.PageSource.view.flash c.erase.new.self in
-    let step = at_outcome (λ o. Steps before (Erase c.args.block (is_passed o) (block_at after c.args.block)) after) c.in-Ok-Failed.field-0 Failed (c.in-Ok-Failed.ensures.step honest) c.in-Ok-Failed.field-0-is in
-    let whole : IsImage c.args.self.now.geometry after.image = subst (λ x. IsImage x after.image) (c.erase.ensures.geometry ∙ c.requires.safe.geometry) (c.in-Ok-Failed.ensures.whole honest).image_whole in
-    (ended_kept (ram c.args.self.now) _ before after c.args.block false (block_at after c.args.block) c.requires.safe.memory w
-    c.requires.safe.geometry none step whole
-    (record {
-      geometry = refl;
-      directory = refl;
-      mapping = refl;
-      next = refl;
-      block = refl;
-      marks = ap length c.clear_marks-in-Ok-Failed.ensures
-          ∙ length-replicate (length c.args.self.now.marks.items) false;
-    })
-    (ended_by false (ram c.args.self.now) c.args.block _ c.requires.safe.memory c.requires.block c.requires.closed c.retire.ensures.is))
-
--- ---- what a stop leaves
+    let step = at_outcome (λ z. Steps (g.N.PageSource.view.flash c.args.self.now.nand) (Erase c.args.block (is_passed z) (block_at after c.args.block)) after) c.in-Ok-Passed.field-0 Passed (c.in-Ok-Passed.ensures.step honest) c.in-Ok-Passed.field-0-is in
+    erase_holds g.N.PageSource.view true c.args.block c.args.self.now c.erase.new.self c.freed.new.self c.clear_marks.new.marks
+    c.requires.safe c.requires.block c.requires.closed c.freed.ensures.is c.clear_marks.ensures c.erase.ensures.geometry step (c.in-Ok-Passed.ensures.whole honest) w none
 
 pub returns-in-Ok-Passed-clause-stops : goal.returns-in-Ok-Passed-clause-stops
 returns-in-Ok-Passed-clause-stops g c = λ honest w none ne. erase_stops (ram c.args.self.now) _ c.args.block _ _ _ _ _ _ c.requires.safe.geometry
     c.requires.safe.memory w none (c.in-Ok-Passed.ensures.step honest) (c.in-Ok-Passed.ensures.recorded honest)
     (returns-in-Ok-Passed-clause-truth g c honest w none)
 
+-- ---- it failed
+
+pub returns-in-Ok-Failed-clause-acts : goal.returns-in-Ok-Failed-clause-acts
+returns-in-Ok-Failed-clause-acts g c =
+    let before = g.N.PageSource.view.flash c.args.self.now.nand in
+    let after = g.N.PageSource.view.flash c.erase.new.self in
+    let o = c.in-Ok-Failed.field-0 in
+    erase_acts g.N.PageSource.view false c.args.block c.args.self.now c.erase.new.self c.retire.new.self c.clear_marks-in-Ok-Failed.new.marks
+    c.requires.safe c.requires.block c.requires.closed c.retire.ensures.is c.clear_marks-in-Ok-Failed.ensures c.erase.ensures.geometry
+    c.erase.ensures.honest c.erase.ensures.calm (asks_one g.N.PageSource.view.called c.args.self.now.nand c.erase.new.self _ c.erase.ensures.called) c.erase.ensures.failed
+    (λ honest. at_outcome (λ z. Steps before (Erase c.args.block (is_passed z) (block_at after c.args.block)) after) o Failed (c.in-Ok-Failed.ensures.step honest) c.in-Ok-Failed.field-0-is)
+    (λ honest. at_outcome (λ z. Records (g.N.PageSource.view.recorded c.args.self.now.nand) (Erase c.args.block (is_passed z) (block_at after c.args.block) ∷ []) (g.N.PageSource.view.recorded c.erase.new.self)) o Failed (c.in-Ok-Failed.ensures.recorded honest) c.in-Ok-Failed.field-0-is)
+
+pub returns-in-Ok-Failed-clause-goes : goal.returns-in-Ok-Failed-clause-goes
+returns-in-Ok-Failed-clause-goes g c =
+    erase_goes g.N.PageSource.view false c.args.block c.args.self.now c.erase.new.self c.retire.new.self c.clear_marks-in-Ok-Failed.new.marks
+    c.requires.safe c.requires.block c.requires.closed c.retire.ensures.is c.clear_marks-in-Ok-Failed.ensures c.erase.ensures.geometry
+
+pub returns-in-Ok-Failed-clause-released : goal.returns-in-Ok-Failed-clause-released
+returns-in-Ok-Failed-clause-released g c =
+    erase_released g.N.PageSource.view false c.args.block c.args.self.now c.erase.new.self c.retire.new.self c.clear_marks-in-Ok-Failed.new.marks
+    c.requires.safe c.requires.block c.requires.closed c.retire.ensures.is c.clear_marks-in-Ok-Failed.ensures c.erase.ensures.geometry
+
+pub returns-in-Ok-Failed-clause-truth : goal.returns-in-Ok-Failed-clause-truth
+returns-in-Ok-Failed-clause-truth g c = λ honest w none.
+    let after = g.N.PageSource.view.flash c.erase.new.self in
+    let step = at_outcome (λ z. Steps (g.N.PageSource.view.flash c.args.self.now.nand) (Erase c.args.block (is_passed z) (block_at after c.args.block)) after) c.in-Ok-Failed.field-0 Failed (c.in-Ok-Failed.ensures.step honest) c.in-Ok-Failed.field-0-is in
+    erase_holds g.N.PageSource.view false c.args.block c.args.self.now c.erase.new.self c.retire.new.self c.clear_marks-in-Ok-Failed.new.marks
+    c.requires.safe c.requires.block c.requires.closed c.retire.ensures.is c.clear_marks-in-Ok-Failed.ensures c.erase.ensures.geometry step (c.in-Ok-Failed.ensures.whole honest) w none
+
 pub returns-in-Ok-Failed-clause-stops : goal.returns-in-Ok-Failed-clause-stops
 returns-in-Ok-Failed-clause-stops g c = λ honest w none ne. erase_stops (ram c.args.self.now) _ c.args.block _ _ _ _ _ _ c.requires.safe.geometry
     c.requires.safe.memory w none (c.in-Ok-Failed.ensures.step honest) (c.in-Ok-Failed.ensures.recorded honest)
     (returns-in-Ok-Failed-clause-truth g c honest w none)
+
+-- ---- the die gave a fault
 
 pub returns-in-Err-clause-stops : goal.returns-in-Err-clause-stops
 returns-in-Err-clause-stops g c = λ honest w none ne. absurd (ne refl)

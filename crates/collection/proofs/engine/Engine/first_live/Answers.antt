@@ -30,77 +30,45 @@ candidates-preserved g c =
           none_further old now _ _ c.args.block c.args.first c.candidates.page c.row-row.result _ _ i.looks.memory still c.row-row.ensures.is (i.truth honest w) looked c.in-None.is;
     }
 
-pub returns-in_err-live-clause-looks : goal.returns-in_err-live-clause-looks
-returns-in_err-live-clause-looks g c =
+pub returns-in_err-live : goal.returns-in_err-live
+returns-in_err-live g c =
     let p = err_from_is_err_and c.from_residual.result c.from_residual.ensures.1 in
-    rw (p.1, p.2) (looks_then _ _ _ tt _ c.candidates.invariant.looks (looks_err _ _ _ c.in_err-live.ensures.looks))
+    rw (p.1, p.2) (record {
+      looks = looks_then _ _ _ tt _ c.candidates.invariant.looks (looks_err _ _ _ c.in_err-live.ensures.looks);
+      reads = reads_found _ _ _ _ c.candidates.auto.page c.pages-page-end.ensures c.candidates-test.true _ _ _ c.candidates.invariant.reads c.live_record.ensures.reads;
+      found_reads = tt;
+      within = tt;
+      checked = tt;
+      truth = λ honest w.
+          let i = c.candidates.invariant in
+          let still = ap (λ f. f.image) (i.looks.same honest (ok_not_bus _)) in
+          c.in_err-live.ensures.truth (i.looks.only_reads.honest_is ∙ honest) (true_over (ram c.args.self.now) (ram c.candidates.self) _ _ w i.looks.memory still);
+    })
 
-pub returns-in-Some-clause-looks : goal.returns-in-Some-clause-looks
-returns-in-Some-clause-looks g c = looks_then _ _ _ tt _ c.candidates.invariant.looks (looks_ok _ _ _ _ c.in_ok-live.ensures.looks)
+pub returns-in-Some : goal.returns-in-Some
+returns-in-Some g c = record {
+  looks = looks_then _ _ _ tt _ c.candidates.invariant.looks (looks_ok _ _ _ _ c.in_ok-live.ensures.looks);
+  reads = reads_found _ _ _ _ c.candidates.auto.page c.pages-page-end.ensures c.candidates-test.true _ _ _ c.candidates.invariant.reads c.live_record.ensures.reads;
+  found_reads = found_reads _ _ _ _ c.candidates.auto.page c.pages-page-end.ensures c.candidates-test.true _ _ _ _ c.candidates.invariant.reads c.live_record.ensures.reads;
+  within = within_found _ _ _ _ c.candidates.auto.page c.pages-page-end.ensures c.candidates-test.true _;
+  checked = found_in (ram c.args.self.now) (ram c.candidates.self) _ _ c.args.block c.candidates.page c.row-row.result c.in-Some.found
+      c.candidates.invariant.looks.memory c.row-row.ensures.is (c.in_ok-live.ensures.checked _ c.in-Some.is);
+  truth = λ honest w.
+      let i = c.candidates.invariant in
+      let still = ap (λ f. f.image) (i.looks.same honest (ok_not_bus _)) in
+      let looked = c.in_ok-live.ensures.truth (i.looks.only_reads.honest_is ∙ honest) (true_over (ram c.args.self.now) (ram c.candidates.self) _ _ w i.looks.memory still) in
+      first_live_by (ram c.args.self.now) (ram c.candidates.self) _ _ c.args.block c.args.first c.candidates.page c.row-row.result c.in-Some.found _ _ i.looks.memory still c.row-row.ensures.is (i.truth honest w) looked c.in-Some.is;
+}
 
-pub returns-clause-looks : goal.returns-clause-looks
-returns-clause-looks g c = looks_ok _ _ tt _ c.candidates.invariant.looks
-
-pub returns-clause-reads : goal.returns-clause-reads
-returns-clause-reads g c = reads_all _ _ _ _ _ c.candidates.invariant.reads
-
-pub returns-clause-found_reads : goal.returns-clause-found_reads
-returns-clause-found_reads g c = λ _ is. absurd (none_not_some _ is)
-
-pub returns-clause-within : goal.returns-clause-within
-returns-clause-within g c = λ _ is. absurd (none_not_some _ is)
-
-pub returns-clause-checked : goal.returns-clause-checked
-returns-clause-checked g c = λ _ is. absurd (none_not_some _ is)
-
-pub returns-clause-truth : goal.returns-clause-truth
-returns-clause-truth g c = λ honest w. none_to _ _ _ _ _ _ c.pages-page-end.ensures c.candidates-test.false (c.candidates.invariant.truth honest w)
-
-pub returns-in-Some-clause-reads : goal.returns-in-Some-clause-reads
-returns-in-Some-clause-reads g c = reads_found _ _ _ _ c.candidates.auto.page c.pages-page-end.ensures c.candidates-test.true _ _ _ c.candidates.invariant.reads c.live_record.ensures.reads
-
-pub returns-in-Some-clause-found_reads : goal.returns-in-Some-clause-found_reads
-returns-in-Some-clause-found_reads g c = found_reads _ _ _ _ c.candidates.auto.page c.pages-page-end.ensures c.candidates-test.true _ _ _ _ c.candidates.invariant.reads c.live_record.ensures.reads
-
-pub returns-in-Some-clause-within : goal.returns-in-Some-clause-within
-returns-in-Some-clause-within g c = within_found _ _ _ _ c.candidates.auto.page c.pages-page-end.ensures c.candidates-test.true _
-
-pub returns-in-Some-clause-truth : goal.returns-in-Some-clause-truth
-returns-in-Some-clause-truth g c = λ honest w.
-    let i = c.candidates.invariant in
-    let still = ap (λ f. f.image) (i.looks.same honest (ok_not_bus _)) in
-    let looked = c.in_ok-live.ensures.truth (i.looks.only_reads.honest_is ∙ honest) (true_over (ram c.args.self.now) (ram c.candidates.self) _ _ w i.looks.memory still) in
-    first_live_by (ram c.args.self.now) (ram c.candidates.self) _ _ c.args.block c.args.first c.candidates.page c.row-row.result c.in-Some.found _ _ i.looks.memory still c.row-row.ensures.is (i.truth honest w) looked c.in-Some.is
-
-pub returns-in_err-live-clause-reads : goal.returns-in_err-live-clause-reads
-returns-in_err-live-clause-reads g c = reads_found _ _ _ _ c.candidates.auto.page c.pages-page-end.ensures c.candidates-test.true _ _ _ c.candidates.invariant.reads c.live_record.ensures.reads
-
-pub returns-in_err-live-clause-found_reads : goal.returns-in_err-live-clause-found_reads
-returns-in_err-live-clause-found_reads g c =
-    let p = err_from_is_err_and c.from_residual.result c.from_residual.ensures.1 in
-    rw p.1 (tt)
-
-pub returns-in_err-live-clause-within : goal.returns-in_err-live-clause-within
-returns-in_err-live-clause-within g c =
-    let p = err_from_is_err_and c.from_residual.result c.from_residual.ensures.1 in
-    rw p.1 (tt)
-
-pub returns-in_err-live-clause-checked : goal.returns-in_err-live-clause-checked
-returns-in_err-live-clause-checked g c =
-    let p = err_from_is_err_and c.from_residual.result c.from_residual.ensures.1 in
-    rw p.1 (tt)
-
-pub returns-in_err-live-clause-truth : goal.returns-in_err-live-clause-truth
-returns-in_err-live-clause-truth g c =
-    let p = err_from_is_err_and c.from_residual.result c.from_residual.ensures.1 in
-    rw (p.1, p.2) (λ honest w.
-    let i = c.candidates.invariant in
-    let still = ap (λ f. f.image) (i.looks.same honest (ok_not_bus _)) in
-    c.in_err-live.ensures.truth (i.looks.only_reads.honest_is ∙ honest) (true_over (ram c.args.self.now) (ram c.candidates.self) _ _ w i.looks.memory still))
-
-pub returns-in-Some-clause-checked : goal.returns-in-Some-clause-checked
-returns-in-Some-clause-checked g c = found_in (ram c.args.self.now) (ram c.candidates.self) _ _ c.args.block c.candidates.page c.row-row.result c.in-Some.found
-    c.candidates.invariant.looks.memory c.row-row.ensures.is (c.in_ok-live.ensures.checked _ c.in-Some.is)
+pub returns : goal.returns
+returns g c = record {
+  looks = looks_ok _ _ tt _ c.candidates.invariant.looks;
+  reads = reads_all _ _ _ _ _ c.candidates.invariant.reads;
+  found_reads = λ _ is. absurd (none_not_some _ is);
+  within = λ _ is. absurd (none_not_some _ is);
+  checked = λ _ is. absurd (none_not_some _ is);
+  truth = λ honest w. none_to _ _ _ _ _ _ c.pages-page-end.ensures c.candidates-test.false (c.candidates.invariant.truth honest w);
+}
 
 pub live_record-requires-clause-safe : goal.live_record-requires-clause-safe
 live_record-requires-clause-safe g c = c.candidates.invariant.looks.safe

@@ -17,54 +17,57 @@ use Rattle.collection.proofs.Memory.{put_same}
 use Rattle.collection.proofs.Ends.{last_noted, may_put_copied, put_bytes}
 use Rattle.collection.proofs.engine.Engine.put.Goals as goal
 
-pub returns-clause-array : goal.returns-clause-array
-returns-clause-array g c = λ honest none w fits.
+pub returns : goal.returns
+returns g c =
     let a = ram c.args.self.now in
     let x = image_in g.N.PageSource.view.flash c.args.self.now in
-    let may = may_put_copied c.args.written.now.kind c.args.written.now.number _ c.key.result _ c.args.body.now a x w fits c.copy_from_slice.ensures.items c.key.ensures (c.row_of_key-old_row.ensures.newest x w) in
-    rw (c.noted.ensures.same, c.noted.ensures.noted)
-    (array_result c.args.written.now.kind c.args.written.now.number c.args.body.now a (ram c.put_page-answer.new.self) x
-    (image_in g.N.PageSource.view.flash c.put_page-answer.new.self) c.put_page-answer.result c.requires.key
-    (put_bytes c.args.written.now.kind c.args.written.now.number c.args.body.now _ a (ram c.put_page-answer.new.self) x
-    (image_in g.N.PageSource.view.flash c.put_page-answer.new.self) c.put_page-answer.result c.copy_from_slice.ensures.items (c.put_page-answer.ensures.truth honest may)))
-
-pub returns-clause-truth : goal.returns-clause-truth
-returns-clause-truth g c = λ honest none w fits.
-    let a = ram c.args.self.now in
-    let x = image_in g.N.PageSource.view.flash c.args.self.now in
-    let may = may_put_copied c.args.written.now.kind c.args.written.now.number _ c.key.result _ c.args.body.now a x w fits c.copy_from_slice.ensures.items c.key.ensures (c.row_of_key-old_row.ensures.newest x w) in
-    rw (c.noted.ensures.same, c.noted.ensures.noted)
-    (result_noted _ c.args.written.now.kind c.args.written.now.number c.args.body.now a (ram c.put_page-answer.new.self) x
-    (image_in g.N.PageSource.view.flash c.put_page-answer.new.self) c.put_page-answer.result
-    (put_bytes c.args.written.now.kind c.args.written.now.number c.args.body.now _ a (ram c.put_page-answer.new.self) x
-    (image_in g.N.PageSource.view.flash c.put_page-answer.new.self) c.put_page-answer.result c.copy_from_slice.ensures.items (c.put_page-answer.ensures.truth honest may)))
-
--- ---- what a stop leaves
-
-pub returns-clause-stops : goal.returns-clause-stops
-returns-clause-stops g c = λ honest none w fits.
-    let x = image_in g.N.PageSource.view.flash c.args.self.now in
-    let may = may_put_copied c.args.written.now.kind c.args.written.now.number _ c.key.result _ c.args.body.now (ram c.args.self.now) x w fits c.copy_from_slice.ensures.items c.key.ensures (c.row_of_key-old_row.ensures.newest x w) in
-    rw (c.noted.ensures.same, c.noted.ensures.noted) (λ ne. c.put_page-answer.ensures.stops honest may ne)
-
--- ---- what a fault of the die leaves
-
-pub returns-clause-cut : goal.returns-clause-cut
-returns-clause-cut g c = λ honest none w fits. rw (c.noted.ensures.same, c.noted.ensures.noted) (λ e.
-    let x = image_in g.N.PageSource.view.flash c.args.self.now in
-    let may = may_put_copied c.args.written.now.kind c.args.written.now.number _ c.key.result _ c.args.body.now (ram c.args.self.now) x w fits c.copy_from_slice.ensures.items c.key.ensures (c.row_of_key-old_row.ensures.newest x w) in
-    cut_bytes (λ bytes. IsKeptOrPut c.args.written.now.kind c.args.written.now.number bytes c.args.self.now.geometry x) _ _ _ _ _ c.copy_from_slice.ensures.items
-    (c.put_page-answer.ensures.cut honest may e))
+    rw (c.noted.ensures.same, c.noted.ensures.noted) (record {
+      stands = acts_noted _ _ _ (not_standing _ _ c.in_ok-standing.ensures) (acts_filled _ _ _ _ c.put_page-answer.ensures.acts);
+      goes = goes_put_noted _ _ _ c.put_page-answer.ensures.goes;
+      only_programs = c.put_page-answer.ensures.only_programs;
+      row = c.put_page-answer.ensures.row;
+      programmed = last_noted _ c.args.written.now.kind c.args.written.now.number (ram c.put_page-answer.new.self) _ c.put_page-answer.result c.put_page-answer.ensures.programmed;
+      cost = λ none.
+          let cost = subst (λ s. PutCosts s (ram c.args.self.now) (ram c.put_page-answer.new.self) c.put_page-answer.result) (sym c.requires.stream) c.put_page-answer.ensures.cost in
+          costs_noted _ c.args.stream (ram c.args.self.now) (ram c.put_page-answer.new.self) c.put_page-answer.result cost;
+      truth = λ honest none w fits.
+          let may = may_put_copied c.args.written.now.kind c.args.written.now.number _ c.key.result _ c.args.body.now a x w fits c.copy_from_slice.ensures.items c.key.ensures (c.row_of_key-old_row.ensures.newest x w) in
+          result_noted _ c.args.written.now.kind c.args.written.now.number c.args.body.now a (ram c.put_page-answer.new.self) x
+          (image_in g.N.PageSource.view.flash c.put_page-answer.new.self) c.put_page-answer.result
+          (put_bytes c.args.written.now.kind c.args.written.now.number c.args.body.now _ a (ram c.put_page-answer.new.self) x
+          (image_in g.N.PageSource.view.flash c.put_page-answer.new.self) c.put_page-answer.result c.copy_from_slice.ensures.items (c.put_page-answer.ensures.truth honest may));
+      array = λ honest none w fits.
+          let may = may_put_copied c.args.written.now.kind c.args.written.now.number _ c.key.result _ c.args.body.now a x w fits c.copy_from_slice.ensures.items c.key.ensures (c.row_of_key-old_row.ensures.newest x w) in
+          array_result c.args.written.now.kind c.args.written.now.number c.args.body.now a (ram c.put_page-answer.new.self) x
+          (image_in g.N.PageSource.view.flash c.put_page-answer.new.self) c.put_page-answer.result c.requires.key
+          (put_bytes c.args.written.now.kind c.args.written.now.number c.args.body.now _ a (ram c.put_page-answer.new.self) x
+          (image_in g.N.PageSource.view.flash c.put_page-answer.new.self) c.put_page-answer.result c.copy_from_slice.ensures.items (c.put_page-answer.ensures.truth honest may));
+      stops = λ honest none w fits.
+          let may = may_put_copied c.args.written.now.kind c.args.written.now.number _ c.key.result _ c.args.body.now (ram c.args.self.now) x w fits c.copy_from_slice.ensures.items c.key.ensures (c.row_of_key-old_row.ensures.newest x w) in
+          λ ne. c.put_page-answer.ensures.stops honest may ne;
+      cut = λ honest none w fits e.
+          let may = may_put_copied c.args.written.now.kind c.args.written.now.number _ c.key.result _ c.args.body.now (ram c.args.self.now) x w fits c.copy_from_slice.ensures.items c.key.ensures (c.row_of_key-old_row.ensures.newest x w) in
+          cut_bytes (λ bytes. IsKeptOrPut c.args.written.now.kind c.args.written.now.number bytes c.args.self.now.geometry x) _ _ _ _ _ c.copy_from_slice.ensures.items
+          (c.put_page-answer.ensures.cut honest may e);
+    })
 
 -- ---- a fault stands
 
-pub returns-in_err-standing-clause-stands : goal.returns-in_err-standing-clause-stands
-returns-in_err-standing-clause-stands g c =
+pub returns-in_err-standing : goal.returns-in_err-standing
+returns-in_err-standing g c =
     let p = err_from_is_err_and c.from_residual.result c.from_residual.ensures.1 in
-    rw (p.1, p.2) (stands_still _ _ c.requires.safe (is_standing _ _ c.in_err-standing.ensures))
-
-pub returns-clause-stands : goal.returns-clause-stands
-returns-clause-stands g c = rw (c.noted.ensures.same, c.noted.ensures.noted) (acts_noted _ _ _ (not_standing _ _ c.in_ok-standing.ensures) (acts_filled _ _ _ _ c.put_page-answer.ensures.acts))
+    rw (p.1, p.2) (record {
+      stands = stands_still _ _ c.requires.safe (is_standing _ _ c.in_err-standing.ensures);
+      goes = put_same _;
+      only_programs = record { reads_are = refl; erases_are = refl };
+      row = tt;
+      programmed = tt;
+      cost = λ none. absurd (standing_none _ _ c.in_err-standing.ensures none);
+      truth = λ _ none. absurd (standing_none _ _ c.in_err-standing.ensures none);
+      array = λ _ none. absurd (standing_none _ _ c.in_err-standing.ensures none);
+      stops = λ _ none. absurd (standing_none _ _ c.in_err-standing.ensures none);
+      cut = λ _ none. absurd (standing_none _ _ c.in_err-standing.ensures none);
+    })
 
 pub row_of_key-old_row-requires-clause-key : goal.row_of_key-old_row-requires-clause-key
 row_of_key-old_row-requires-clause-key g c = subst (IsKeyOf c.args.self.now.geometry) (sym c.key.ensures) c.requires.key
@@ -85,52 +88,3 @@ put_page-answer-requires-clause-key g c = c.requires.key
 
 pub put_page-answer-requires-clause-old_row : goal.put_page-answer-requires-clause-old_row
 put_page-answer-requires-clause-old_row g c = c.row_of_key-old_row.ensures.row
-
-pub returns-clause-goes : goal.returns-clause-goes
-returns-clause-goes g c = rw c.noted.ensures.noted (goes_put_noted _ _ _ c.put_page-answer.ensures.goes)
-
-pub returns-clause-only_programs : goal.returns-clause-only_programs
-returns-clause-only_programs g c = rw c.noted.ensures.noted c.put_page-answer.ensures.only_programs
-
-pub returns-clause-row : goal.returns-clause-row
-returns-clause-row g c = rw c.noted.ensures.same c.put_page-answer.ensures.row
-
-pub returns-clause-programmed : goal.returns-clause-programmed
-returns-clause-programmed g c = rw (c.noted.ensures.same, c.noted.ensures.noted)
-    (last_noted _ c.args.written.now.kind c.args.written.now.number (ram c.put_page-answer.new.self) _ c.put_page-answer.result c.put_page-answer.ensures.programmed)
-
-pub returns-clause-cost : goal.returns-clause-cost
-returns-clause-cost g c = λ none.
-    let cost = subst (λ s. PutCosts s (ram c.args.self.now) (ram c.put_page-answer.new.self) c.put_page-answer.result) (sym c.requires.stream) c.put_page-answer.ensures.cost in
-    rw (c.noted.ensures.same, c.noted.ensures.noted) (costs_noted _ c.args.stream (ram c.args.self.now) (ram c.put_page-answer.new.self) c.put_page-answer.result cost)
-
-pub returns-in_err-standing-clause-goes : goal.returns-in_err-standing-clause-goes
-returns-in_err-standing-clause-goes g c = put_same _
-
-pub returns-in_err-standing-clause-only_programs : goal.returns-in_err-standing-clause-only_programs
-returns-in_err-standing-clause-only_programs g c = record { reads_are = refl; erases_are = refl }
-
-pub returns-in_err-standing-clause-row : goal.returns-in_err-standing-clause-row
-returns-in_err-standing-clause-row g c =
-    let p = err_from_is_err_and c.from_residual.result c.from_residual.ensures.1 in
-    rw p.1 (tt)
-
-pub returns-in_err-standing-clause-programmed : goal.returns-in_err-standing-clause-programmed
-returns-in_err-standing-clause-programmed g c =
-    let p = err_from_is_err_and c.from_residual.result c.from_residual.ensures.1 in
-    rw p.1 (tt)
-
-pub returns-in_err-standing-clause-cost : goal.returns-in_err-standing-clause-cost
-returns-in_err-standing-clause-cost g c = λ none. absurd (standing_none _ _ c.in_err-standing.ensures none)
-
-pub returns-in_err-standing-clause-truth : goal.returns-in_err-standing-clause-truth
-returns-in_err-standing-clause-truth g c = λ _ none. absurd (standing_none _ _ c.in_err-standing.ensures none)
-
-pub returns-in_err-standing-clause-array : goal.returns-in_err-standing-clause-array
-returns-in_err-standing-clause-array g c = λ _ none. absurd (standing_none _ _ c.in_err-standing.ensures none)
-
-pub returns-in_err-standing-clause-stops : goal.returns-in_err-standing-clause-stops
-returns-in_err-standing-clause-stops g c = λ _ none. absurd (standing_none _ _ c.in_err-standing.ensures none)
-
-pub returns-in_err-standing-clause-cut : goal.returns-in_err-standing-clause-cut
-returns-in_err-standing-clause-cut g c = λ _ none. absurd (standing_none _ _ c.in_err-standing.ensures none)

@@ -17,7 +17,13 @@ use Rattle.page_layout.specs.Live.{IsKeyOf}
 use Rattle.page_layout.specs.Key.{key_from}
 use Rattle.collection.specs.declared.fault.EngineFault.TheVariants.{SequenceSpent}
 use Rattle.collection.proofs.Ends.{spent_apart, err_apart, below_top, some_holds}
+use Rattle.page_layout.specs.View.{View}
+use Rattle.collection.specs.Acts.{OnlyPrograms}
 use Rattle.collection.proofs.engine.Engine.put_page.Goals as goal
+
+-- one call after another that only programs
+programs_then : {N : Type 0} (view : View N) (a b c : N) → OnlyPrograms view a b → OnlyPrograms view b c → OnlyPrograms view a c
+programs_then view a b c p q = record { reads_are = q.reads_are ∙ p.reads_are; erases_are = q.erases_are ∙ p.erases_are }
 
 pub tries-init : goal.tries-init
 tries-init g c = record {
@@ -33,54 +39,63 @@ tries-init g c = record {
 
 -- ---- a try was refused
 
-pub returns-in_err-tried-clause-cost : goal.returns-in_err-tried-clause-cost
-returns-in_err-tried-clause-cost g c =
+pub returns-in_err-tried : goal.returns-in_err-tried
+returns-in_err-tried g c =
     let p = err_from_is_err_and c.from_residual.result c.from_residual.ensures.1 in
-    rw (p.1, p.2) (costs_then (stream_of c.args.kind) _ _ _ _ c.tries.invariant.tried c.tries-test.true c.in_err-tried.ensures.cost)
-
-pub returns-in_err-tried-clause-acts : goal.returns-in_err-tried-clause-acts
-returns-in_err-tried-clause-acts g c =
-    let p = err_from_is_err_and c.from_residual.result c.from_residual.ensures.1 in
-    rw (p.1, p.2) (acts_then _ _ _ tt _ c.tries.invariant.goes.goes.geometry c.tries.invariant.acts (acts_err _ _ _ c.in_err-tried.ensures.acts))
-
-pub returns-in_err-tried-clause-truth : goal.returns-in_err-tried-clause-truth
-returns-in_err-tried-clause-truth g c = λ honest may.
-    let kept = c.tries.invariant.truth honest may in
-    let now = may_still c.args.kind c.args.number c.args.old_row _ _ _ _ _ _ may (ap (λ v. v.items) c.tries.invariant.page) c.tries.invariant.goes kept in
-    let p = err_from_is_err_and c.from_residual.result c.from_residual.ensures.1 in
-    rw (p.1, p.2) (refused_then _ _ _ _ _ _ c.tries.invariant.goes.goes c.program_next.ensures.goes.goes.geometry _ (same_kept _ _ _ _ kept) (c.in_err-tried.ensures.truth (c.tries.invariant.acts.honest_is ∙ honest) now))
+    rw (p.1, p.2) (record {
+      acts = acts_then _ _ _ tt _ c.tries.invariant.goes.goes.geometry c.tries.invariant.acts (acts_err _ _ _ c.in_err-tried.ensures.acts);
+      goes = put_then _ _ _ c.tries.invariant.goes c.program_next.ensures.goes;
+      page = c.program_next.ensures.page ∙ c.tries.invariant.page;
+      scratch = c.program_next.ensures.scratch ∙ c.tries.invariant.scratch;
+      only_programs = programs_then g.N.PageSource.view _ _ _ c.tries.invariant.only_programs c.program_next.ensures.only_programs;
+      row = tt;
+      programmed = tt;
+      cost = costs_then (stream_of c.args.kind) _ _ _ _ c.tries.invariant.tried c.tries-test.true c.in_err-tried.ensures.cost;
+      truth = λ honest may.
+          let kept = c.tries.invariant.truth honest may in
+          let now = may_still c.args.kind c.args.number c.args.old_row _ _ _ _ _ _ may (ap (λ v. v.items) c.tries.invariant.page) c.tries.invariant.goes kept in
+          refused_then _ _ _ _ _ _ c.tries.invariant.goes.goes c.program_next.ensures.goes.goes.geometry _ (same_kept _ _ _ _ kept) (c.in_err-tried.ensures.truth (c.tries.invariant.acts.honest_is ∙ honest) now);
+      stops = λ honest may ne.
+          let kept = c.tries.invariant.truth honest may in
+          let now = may_still c.args.kind c.args.number c.args.old_row _ _ _ _ _ _ may (ap (λ v. v.items) c.tries.invariant.page) c.tries.invariant.goes kept in
+          tries_then _ _ _ _ _ _ _ _ c.tries.invariant.goes.goes.geometry kept.keeps (c.tries.invariant.stops honest may) (c.in_err-tried.ensures.stops (c.tries.invariant.acts.honest_is ∙ honest) now (not_bus _ ne));
+      cut = λ honest may e.
+          let kept = c.tries.invariant.truth honest may in
+          let now = may_still c.args.kind c.args.number c.args.old_row _ _ _ _ _ _ may (ap (λ v. v.items) c.tries.invariant.page) c.tries.invariant.goes kept in
+          tries_cut c.args.kind c.args.number _ _ _ _ _ _ _ _ _ (ap (λ v. v.items) c.tries.invariant.page) c.tries.invariant.goes.goes.geometry kept.keeps (c.tries.invariant.stops honest may) (c.in_err-tried.ensures.cut (c.tries.invariant.acts.honest_is ∙ honest) now (err_same _ _ e));
+    })
 
 -- ---- a try passed
 
-pub returns-in-Some-clause-goes : goal.returns-in-Some-clause-goes
-returns-in-Some-clause-goes g c = put_then _ _ _ c.tries.invariant.goes c.program_next.ensures.goes
-
-pub returns-in-Some-clause-row : goal.returns-in-Some-clause-row
-returns-in-Some-clause-row g c = outside_then _ _ c.in-Some.row c.tries.invariant.goes.goes (outside_some _ c.in-Some.row c.in_ok-tried.tried c.in_ok-tried.ensures.row c.in-Some.is)
-
-pub returns-in-Some-clause-cost : goal.returns-in-Some-clause-cost
-returns-in-Some-clause-cost g c = has_put (stream_of c.args.kind) _ _ _ c.tries.invariant.tried c.requires.safe.memory c.tries.invariant.goes.goes.geometry (tries_some (stream_of c.args.kind) _ _ c.in-Some.row c.in_ok-tried.tried c.in_ok-tried.ensures.cost c.in-Some.is)
-
-pub returns-in-Some-clause-acts : goal.returns-in-Some-clause-acts
-returns-in-Some-clause-acts g c = acts_then _ _ _ tt _ c.tries.invariant.goes.goes.geometry c.tries.invariant.acts (acts_ok _ _ _ _ c.in_ok-tried.ensures.acts)
-
-pub returns-in-Some-clause-truth : goal.returns-in-Some-clause-truth
-returns-in-Some-clause-truth g c = λ honest may.
-    let kept = c.tries.invariant.truth honest may in
-    let now = may_still c.args.kind c.args.number c.args.old_row _ _ _ _ _ _ may (ap (λ v. v.items) c.tries.invariant.page) c.tries.invariant.goes kept in
-    put_after _ _ _ _ _ _ c.tries.invariant.goes.goes c.program_next.ensures.goes.goes.geometry c.args.kind c.args.number c.in-Some.row _ kept
-    (attempted_some _ _ c.in-Some.row _ _ _ _ _ _ c.in_ok-tried.tried
-    (c.in_ok-tried.ensures.truth (c.tries.invariant.acts.honest_is ∙ honest) now) c.in-Some.is (ap (λ v. v.items) c.tries.invariant.page))
+pub returns-in-Some : goal.returns-in-Some
+returns-in-Some g c = record {
+  acts = acts_then _ _ _ tt _ c.tries.invariant.goes.goes.geometry c.tries.invariant.acts (acts_ok _ _ _ _ c.in_ok-tried.ensures.acts);
+  goes = put_then _ _ _ c.tries.invariant.goes c.program_next.ensures.goes;
+  page = c.program_next.ensures.page ∙ c.tries.invariant.page;
+  scratch = c.program_next.ensures.scratch ∙ c.tries.invariant.scratch;
+  only_programs = programs_then g.N.PageSource.view _ _ _ c.tries.invariant.only_programs c.program_next.ensures.only_programs;
+  row = outside_then _ _ c.in-Some.row c.tries.invariant.goes.goes (outside_some _ c.in-Some.row c.in_ok-tried.tried c.in_ok-tried.ensures.row c.in-Some.is);
+  programmed = some_holds c.in_ok-tried.tried c.in-Some.row c.in_ok-tried.ensures.programmed c.in-Some.is;
+  cost = has_put (stream_of c.args.kind) _ _ _ c.tries.invariant.tried c.requires.safe.memory c.tries.invariant.goes.goes.geometry (tries_some (stream_of c.args.kind) _ _ c.in-Some.row c.in_ok-tried.tried c.in_ok-tried.ensures.cost c.in-Some.is);
+  truth = λ honest may.
+      let kept = c.tries.invariant.truth honest may in
+      let now = may_still c.args.kind c.args.number c.args.old_row _ _ _ _ _ _ may (ap (λ v. v.items) c.tries.invariant.page) c.tries.invariant.goes kept in
+      put_after _ _ _ _ _ _ c.tries.invariant.goes.goes c.program_next.ensures.goes.goes.geometry c.args.kind c.args.number c.in-Some.row _ kept
+      (attempted_some _ _ c.in-Some.row _ _ _ _ _ _ c.in_ok-tried.tried
+      (c.in_ok-tried.ensures.truth (c.tries.invariant.acts.honest_is ∙ honest) now) c.in-Some.is (ap (λ v. v.items) c.tries.invariant.page));
+  stops = λ honest may ne.
+      let kept = c.tries.invariant.truth honest may in
+      let now = may_still c.args.kind c.args.number c.args.old_row _ _ _ _ _ _ may (ap (λ v. v.items) c.tries.invariant.page) c.tries.invariant.goes kept in
+      tries_then _ _ _ _ _ _ _ _ c.tries.invariant.goes.goes.geometry kept.keeps (c.tries.invariant.stops honest may) (c.in_ok-tried.ensures.stops (c.tries.invariant.acts.honest_is ∙ honest) now (ok_not_bus _));
+  cut = λ _ _ e. absurd (ok_not_bus _ e);
+}
 
 -- ---- a try failed
 
 pub tries-preserved : goal.tries-preserved
 tries-preserved g c = record {
   acts = acts_then _ _ _ tt _ c.tries.invariant.goes.goes.geometry c.tries.invariant.acts (acts_ok _ _ _ _ c.in_ok-tried.ensures.acts);
-  only_programs = record {
-    reads_are = c.program_next.ensures.only_programs.reads_are ∙ c.tries.invariant.only_programs.reads_are;
-    erases_are = c.program_next.ensures.only_programs.erases_are ∙ c.tries.invariant.only_programs.erases_are;
-  };
+  only_programs = programs_then g.N.PageSource.view _ _ _ c.tries.invariant.only_programs c.program_next.ensures.only_programs;
   goes = put_then _ _ _ c.tries.invariant.goes c.program_next.ensures.goes;
   page = c.program_next.ensures.page ∙ c.tries.invariant.page;
   scratch = c.program_next.ensures.scratch ∙ c.tries.invariant.scratch;
@@ -99,104 +114,20 @@ tries-preserved g c = record {
 
 -- ---- there is no sequence for the next one
 
-pub returns-clause-truth : goal.returns-clause-truth
-returns-clause-truth g c = λ honest may. same_kept _ _ _ _ (c.tries.invariant.truth honest may)
-
--- ---- what a stop leaves
-
-pub returns-in_err-tried-clause-stops : goal.returns-in_err-tried-clause-stops
-returns-in_err-tried-clause-stops g c =
-    let p = err_from_is_err_and c.from_residual.result c.from_residual.ensures.1 in
-    rw (p.1, p.2) (λ honest may ne.
-    let kept = c.tries.invariant.truth honest may in
-    let now = may_still c.args.kind c.args.number c.args.old_row _ _ _ _ _ _ may (ap (λ v. v.items) c.tries.invariant.page) c.tries.invariant.goes kept in
-    tries_then _ _ _ _ _ _ _ _ c.tries.invariant.goes.goes.geometry kept.keeps (c.tries.invariant.stops honest may) (c.in_err-tried.ensures.stops (c.tries.invariant.acts.honest_is ∙ honest) now (not_bus _ ne)))
-
-pub returns-in-Some-clause-stops : goal.returns-in-Some-clause-stops
-returns-in-Some-clause-stops g c = λ honest may ne.
-    let kept = c.tries.invariant.truth honest may in
-    let now = may_still c.args.kind c.args.number c.args.old_row _ _ _ _ _ _ may (ap (λ v. v.items) c.tries.invariant.page) c.tries.invariant.goes kept in
-    tries_then _ _ _ _ _ _ _ _ c.tries.invariant.goes.goes.geometry kept.keeps (c.tries.invariant.stops honest may) (c.in_ok-tried.ensures.stops (c.tries.invariant.acts.honest_is ∙ honest) now (ok_not_bus _))
-
-pub returns-clause-stops : goal.returns-clause-stops
-returns-clause-stops g c = λ honest may ne. leaves_more _ _ _ _ _ _ (λ image k. inl k) (c.tries.invariant.stops honest may)
-
--- ---- what a fault of the die leaves
-
-pub returns-in_err-tried-clause-cut : goal.returns-in_err-tried-clause-cut
-returns-in_err-tried-clause-cut g c =
-    let p = err_from_is_err_and c.from_residual.result c.from_residual.ensures.1 in
-    rw (p.1, p.2) (λ honest may e.
-    let kept = c.tries.invariant.truth honest may in
-    let now = may_still c.args.kind c.args.number c.args.old_row _ _ _ _ _ _ may (ap (λ v. v.items) c.tries.invariant.page) c.tries.invariant.goes kept in
-    tries_cut c.args.kind c.args.number _ _ _ _ _ _ _ _ _ (ap (λ v. v.items) c.tries.invariant.page) c.tries.invariant.goes.goes.geometry kept.keeps (c.tries.invariant.stops honest may) (c.in_err-tried.ensures.cut (c.tries.invariant.acts.honest_is ∙ honest) now (err_same _ _ e)))
-
-pub returns-clause-cut : goal.returns-clause-cut
-returns-clause-cut g c = λ _ _ e. absurd (err_apart SequenceSpent spent_apart e)
-
-pub returns-in-Some-clause-cut : goal.returns-in-Some-clause-cut
-returns-in-Some-clause-cut g c = λ _ _ e. absurd (ok_not_bus _ e)
-
-pub returns-clause-acts : goal.returns-clause-acts
-returns-clause-acts g c = acts_end _ _ tt SequenceSpent spent_apart c.tries.invariant.acts
-
-pub returns-clause-goes : goal.returns-clause-goes
-returns-clause-goes g c = c.tries.invariant.goes
-
-pub returns-clause-page : goal.returns-clause-page
-returns-clause-page g c = c.tries.invariant.page
-
-pub returns-clause-scratch : goal.returns-clause-scratch
-returns-clause-scratch g c = c.tries.invariant.scratch
-
-pub returns-clause-only_programs : goal.returns-clause-only_programs
-returns-clause-only_programs g c = c.tries.invariant.only_programs
-
-pub returns-clause-row : goal.returns-clause-row
-returns-clause-row g c = tt
-
-pub returns-clause-programmed : goal.returns-clause-programmed
-returns-clause-programmed g c = tt
-
-pub returns-clause-cost : goal.returns-clause-cost
-returns-clause-cost g c = has_spent (stream_of c.args.kind) _ _ c.tries.invariant.tried c.tries-test.false c.tries.invariant.acts.safe.memory.next
-
-pub returns-in-Some-clause-page : goal.returns-in-Some-clause-page
-returns-in-Some-clause-page g c = c.program_next.ensures.page ∙ c.tries.invariant.page
-
-pub returns-in-Some-clause-scratch : goal.returns-in-Some-clause-scratch
-returns-in-Some-clause-scratch g c = c.program_next.ensures.scratch ∙ c.tries.invariant.scratch
-
-pub returns-in-Some-clause-only_programs : goal.returns-in-Some-clause-only_programs
-returns-in-Some-clause-only_programs g c = record {
-  reads_are = c.program_next.ensures.only_programs.reads_are ∙ c.tries.invariant.only_programs.reads_are;
-  erases_are = c.program_next.ensures.only_programs.erases_are ∙ c.tries.invariant.only_programs.erases_are;
+pub returns : goal.returns
+returns g c = record {
+  acts = acts_end _ _ tt SequenceSpent spent_apart c.tries.invariant.acts;
+  goes = c.tries.invariant.goes;
+  page = c.tries.invariant.page;
+  scratch = c.tries.invariant.scratch;
+  only_programs = c.tries.invariant.only_programs;
+  row = tt;
+  programmed = tt;
+  cost = has_spent (stream_of c.args.kind) _ _ c.tries.invariant.tried c.tries-test.false c.tries.invariant.acts.safe.memory.next;
+  truth = λ honest may. same_kept _ _ _ _ (c.tries.invariant.truth honest may);
+  stops = λ honest may ne. leaves_more _ _ _ _ _ _ (λ image k. inl k) (c.tries.invariant.stops honest may);
+  cut = λ _ _ e. absurd (err_apart SequenceSpent spent_apart e);
 }
-
-pub returns-in-Some-clause-programmed : goal.returns-in-Some-clause-programmed
-returns-in-Some-clause-programmed g c = some_holds c.in_ok-tried.tried c.in-Some.row c.in_ok-tried.ensures.programmed c.in-Some.is
-
-pub returns-in_err-tried-clause-page : goal.returns-in_err-tried-clause-page
-returns-in_err-tried-clause-page g c = c.program_next.ensures.page ∙ c.tries.invariant.page
-
-pub returns-in_err-tried-clause-scratch : goal.returns-in_err-tried-clause-scratch
-returns-in_err-tried-clause-scratch g c = c.program_next.ensures.scratch ∙ c.tries.invariant.scratch
-
-pub returns-in_err-tried-clause-only_programs : goal.returns-in_err-tried-clause-only_programs
-returns-in_err-tried-clause-only_programs g c = record {
-  reads_are = c.program_next.ensures.only_programs.reads_are ∙ c.tries.invariant.only_programs.reads_are;
-  erases_are = c.program_next.ensures.only_programs.erases_are ∙ c.tries.invariant.only_programs.erases_are;
-}
-
-pub returns-in_err-tried-clause-row : goal.returns-in_err-tried-clause-row
-returns-in_err-tried-clause-row g c =
-    let p = err_from_is_err_and c.from_residual.result c.from_residual.ensures.1 in
-    rw p.1 (tt)
-
-pub returns-in_err-tried-clause-programmed : goal.returns-in_err-tried-clause-programmed
-returns-in_err-tried-clause-programmed g c =
-    let p = err_from_is_err_and c.from_residual.result c.from_residual.ensures.1 in
-    rw p.1 (tt)
 
 pub program_next-requires-clause-safe : goal.program_next-requires-clause-safe
 program_next-requires-clause-safe g c = c.tries.invariant.acts.safe
@@ -209,6 +140,3 @@ program_next-requires-clause-key g c = subst (λ x. IsKeyOf x (key_from c.args.k
 
 pub program_next-requires-clause-old_row : goal.program_next-requires-clause-old_row
 program_next-requires-clause-old_row g c = subst (λ x. ForSome c.args.old_row (λ r. r < row_count x)) (sym c.tries.invariant.goes.goes.geometry) c.requires.old_row
-
-pub returns-in_err-tried-clause-goes : goal.returns-in_err-tried-clause-goes
-returns-in_err-tried-clause-goes g c = put_then _ _ _ c.tries.invariant.goes c.program_next.ensures.goes

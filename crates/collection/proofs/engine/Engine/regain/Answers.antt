@@ -72,85 +72,64 @@ returns-in_default-clause-count g c = λ honest w passed few failures enough.
 
 -- ---- a collection was refused
 
-pub returns-in_err-finish-clause-makes : goal.returns-in_err-finish-clause-makes
-returns-in_err-finish-clause-makes g c =
+pub returns-in_err-finish : goal.returns-in_err-finish
+returns-in_err-finish g c =
     let p = err_from_is_err_and c.from_residual.result c.from_residual.ensures.1 in
-    rw (p.1, p.2) c.in_err-finish.ensures.makes
-
-pub returns-in_err-collect_block-clause-acts : goal.returns-in_err-collect_block-clause-acts
-returns-in_err-collect_block-clause-acts g c =
-    let p = err_from_is_err_and c.from_residual-in_err-collect_block.result c.from_residual-in_err-collect_block.ensures.1 in
-    rw (p.1, p.2) (acts_then _ _ _ tt _ c.rounds.invariant.makes.goes.geometry c.rounds.invariant.acts (acts_err _ _ _ c.in_err-collect_block.ensures.acts))
-
-pub returns-in_err-collect_block-clause-makes : goal.returns-in_err-collect_block-clause-makes
-returns-in_err-collect_block-clause-makes g c =
-    let p = err_from_is_err_and c.from_residual-in_err-collect_block.result c.from_residual-in_err-collect_block.ensures.1 in
-    let i = c.rounds.invariant in
-    let m = i.makes in
-    let e = c.in_err-collect_block.ensures in
-    let old = ram c.args.self.now in
-    let now = ram c.rounds.self in
-    let new = ram c.collect_block.new.self in
-    let worth = made_some c.args.many now c.worth_below-worth.result c.in-Some.block c.worth_below-worth.ensures c.in-Some.is in
     rw (p.1, p.2) (record {
-      calm = tt;
-      goes = on_then c.in-Some.block old now new m.goes e.goes worth.victim.closed;
-      keys = keys_then _ _ _ m.keys e.keys;
-      refreshes = λ on. refreshes_then old now new m.goes.geometry (m.refreshes on) (e.refreshes on);
-      works = tt;
-      collects = tt;
-      rests = λ enough. absurd (not_resting c.args.many c.args.flushing c.args.self.now c.rounds.self m worth.scarce enough);
-      tells = room_tells c.args.flushing c.in-Some.block now new _ e.cost;
-      truth = λ honest w passed.
-          let k = m.truth honest w passed in
-          room_refused old now new _ _ _ _ i.acts.safe.memory c.collect_block.ensures.acts.safe.memory m.goes e.goes.geometry k (e.truth (i.acts.honest_is ∙ honest) k.truth);
-      few = λ honest w passed few ne. e.few (i.acts.honest_is ∙ honest) (m.truth honest w passed).truth worth.small ne;
+      acts = c.in_err-finish.ensures.acts;
+      makes = c.in_err-finish.ensures.makes;
+      room = tt;
+      count = c.in_err-finish.ensures.count;
+      stops = λ honest w passed ne. c.in_err-finish.ensures.stops honest w passed ne;
+      cut = λ honest w passed is. c.in_err-finish.ensures.cut honest w passed is;
     })
 
-pub returns-in_err-collect_block-clause-count : goal.returns-in_err-collect_block-clause-count
-returns-in_err-collect_block-clause-count g c = λ honest w passed few failures enough.
-    let i = c.rounds.invariant in
-    let worth = made_some c.args.many (ram c.rounds.self) c.worth_below-worth.result c.in-Some.block c.worth_below-worth.ensures c.in-Some.is in
+pub returns-in_err-collect_block : goal.returns-in_err-collect_block
+returns-in_err-collect_block g c =
     let p = err_from_is_err_and c.from_residual-in_err-collect_block.result c.from_residual-in_err-collect_block.ensures.1 in
-    rw (p.1, p.2)
-    (refused_room c.args.many failures (ram c.args.self.now) (ram c.rounds.self) (ram c.collect_block.new.self) _ i.acts.safe.memory i.makes.goes.geometry
-    (i.count honest w passed few failures enough)
-    (c.in_err-collect_block.ensures.count (i.acts.honest_is ∙ honest) (i.makes.truth honest w passed).truth worth.small))
+    let i = c.rounds.invariant in
+    let sized : IsSized (ram c.args.self.now) (ram c.rounds.self) = record { geometry = i.makes.goes.geometry; capacity = i.makes.keys.limits.capacity; share = i.makes.keys.limits.share } in
+    rw (p.1, p.2) (record {
+      acts = acts_then _ _ _ tt _ c.rounds.invariant.makes.goes.geometry c.rounds.invariant.acts (acts_err _ _ _ c.in_err-collect_block.ensures.acts);
+      makes =
+          let m = i.makes in
+          let e = c.in_err-collect_block.ensures in
+          let old = ram c.args.self.now in
+          let now = ram c.rounds.self in
+          let new = ram c.collect_block.new.self in
+          let worth = made_some c.args.many now c.worth_below-worth.result c.in-Some.block c.worth_below-worth.ensures c.in-Some.is in
+          record {
+            calm = tt;
+            goes = on_then c.in-Some.block old now new m.goes e.goes worth.victim.closed;
+            keys = keys_then _ _ _ m.keys e.keys;
+            refreshes = λ on. refreshes_then old now new m.goes.geometry (m.refreshes on) (e.refreshes on);
+            works = tt;
+            collects = tt;
+            rests = λ enough. absurd (not_resting c.args.many c.args.flushing c.args.self.now c.rounds.self m worth.scarce enough);
+            tells = room_tells c.args.flushing c.in-Some.block now new _ e.cost;
+            truth = λ honest w passed.
+                let k = m.truth honest w passed in
+                room_refused old now new _ _ _ _ i.acts.safe.memory c.collect_block.ensures.acts.safe.memory m.goes e.goes.geometry k (e.truth (i.acts.honest_is ∙ honest) k.truth);
+            few = λ honest w passed few ne. e.few (i.acts.honest_is ∙ honest) (m.truth honest w passed).truth worth.small ne;
+          };
+      room = tt;
+      count = λ honest w passed few failures enough.
+          let worth = made_some c.args.many (ram c.rounds.self) c.worth_below-worth.result c.in-Some.block c.worth_below-worth.ensures c.in-Some.is in
+          refused_room c.args.many failures (ram c.args.self.now) (ram c.rounds.self) (ram c.collect_block.new.self) _ i.acts.safe.memory i.makes.goes.geometry
+          (i.count honest w passed few failures enough)
+          (c.in_err-collect_block.ensures.count (i.acts.honest_is ∙ honest) (i.makes.truth honest w passed).truth worth.small);
+      stops = λ honest w passed ne.
+          let k = i.makes.truth honest w passed in
+          stops_then (ram c.args.self.now) (ram c.rounds.self) _ _ _ _ _ _ sized k.array (i.stops honest w passed) (c.in_err-collect_block.ensures.stops (i.acts.honest_is ∙ honest) k.truth ne);
+      cut = λ honest w passed is.
+          let k = i.makes.truth honest w passed in
+          cut_after (ram c.args.self.now) (ram c.rounds.self) _ _ _ _ _ sized k.array (i.stops honest w passed) (c.in_err-collect_block.ensures.cut (i.acts.honest_is ∙ honest) k.truth is);
+    })
 
 -- ---- what a stop leaves
 
 pub returns-in_default-clause-stops : goal.returns-in_default-clause-stops
 returns-in_default-clause-stops g c = λ honest w passed ne. c.rounds.invariant.stops honest w passed
-
-pub returns-in_err-finish-clause-stops : goal.returns-in_err-finish-clause-stops
-returns-in_err-finish-clause-stops g c =
-    let p = err_from_is_err_and c.from_residual.result c.from_residual.ensures.1 in
-    rw (p.1, p.2) (λ honest w passed ne. c.in_err-finish.ensures.stops honest w passed ne)
-
-pub returns-in_err-collect_block-clause-stops : goal.returns-in_err-collect_block-clause-stops
-returns-in_err-collect_block-clause-stops g c =
-    let p = err_from_is_err_and c.from_residual-in_err-collect_block.result c.from_residual-in_err-collect_block.ensures.1 in
-    rw (p.1, p.2) (λ honest w passed ne.
-    let i = c.rounds.invariant in
-    let k = i.makes.truth honest w passed in
-    let sized : IsSized (ram c.args.self.now) (ram c.rounds.self) = record { geometry = i.makes.goes.geometry; capacity = i.makes.keys.limits.capacity; share = i.makes.keys.limits.share } in
-    stops_then (ram c.args.self.now) (ram c.rounds.self) _ _ _ _ _ _ sized k.array (i.stops honest w passed) (c.in_err-collect_block.ensures.stops (i.acts.honest_is ∙ honest) k.truth ne))
-
--- ---- what a fault of the die leaves
-
-pub returns-in_err-finish-clause-cut : goal.returns-in_err-finish-clause-cut
-returns-in_err-finish-clause-cut g c =
-    let p = err_from_is_err_and c.from_residual.result c.from_residual.ensures.1 in
-    rw (p.1, p.2) (λ honest w passed is. c.in_err-finish.ensures.cut honest w passed is)
-
-pub returns-in_err-collect_block-clause-cut : goal.returns-in_err-collect_block-clause-cut
-returns-in_err-collect_block-clause-cut g c =
-    let p = err_from_is_err_and c.from_residual-in_err-collect_block.result c.from_residual-in_err-collect_block.ensures.1 in
-    rw (p.1, p.2) (λ honest w passed is.
-    let i = c.rounds.invariant in
-    let k = i.makes.truth honest w passed in
-    let sized : IsSized (ram c.args.self.now) (ram c.rounds.self) = record { geometry = i.makes.goes.geometry; capacity = i.makes.keys.limits.capacity; share = i.makes.keys.limits.share } in
-    cut_after (ram c.args.self.now) (ram c.rounds.self) _ _ _ _ _ sized k.array (i.stops honest w passed) (c.in_err-collect_block.ensures.cut (i.acts.honest_is ∙ honest) k.truth is))
 
 pub finish-requires-clause-safe : goal.finish-requires-clause-safe
 finish-requires-clause-safe g c = c.requires.safe
@@ -180,23 +159,3 @@ returns-in_default-clause-acts g c = acts_ended (free_count (ram c.rounds.self).
 
 pub returns-in_default-clause-cut : goal.returns-in_default-clause-cut
 returns-in_default-clause-cut g c = λ _ _ _ e. not_bus_ended (free_count (ram c.rounds.self).blocks < 5) c.enough.result c.enough.ensures.err e
-
-pub returns-in_err-finish-clause-acts : goal.returns-in_err-finish-clause-acts
-returns-in_err-finish-clause-acts g c =
-    let p = err_from_is_err_and c.from_residual.result c.from_residual.ensures.1 in
-    rw (p.1, p.2) c.in_err-finish.ensures.acts
-
-pub returns-in_err-finish-clause-room : goal.returns-in_err-finish-clause-room
-returns-in_err-finish-clause-room g c =
-    let p = err_from_is_err_and c.from_residual.result c.from_residual.ensures.1 in
-    rw p.1 (tt)
-
-pub returns-in_err-finish-clause-count : goal.returns-in_err-finish-clause-count
-returns-in_err-finish-clause-count g c =
-    let p = err_from_is_err_and c.from_residual.result c.from_residual.ensures.1 in
-    rw (p.1, p.2) c.in_err-finish.ensures.count
-
-pub returns-in_err-collect_block-clause-room : goal.returns-in_err-collect_block-clause-room
-returns-in_err-collect_block-clause-room g c =
-    let p = err_from_is_err_and c.from_residual-in_err-collect_block.result c.from_residual-in_err-collect_block.ensures.1 in
-    rw p.1 (tt)

@@ -7,10 +7,10 @@ use Rattle.collection.proofs.Noted.{renewed_noted, rescue_cost_noted}
 use Rattle.collection.proofs.engine.Engine.renew_at.Goals as goal
 
 pub returns-clause-stands : goal.returns-clause-stands
-returns-clause-stands g c = rw (c.noted.ensures.same, c.noted.ensures.noted) (acts_noted _ _ _ (not_standing _ _ c.in_ok-standing.ensures) c.renew-answer.ensures.acts)
+returns-clause-stands g c = rw (c.noted.ensures.same, c.noted.ensures.noted) (acts_noted _ _ _ (not_standing _ _ c.in_ok-standing.ensures) c.renew-answer.ensures.moves.acts)
 
 pub returns-clause-goes : goal.returns-clause-goes
-returns-clause-goes g c = rw c.noted.ensures.noted (goes_noted _ _ (ram c.renew-answer.new.self) c.renew-answer.ensures.goes)
+returns-clause-goes g c = rw c.noted.ensures.noted (goes_noted _ _ (ram c.renew-answer.new.self) c.renew-answer.ensures.moves.goes)
 
 pub returns-clause-cost : goal.returns-clause-cost
 returns-clause-cost g c = λ none. rw (c.noted.ensures.same, c.noted.ensures.noted) (rescue_cost_noted _ (ram c.renew-answer.new.self) c.renew-answer.result c.renew-answer.ensures.cost)
@@ -19,7 +19,7 @@ pub returns-clause-truth : goal.returns-clause-truth
 returns-clause-truth g c = λ honest none w room. rw (c.noted.ensures.same, c.noted.ensures.noted) (renewed_noted _ c.args.row _ (ram c.renew-answer.new.self) _ _ c.renew-answer.result (c.renew-answer.ensures.truth honest w room))
 
 pub returns-clause-beside : goal.returns-clause-beside
-returns-clause-beside g c = rw (c.noted.ensures.same, c.noted.ensures.noted) (beside_noted_ok _ _ (ram c.renew-answer.new.self) c.renew-answer.result c.renew-answer.ensures.beside)
+returns-clause-beside g c = rw (c.noted.ensures.same, c.noted.ensures.noted) (beside_noted_ok _ _ (ram c.renew-answer.new.self) c.renew-answer.result c.renew-answer.ensures.moves.beside)
 
 -- ---- what a stop leaves
 

@@ -35,16 +35,31 @@ returns-clause-directory g c =
     subst (λ (h : Geometry). SetsDirectory h key c.in_ok-row.row old.directory new.directory) c.put_page.ensures.goes.goes.geometry
     (subst (λ (rows : List (Option ℕ)). SetsDirectory put.geometry key c.in_ok-row.row rows new.directory) c.put_page.ensures.goes.directory c.settle.ensures.settles.directory)
 
--- ---- what a stop leaves
-
-pub returns-in_err-row-clause-stops : goal.returns-in_err-row-clause-stops
-returns-in_err-row-clause-stops g c =
+pub returns-in_err-row : goal.returns-in_err-row
+returns-in_err-row g c =
     let p = err_from_is_err_and c.from_residual.result c.from_residual.ensures.1 in
-    rw (p.1, p.2) (λ honest may ne.
-    let same = refused_same _ _ _ _ _ (fault_not_bus _ ne) (c.in_err-row.ensures.truth honest may) in
-    put_left (ram c.args.self.now) (ram c.put_page.new.self) _ _ _ _
-    (record { geometry = c.put_page.ensures.goes.goes.geometry; capacity = ap (λ m. m.capacity) c.put_page.ensures.goes.mapping; share = ap (λ m. m.share) c.put_page.ensures.goes.mapping })
-    c.requires.safe.memory c.put_page.ensures.acts.safe.memory may.truth same.truth (c.in_err-row.ensures.stops honest may (not_bus _ ne)))
+    rw (p.1, p.2) (record {
+      acts = c.in_err-row.ensures.acts;
+      goes = c.put_page.ensures.goes.goes;
+      page = c.put_page.ensures.page;
+      scratch = c.put_page.ensures.scratch;
+      only_programs = c.put_page.ensures.only_programs;
+      pin = c.put_page.ensures.goes.pin;
+      row = tt;
+      table = c.put_page.ensures.goes.table;
+      mapping = c.put_page.ensures.goes.mapping;
+      directory = tt;
+      programmed = tt;
+      cost = c.in_err-row.ensures.cost;
+      truth = c.in_err-row.ensures.truth;
+      stops = λ honest may ne.
+          let same = refused_same _ _ _ _ _ (fault_not_bus _ ne) (c.in_err-row.ensures.truth honest may) in
+          put_left (ram c.args.self.now) (ram c.put_page.new.self) _ _ _ _
+          (record { geometry = c.put_page.ensures.goes.goes.geometry; capacity = ap (λ m. m.capacity) c.put_page.ensures.goes.mapping; share = ap (λ m. m.share) c.put_page.ensures.goes.mapping })
+          c.requires.safe.memory c.put_page.ensures.acts.safe.memory may.truth same.truth (c.in_err-row.ensures.stops honest may (not_bus _ ne));
+      cut = λ honest may e.
+          put_cut c.args.kind c.args.number c.args.old_row _ (ram c.args.self.now) _ _ _ c.requires.safe.memory may c.requires.key c.requires.place (c.in_err-row.ensures.cut honest may (err_same _ _ e));
+    })
 
 pub returns-clause-stops : goal.returns-clause-stops
 returns-clause-stops g c = λ honest may ne.
@@ -60,13 +75,7 @@ returns-clause-stops g c = λ honest may ne.
       share = sets_share (key_from c.args.kind c.args.number) c.in_ok-row.row _ _ c.settle.ensures.settles.mapping ∙ ap (λ m. m.share) c.put_page.ensures.goes.mapping;
     }) c.requires.safe.memory c.settle.ensures.safe.memory may.truth now.truth stops
 
--- ---- what a fault of the die leaves
-
-pub returns-in_err-row-clause-cut : goal.returns-in_err-row-clause-cut
-returns-in_err-row-clause-cut g c =
-    let p = err_from_is_err_and c.from_residual.result c.from_residual.ensures.1 in
-    rw (p.1, p.2) (λ honest may e.
-    put_cut c.args.kind c.args.number c.args.old_row _ (ram c.args.self.now) _ _ _ c.requires.safe.memory may c.requires.key c.requires.place (c.in_err-row.ensures.cut honest may (err_same _ _ e)))
+-- ---- it was put
 
 pub returns-clause-scratch : goal.returns-clause-scratch
 returns-clause-scratch g c = c.settle.ensures.scratch ∙ c.put_page.ensures.scratch
@@ -76,30 +85,6 @@ returns-clause-row g c = c.in_ok-row.ensures.row
 
 pub returns-clause-cut : goal.returns-clause-cut
 returns-clause-cut g c = λ _ _ e. absurd (ok_not_bus _ e)
-
-pub returns-in_err-row-clause-acts : goal.returns-in_err-row-clause-acts
-returns-in_err-row-clause-acts g c =
-    let p = err_from_is_err_and c.from_residual.result c.from_residual.ensures.1 in
-    rw (p.1, p.2) (c.in_err-row.ensures.acts)
-
-pub returns-in_err-row-clause-page : goal.returns-in_err-row-clause-page
-returns-in_err-row-clause-page g c = c.put_page.ensures.page
-
-pub returns-in_err-row-clause-scratch : goal.returns-in_err-row-clause-scratch
-returns-in_err-row-clause-scratch g c = c.put_page.ensures.scratch
-
-pub returns-in_err-row-clause-only_programs : goal.returns-in_err-row-clause-only_programs
-returns-in_err-row-clause-only_programs g c = c.put_page.ensures.only_programs
-
-pub returns-in_err-row-clause-cost : goal.returns-in_err-row-clause-cost
-returns-in_err-row-clause-cost g c =
-    let p = err_from_is_err_and c.from_residual.result c.from_residual.ensures.1 in
-    rw (p.1, p.2) (c.in_err-row.ensures.cost)
-
-pub returns-in_err-row-clause-truth : goal.returns-in_err-row-clause-truth
-returns-in_err-row-clause-truth g c =
-    let p = err_from_is_err_and c.from_residual.result c.from_residual.ensures.1 in
-    rw (p.1, p.2) (c.in_err-row.ensures.truth)
 
 pub returns-clause-acts : goal.returns-clause-acts
 returns-clause-acts g c = acts_on c.args.self.now c.put_page.new.self c.settle.new.self c.in_ok-row.row _ c.settle.ensures.safe c.settle.ensures.settles.fault
@@ -122,35 +107,6 @@ returns-clause-mapping g c = subst (λ m. SetsMapping (key_from c.args.kind c.ar
 
 pub returns-clause-programmed : goal.returns-clause-programmed
 returns-clause-programmed g c = last_marked c.args.kind c.args.number (ram c.put_page.new.self) (ram c.settle.new.self) _ _ c.settle.ensures.settles.next (ap page_in c.settle.ensures.page) c.in_ok-row.ensures.programmed
-
-pub returns-in_err-row-clause-goes : goal.returns-in_err-row-clause-goes
-returns-in_err-row-clause-goes g c = c.put_page.ensures.goes.goes
-
-pub returns-in_err-row-clause-pin : goal.returns-in_err-row-clause-pin
-returns-in_err-row-clause-pin g c = c.put_page.ensures.goes.pin
-
-pub returns-in_err-row-clause-row : goal.returns-in_err-row-clause-row
-returns-in_err-row-clause-row g c =
-    let p = err_from_is_err_and c.from_residual.result c.from_residual.ensures.1 in
-    rw p.1 (tt)
-
-pub returns-in_err-row-clause-table : goal.returns-in_err-row-clause-table
-returns-in_err-row-clause-table g c = c.put_page.ensures.goes.table
-
-pub returns-in_err-row-clause-mapping : goal.returns-in_err-row-clause-mapping
-returns-in_err-row-clause-mapping g c =
-    let p = err_from_is_err_and c.from_residual.result c.from_residual.ensures.1 in
-    rw p.1 c.put_page.ensures.goes.mapping
-
-pub returns-in_err-row-clause-directory : goal.returns-in_err-row-clause-directory
-returns-in_err-row-clause-directory g c =
-    let p = err_from_is_err_and c.from_residual.result c.from_residual.ensures.1 in
-    rw p.1 (tt)
-
-pub returns-in_err-row-clause-programmed : goal.returns-in_err-row-clause-programmed
-returns-in_err-row-clause-programmed g c =
-    let p = err_from_is_err_and c.from_residual.result c.from_residual.ensures.1 in
-    rw p.1 (tt)
 
 pub returns-clause-goes : goal.returns-clause-goes
 returns-clause-goes g c = settled_goes _ _ _ (key_from c.args.kind c.args.number) c.in_ok-row.row c.put_page.ensures.goes.goes c.settle.ensures.settles

@@ -7,10 +7,10 @@ use Rattle.collection.proofs.Noted.{rescued_noted, rescue_cost_noted}
 use Rattle.collection.proofs.engine.Engine.rescue_one.Goals as goal
 
 pub returns-clause-stands : goal.returns-clause-stands
-returns-clause-stands g c = rw (c.noted.ensures.same, c.noted.ensures.noted) (acts_noted _ _ _ (not_standing _ _ c.in_ok-standing.ensures) c.rescue-answer.ensures.acts)
+returns-clause-stands g c = rw (c.noted.ensures.same, c.noted.ensures.noted) (acts_noted _ _ _ (not_standing _ _ c.in_ok-standing.ensures) c.rescue-answer.ensures.moves.acts)
 
 pub returns-clause-goes : goal.returns-clause-goes
-returns-clause-goes g c = rw c.noted.ensures.noted (goes_noted _ _ (ram c.rescue-answer.new.self) c.rescue-answer.ensures.goes)
+returns-clause-goes g c = rw c.noted.ensures.noted (goes_noted _ _ (ram c.rescue-answer.new.self) c.rescue-answer.ensures.moves.goes)
 
 pub returns-clause-cost : goal.returns-clause-cost
 returns-clause-cost g c = λ none. rw (c.noted.ensures.same, c.noted.ensures.noted) (rescue_cost_noted _ (ram c.rescue-answer.new.self) c.rescue-answer.result c.rescue-answer.ensures.cost)
@@ -19,7 +19,7 @@ pub returns-clause-truth : goal.returns-clause-truth
 returns-clause-truth g c = λ honest none w room. rw (c.noted.ensures.same, c.noted.ensures.noted) (rescued_noted _ _ (ram c.rescue-answer.new.self) _ _ c.rescue-answer.result (c.rescue-answer.ensures.truth honest w room))
 
 pub returns-clause-beside : goal.returns-clause-beside
-returns-clause-beside g c = rw (c.noted.ensures.same, c.noted.ensures.noted) (beside_noted_ok _ _ (ram c.rescue-answer.new.self) c.rescue-answer.result c.rescue-answer.ensures.beside)
+returns-clause-beside g c = rw (c.noted.ensures.same, c.noted.ensures.noted) (beside_noted_ok _ _ (ram c.rescue-answer.new.self) c.rescue-answer.result c.rescue-answer.ensures.moves.beside)
 
 -- ---- what a stop leaves
 

@@ -9,90 +9,54 @@ use Rattle.collection.proofs.engine.Engine.row_on_page.Goals as goal
 pub row_of-found-requires : goal.row_of-found-requires
 row_of-found-requires g c = has_place c.args.self.now.geometry c.args.sector c.entries-entries.result _ c.requires.sector c.entries-entries.ensures c.requires.safe.memory.directory
 
-pub returns-in_default-clause-truth : goal.returns-in_default-clause-truth
-returns-in_default-clause-truth g c = λ honest w. found_none c.args.self.now.geometry _ c.args.self.now.directory c.args.self.now.mapping
-    c.args.sector c.entries-entries.result w.maps c.requires.sector c.entries-entries.ensures c.requires.unknown
-    (newest_at c.args.self.now.geometry _ c.args.self.now.directory c.args.self.now.mapping c.args.sector c.entries-entries.result
-    c.row_of-found.result None w.maps c.requires.sector c.entries-entries.ensures c.row_of-found.ensures.value
-    (none_from c.row_of-found.result c.in_default.not-Some))
+pub returns-in_default : goal.returns-in_default
+returns-in_default g c = record {
+  looks = looks_ok _ _ tt _ (looks_same c.args.self.now c.requires.safe);
+  page = refl;
+  reads = no_more _ _;
+  row = λ _ is. absurd (none_not_some _ is);
+  unmapped = λ _. (refl, refl);
+  checked = gives_nothing c.args.self.now.geometry c.args.self.now.directory c.args.sector c.entries-entries.result _ c.entries-entries.ensures c.row_of-found.result c.row_of-found.ensures.value (none_from c.row_of-found.result c.in_default.not-Some);
+  truth = λ honest w. found_none c.args.self.now.geometry _ c.args.self.now.directory c.args.self.now.mapping
+      c.args.sector c.entries-entries.result w.maps c.requires.sector c.entries-entries.ensures c.requires.unknown
+      (newest_at c.args.self.now.geometry _ c.args.self.now.directory c.args.self.now.mapping c.args.sector c.entries-entries.result
+      c.row_of-found.result None w.maps c.requires.sector c.entries-entries.ensures c.row_of-found.ensures.value
+      (none_from c.row_of-found.result c.in_default.not-Some));
+}
 
-pub returns-in_err-read_of-clause-truth : goal.returns-in_err-read_of-clause-truth
-returns-in_err-read_of-clause-truth g c = λ honest w.
+pub returns-in_err-read_of : goal.returns-in_err-read_of
+returns-in_err-read_of g c =
     let p = err_from_is_err_and c.from_residual.result c.from_residual.ensures.1 in
-    rw (p.1, p.2)
-    (c.in_err-read_of.ensures.undamaged honest
-    (newest_at c.args.self.now.geometry _ c.args.self.now.directory c.args.self.now.mapping c.args.sector c.entries-entries.result
-    c.row_of-found.result (Some c.in-Some.at) w.maps c.requires.sector c.entries-entries.ensures c.row_of-found.ensures.value c.in-Some.is))
+    rw (p.1, p.2) (record {
+      looks = looks_err _ _ _ (looks_scratch c.args.self.now c.read_of.new.nand c.read_of.new.buffer _ c.requires.safe c.read_of.ensures.buffer c.read_of.ensures.only_reads c.read_of.ensures.asked
+          c.in_err-read_of.ensures.faults c.in_err-read_of.ensures.rose c.in_err-read_of.ensures.same c.in_err-read_of.ensures.told c.in_err-read_of.ensures.cut);
+      page = refl;
+      reads = reads_counted _ _ c.read_of.ensures.reads;
+      row = tt;
+      unmapped = λ none. absurd (is_mapped c.args.self.now.geometry c.args.self.now.directory c.args.sector c.entries-entries.result c.in-Some.at c.row_of-found.result c.entries-entries.ensures c.row_of-found.ensures.value c.in-Some.is none);
+      checked = tt;
+      truth = λ honest w.
+          c.in_err-read_of.ensures.undamaged honest
+          (newest_at c.args.self.now.geometry _ c.args.self.now.directory c.args.self.now.mapping c.args.sector c.entries-entries.result
+          c.row_of-found.result (Some c.in-Some.at) w.maps c.requires.sector c.entries-entries.ensures c.row_of-found.ensures.value c.in-Some.is);
+    })
 
-pub returns-clause-truth : goal.returns-clause-truth
-returns-clause-truth g c = λ honest w.
-    let at = newest_at c.args.self.now.geometry _ c.args.self.now.directory c.args.self.now.mapping c.args.sector c.entries-entries.result c.row_of-found.result (Some c.in-Some.at) w.maps c.requires.sector c.entries-entries.ensures c.row_of-found.ensures.value c.in-Some.is in
-    found_by c.args.self.now.geometry _ c.args.self.now.directory c.args.self.now.mapping c.args.sector c.entries-entries.result w.maps
-    c.requires.sector c.entries-entries.ensures c.requires.unknown c.in-Some.at
-    (page c.read_of.new.buffer.body.items c.read_of.new.buffer.spare.items) c.deref.result.now c.checked_entry.result w.whole.rows at
-    (c.in_ok-read_of.ensures.page honest) c.deref.ensures.value c.checked_entry.ensures.entry c.checked_entry.ensures.undamaged
-
-pub returns-in_default-clause-looks : goal.returns-in_default-clause-looks
-returns-in_default-clause-looks g c = looks_ok _ _ tt _ (looks_same c.args.self.now c.requires.safe)
-
-pub returns-in_default-clause-page : goal.returns-in_default-clause-page
-returns-in_default-clause-page g c = refl
-
-pub returns-clause-looks : goal.returns-clause-looks
-returns-clause-looks g c = looks_tested _ _ _ _ c.checked_entry.ensures.damaged (looks_scratch c.args.self.now c.read_of.new.nand c.read_of.new.buffer _ c.requires.safe c.read_of.ensures.buffer c.read_of.ensures.only_reads c.read_of.ensures.asked
-    c.in_ok-read_of.ensures.faults c.in_ok-read_of.ensures.rose c.in_ok-read_of.ensures.same c.in_ok-read_of.ensures.told c.in_ok-read_of.ensures.cut)
-
-pub returns-clause-page : goal.returns-clause-page
-returns-clause-page g c = refl
-
-pub returns-clause-reads : goal.returns-clause-reads
-returns-clause-reads g c = reads_counted _ _ c.read_of.ensures.reads
-
-pub returns-clause-row : goal.returns-clause-row
-returns-clause-row g c = c.checked_entry.ensures.row
-
-pub returns-clause-unmapped : goal.returns-clause-unmapped
-returns-clause-unmapped g c = λ none. absurd (is_mapped c.args.self.now.geometry c.args.self.now.directory c.args.sector c.entries-entries.result c.in-Some.at c.row_of-found.result c.entries-entries.ensures c.row_of-found.ensures.value c.in-Some.is none)
-
-pub returns-clause-checked : goal.returns-clause-checked
-returns-clause-checked g c = gives_checked c.args.self.now.geometry c.args.self.now.directory c.args.sector c.entries-entries.result _ c.entries-entries.ensures _ _ c.checked_entry.result c.in_ok-read_of.ensures.checked c.deref.ensures.value c.checked_entry.ensures.entry
-
-pub returns-in_default-clause-reads : goal.returns-in_default-clause-reads
-returns-in_default-clause-reads g c = no_more _ _
-
-pub returns-in_default-clause-row : goal.returns-in_default-clause-row
-returns-in_default-clause-row g c = λ _ is. absurd (none_not_some _ is)
-
-pub returns-in_default-clause-unmapped : goal.returns-in_default-clause-unmapped
-returns-in_default-clause-unmapped g c = λ _. (refl, refl)
-
-pub returns-in_default-clause-checked : goal.returns-in_default-clause-checked
-returns-in_default-clause-checked g c = gives_nothing c.args.self.now.geometry c.args.self.now.directory c.args.sector c.entries-entries.result _ c.entries-entries.ensures c.row_of-found.result c.row_of-found.ensures.value (none_from c.row_of-found.result c.in_default.not-Some)
-
-pub returns-in_err-read_of-clause-looks : goal.returns-in_err-read_of-clause-looks
-returns-in_err-read_of-clause-looks g c =
-    let p = err_from_is_err_and c.from_residual.result c.from_residual.ensures.1 in
-    rw (p.1, p.2) (looks_err _ _ _ (looks_scratch c.args.self.now c.read_of.new.nand c.read_of.new.buffer _ c.requires.safe c.read_of.ensures.buffer c.read_of.ensures.only_reads c.read_of.ensures.asked
-    c.in_err-read_of.ensures.faults c.in_err-read_of.ensures.rose c.in_err-read_of.ensures.same c.in_err-read_of.ensures.told c.in_err-read_of.ensures.cut))
-
-pub returns-in_err-read_of-clause-page : goal.returns-in_err-read_of-clause-page
-returns-in_err-read_of-clause-page g c = refl
-
-pub returns-in_err-read_of-clause-reads : goal.returns-in_err-read_of-clause-reads
-returns-in_err-read_of-clause-reads g c = reads_counted _ _ c.read_of.ensures.reads
-
-pub returns-in_err-read_of-clause-row : goal.returns-in_err-read_of-clause-row
-returns-in_err-read_of-clause-row g c =
-    let p = err_from_is_err_and c.from_residual.result c.from_residual.ensures.1 in
-    rw p.1 (tt)
-
-pub returns-in_err-read_of-clause-unmapped : goal.returns-in_err-read_of-clause-unmapped
-returns-in_err-read_of-clause-unmapped g c = λ none. absurd (is_mapped c.args.self.now.geometry c.args.self.now.directory c.args.sector c.entries-entries.result c.in-Some.at c.row_of-found.result c.entries-entries.ensures c.row_of-found.ensures.value c.in-Some.is none)
-
-pub returns-in_err-read_of-clause-checked : goal.returns-in_err-read_of-clause-checked
-returns-in_err-read_of-clause-checked g c =
-    let p = err_from_is_err_and c.from_residual.result c.from_residual.ensures.1 in
-    rw p.1 (tt)
+pub returns : goal.returns
+returns g c = record {
+  looks = looks_tested _ _ _ _ c.checked_entry.ensures.damaged (looks_scratch c.args.self.now c.read_of.new.nand c.read_of.new.buffer _ c.requires.safe c.read_of.ensures.buffer c.read_of.ensures.only_reads c.read_of.ensures.asked
+      c.in_ok-read_of.ensures.faults c.in_ok-read_of.ensures.rose c.in_ok-read_of.ensures.same c.in_ok-read_of.ensures.told c.in_ok-read_of.ensures.cut);
+  page = refl;
+  reads = reads_counted _ _ c.read_of.ensures.reads;
+  row = c.checked_entry.ensures.row;
+  unmapped = λ none. absurd (is_mapped c.args.self.now.geometry c.args.self.now.directory c.args.sector c.entries-entries.result c.in-Some.at c.row_of-found.result c.entries-entries.ensures c.row_of-found.ensures.value c.in-Some.is none);
+  checked = gives_checked c.args.self.now.geometry c.args.self.now.directory c.args.sector c.entries-entries.result _ c.entries-entries.ensures _ _ c.checked_entry.result c.in_ok-read_of.ensures.checked c.deref.ensures.value c.checked_entry.ensures.entry;
+  truth = λ honest w.
+      let at = newest_at c.args.self.now.geometry _ c.args.self.now.directory c.args.self.now.mapping c.args.sector c.entries-entries.result c.row_of-found.result (Some c.in-Some.at) w.maps c.requires.sector c.entries-entries.ensures c.row_of-found.ensures.value c.in-Some.is in
+      found_by c.args.self.now.geometry _ c.args.self.now.directory c.args.self.now.mapping c.args.sector c.entries-entries.result w.maps
+      c.requires.sector c.entries-entries.ensures c.requires.unknown c.in-Some.at
+      (page c.read_of.new.buffer.body.items c.read_of.new.buffer.spare.items) c.deref.result.now c.checked_entry.result w.whole.rows at
+      (c.in_ok-read_of.ensures.page honest) c.deref.ensures.value c.checked_entry.ensures.entry c.checked_entry.ensures.undamaged;
+}
 
 pub read_of-requires-clause-row_in : goal.read_of-requires-clause-row_in
 read_of-requires-clause-row_in g c = c.requires.safe.memory.directory_rows _ _ (c.row_of-found.ensures.value ∙ ap (λ o. Some o) c.in-Some.is)

@@ -9,44 +9,28 @@ use Rattle.collection.proofs.Programs.{buffer_both}
 use Rattle.std.proofs.lemmas.Grind.{common_steps}
 use Rattle.collection.proofs.engine.Engine.take_page.Goals as goal
 
-pub returns-in-Ok-clause-truth : goal.returns-in-Ok-clause-truth
-returns-in-Ok-clause-truth g c = λ honest. rw
-    (with_items_is c.args.self.now.page.body c.read_sound.new.body (c.read_sound.auto.body ∙ c.deref_mut.ensures.len))
-    (taken_page _ c.args.row (page c.read_sound.new.body c.read_sound.new.spare) c.in-Ok.found (c.in-Ok.ensures.page honest) c.in-Ok.ensures.record)
+pub returns-in-Ok : goal.returns-in-Ok
+returns-in-Ok g c = record {
+  looks = looks_read c.args.self.now c.read_sound.new.nand _ _ c.requires.safe (buffer_both c.args.self.now.geometry c.args.self.now.page c.read_sound.new.body c.read_sound.new.spare c.requires.safe.page)
+      c.read_sound.ensures.only_reads (asks_one g.N.PageSource.view.called c.args.self.now.nand c.read_sound.new.nand _ c.read_sound.ensures.called) tt
+      (λ is. absurd (ok_not_bus _ is)) (λ honest ne. c.in-Ok.ensures.same honest) (λ honest ne. c.in-Ok.ensures.told honest) (λ honest is. absurd (ok_not_bus _ is));
+  reads = search rules;
+  faults = tt;
+  sound = grind (arith, common_steps);
+  stands = grind (arith, common_steps);
+  truth = λ honest. rw
+      (with_items_is c.args.self.now.page.body c.read_sound.new.body (c.read_sound.auto.body ∙ c.deref_mut.ensures.len))
+      (taken_page _ c.args.row (page c.read_sound.new.body c.read_sound.new.spare) c.in-Ok.found (c.in-Ok.ensures.page honest) c.in-Ok.ensures.record);
+}
 
-pub returns-in-Ok-clause-looks : goal.returns-in-Ok-clause-looks
-returns-in-Ok-clause-looks g c = looks_read c.args.self.now c.read_sound.new.nand _ _ c.requires.safe (buffer_both c.args.self.now.geometry c.args.self.now.page c.read_sound.new.body c.read_sound.new.spare c.requires.safe.page)
-    c.read_sound.ensures.only_reads (asks_one g.N.PageSource.view.called c.args.self.now.nand c.read_sound.new.nand _ c.read_sound.ensures.called) tt
-    (λ is. absurd (ok_not_bus _ is)) (λ honest ne. c.in-Ok.ensures.same honest) (λ honest ne. c.in-Ok.ensures.told honest) (λ honest is. absurd (ok_not_bus _ is))
-
-pub returns-in-Err-clause-looks : goal.returns-in-Err-clause-looks
-returns-in-Err-clause-looks g c = looks_read c.args.self.now c.read_sound.new.nand _ _ c.requires.safe (buffer_both c.args.self.now.geometry c.args.self.now.page c.read_sound.new.body c.read_sound.new.spare c.requires.safe.page)
-    c.read_sound.ensures.only_reads (asks_one g.N.PageSource.view.called c.args.self.now.nand c.read_sound.new.nand _ c.read_sound.ensures.called) tt
-    (λ is. c.in-Err.ensures.rose) (λ honest ne. absurd (ne refl)) (λ honest ne. absurd (ne refl)) (λ honest is. c.in-Err.ensures.cut honest)
-
-pub returns-in-Err-clause-reads : goal.returns-in-Err-clause-reads
-returns-in-Err-clause-reads g c = search rules
-
-pub returns-in-Ok-clause-reads : goal.returns-in-Ok-clause-reads
-returns-in-Ok-clause-reads g c = search rules
-
-pub returns-in-Ok-clause-faults : goal.returns-in-Ok-clause-faults
-returns-in-Ok-clause-faults g c = tt
-
-pub returns-in-Ok-clause-sound : goal.returns-in-Ok-clause-sound
-returns-in-Ok-clause-sound g c = grind (arith, common_steps)
-
-pub returns-in-Ok-clause-stands : goal.returns-in-Ok-clause-stands
-returns-in-Ok-clause-stands g c = grind (arith, common_steps)
-
-pub returns-in-Err-clause-faults : goal.returns-in-Err-clause-faults
-returns-in-Err-clause-faults g c = refl
-
-pub returns-in-Err-clause-sound : goal.returns-in-Err-clause-sound
-returns-in-Err-clause-sound g c = tt
-
-pub returns-in-Err-clause-stands : goal.returns-in-Err-clause-stands
-returns-in-Err-clause-stands g c = λ _. tt
-
-pub returns-in-Err-clause-truth : goal.returns-in-Err-clause-truth
-returns-in-Err-clause-truth g c = λ _. tt
+pub returns-in-Err : goal.returns-in-Err
+returns-in-Err g c = record {
+  looks = looks_read c.args.self.now c.read_sound.new.nand _ _ c.requires.safe (buffer_both c.args.self.now.geometry c.args.self.now.page c.read_sound.new.body c.read_sound.new.spare c.requires.safe.page)
+      c.read_sound.ensures.only_reads (asks_one g.N.PageSource.view.called c.args.self.now.nand c.read_sound.new.nand _ c.read_sound.ensures.called) tt
+      (λ is. c.in-Err.ensures.rose) (λ honest ne. absurd (ne refl)) (λ honest ne. absurd (ne refl)) (λ honest is. c.in-Err.ensures.cut honest);
+  reads = search rules;
+  faults = refl;
+  sound = tt;
+  stands = λ _. tt;
+  truth = λ _. tt;
+}

@@ -1,10 +1,10 @@
-use Rattle.std.proofs.Common.{◌∙◌, ap, sym, subst, ◌<◌, ◌≤◌, ◌+◌, ◌≡◌}
+use Rattle.std.proofs.Common.{◌∙◌, ap, sym, subst, ◌<◌, ◌≡◌}
 use Rattle.std.proofs.lemmas.Result.{err_from_is_err_and, on_ok_weaker}
 use Rattle.mapping_cache.specs.Mapping.{cleaned, per_page}
 use Rattle.collection.specs.Safe.{ram}
 use Rattle.collection.proofs.Looks.{directory_row, ok_not_bus}
 use Rattle.collection.proofs.Acts.{acts_err, looked, acts_then}
-use Rattle.collection.proofs.WriteBacks.{read_costs, loaded_costs, holds_loaded, true_loaded, written_loaded}
+use Rattle.collection.proofs.WriteBacks.{read_costs, loaded_costs, loaded_known, written_loaded}
 use Rattle.collection.proofs.Stops.{stops_looked, fault_not_bus}
 use Rattle.collection.proofs.Cuts.{cut_read, cut_looking}
 use Rattle.collection.proofs.Steps.{at_start, err_same}
@@ -20,30 +20,35 @@ use Rattle.collection.proofs.engine.Engine.write_page_back.Goals as goal
 
 -- ---- the page could not be read
 
-pub returns-in_err-load_translation-clause-cost : goal.returns-in_err-load_translation-clause-cost
-returns-in_err-load_translation-clause-cost g c =
+pub returns-in_err-load_translation : goal.returns-in_err-load_translation
+returns-in_err-load_translation g c =
     let p = err_from_is_err_and c.from_residual.result c.from_residual.ensures.1 in
-    rw (p.1, p.2) (read_costs (ram c.args.self.now) (ram c.load_translation.new.self) _ c.load_translation.ensures.looks.memory c.in_err-load_translation.ensures.looks.faults)
-
-pub returns-in_err-load_translation-clause-acts : goal.returns-in_err-load_translation-clause-acts
-returns-in_err-load_translation-clause-acts g c =
-    let p = err_from_is_err_and c.from_residual.result c.from_residual.ensures.1 in
-    rw (p.1, p.2) (acts_err _ _ _ (looked _ _ _ c.in_err-load_translation.ensures.looks))
-
-pub returns-in_err-load_translation-clause-stops : goal.returns-in_err-load_translation-clause-stops
-returns-in_err-load_translation-clause-stops g c =
-    let p = err_from_is_err_and c.from_residual.result c.from_residual.ensures.1 in
-    rw (p.1, p.2)
-    (λ honest w ne. absurd
-    (fault_not_bus _ ne
-    (c.in_err-load_translation.ensures.truth honest
-    (directory_row c.args.self.now.geometry _ c.args.self.now.directory c.args.self.now.mapping c.args.t c.row_of-row.result w.maps
-    c.requires.page c.row_of-row.ensures.value))))
-
-pub returns-in_err-load_translation-clause-cut : goal.returns-in_err-load_translation-clause-cut
-returns-in_err-load_translation-clause-cut g c =
-    let p = err_from_is_err_and c.from_residual.result c.from_residual.ensures.1 in
-    rw (p.1, p.2) (λ honest w is. cut_read (ram c.args.self.now) _ _ _ c.requires.safe.memory w (c.in_err-load_translation.ensures.looks.cut honest (err_same _ _ is)))
+    rw (p.1, p.2) (record {
+      acts = acts_err _ _ _ (looked _ _ _ c.in_err-load_translation.ensures.looks);
+      goes = goes_is (ram c.args.self.now) (ram c.load_translation.new.self) c.load_translation.ensures.looks.memory;
+      reads = c.load_translation.ensures.reads;
+      erases = c.load_translation.ensures.looks.only_reads.erases_are;
+      pin = ap (λ r. r.pin) c.load_translation.ensures.looks.memory;
+      cleaned = tt;
+      cleans = tt;
+      keys = ap (λ r. keys_of r.mapping.cached) c.load_translation.ensures.looks.memory;
+      no_more = no_more_is _ _ (ap (λ r. r.mapping) c.load_translation.ensures.looks.memory);
+      mapping = ap (λ r. r.mapping) c.load_translation.ensures.looks.memory;
+      padded = tt;
+      checked = tt;
+      programmed = tt;
+      cost = read_costs (ram c.args.self.now) (ram c.load_translation.new.self) _ c.load_translation.ensures.looks.memory c.in_err-load_translation.ensures.looks.faults;
+      truth = λ honest w. unread_refused (ram c.args.self.now) (ram c.load_translation.new.self) _ _ _
+          (c.in_err-load_translation.ensures.truth honest
+          (directory_row c.args.self.now.geometry _ c.args.self.now.directory c.args.self.now.mapping c.args.t c.row_of-row.result w.maps
+          c.requires.page c.row_of-row.ensures.value));
+      stops = λ honest w ne. absurd
+          (fault_not_bus _ ne
+          (c.in_err-load_translation.ensures.truth honest
+          (directory_row c.args.self.now.geometry _ c.args.self.now.directory c.args.self.now.mapping c.args.t c.row_of-row.result w.maps
+          c.requires.page c.row_of-row.ensures.value)));
+      cut = λ honest w is. cut_read (ram c.args.self.now) _ _ _ c.requires.safe.memory w (c.in_err-load_translation.ensures.looks.cut honest (err_same _ _ is));
+    })
 
 -- ---- it was
 
@@ -59,9 +64,8 @@ returns-clause-truth g c = λ honest w.
     let b = ram c.load_translation.new.self in
     let looks = c.in_ok-load_translation.ensures.looks in
     let still = ap (λ f. f.image) (looks.same honest (ok_not_bus _)) in
-    let newest_is = directory_row a.geometry _ a.directory a.mapping c.args.t c.row_of-row.result w.maps c.requires.page c.row_of-row.ensures.value in
-    let holds = holds_loaded a b _ _ c.args.t c.row_of-row.result _ looks.memory still newest_is (c.in_ok-load_translation.ensures.truth honest newest_is) in
-    written_loaded a b _ _ _ _ c.args.t _ looks.memory still (c.write_loaded.ensures.truth (looks.only_reads.honest_is ∙ honest) (true_loaded a b _ _ looks.memory still w) holds)
+    let known = loaded_known a b _ _ c.args.t c.row_of-row.result _ looks.memory still w c.requires.page c.row_of-row.ensures.value (c.in_ok-load_translation.ensures.truth honest) in
+    written_loaded a b _ _ _ _ c.args.t _ looks.memory still (c.write_loaded.ensures.truth (looks.only_reads.honest_is ∙ honest) known.0 known.1)
 
 -- ---- what a stop leaves
 
@@ -71,10 +75,8 @@ returns-clause-stops g c = λ honest w ne.
     let b = ram c.load_translation.new.self in
     let looks = c.in_ok-load_translation.ensures.looks in
     let same = looks.same honest (ok_not_bus _) in
-    let still = ap (λ f. f.image) same in
-    let newest_is = directory_row a.geometry _ a.directory a.mapping c.args.t c.row_of-row.result w.maps c.requires.page c.row_of-row.ensures.value in
-    let holds = holds_loaded a b _ _ c.args.t c.row_of-row.result _ looks.memory still newest_is (c.in_ok-load_translation.ensures.truth honest newest_is) in
-    stops_looked a b _ _ _ _ _ _ looks.memory same (looks.told honest (ok_not_bus _)) (c.write_loaded.ensures.stops (looks.only_reads.honest_is ∙ honest) (true_loaded a b _ _ looks.memory still w) holds ne)
+    let known = loaded_known a b _ _ c.args.t c.row_of-row.result _ looks.memory (ap (λ f. f.image) same) w c.requires.page c.row_of-row.ensures.value (c.in_ok-load_translation.ensures.truth honest) in
+    stops_looked a b _ _ _ _ _ _ looks.memory same (looks.told honest (ok_not_bus _)) (c.write_loaded.ensures.stops (looks.only_reads.honest_is ∙ honest) known.0 known.1 ne)
 
 -- ---- what a fault of the die leaves
 
@@ -84,10 +86,8 @@ returns-clause-cut g c = λ honest w is.
     let b = ram c.load_translation.new.self in
     let looks = c.in_ok-load_translation.ensures.looks in
     let same = looks.same honest (ok_not_bus _) in
-    let still = ap (λ f. f.image) same in
-    let newest_is = directory_row a.geometry _ a.directory a.mapping c.args.t c.row_of-row.result w.maps c.requires.page c.row_of-row.ensures.value in
-    let holds = holds_loaded a b _ _ c.args.t c.row_of-row.result _ looks.memory still newest_is (c.in_ok-load_translation.ensures.truth honest newest_is) in
-    cut_looking a b _ _ _ _ _ looks.memory same (looks.told honest (ok_not_bus _)) (c.write_loaded.ensures.cut (looks.only_reads.honest_is ∙ honest) (true_loaded a b _ _ looks.memory still w) holds is)
+    let known = loaded_known a b _ _ c.args.t c.row_of-row.result _ looks.memory (ap (λ f. f.image) same) w c.requires.page c.row_of-row.ensures.value (c.in_ok-load_translation.ensures.truth honest) in
+    cut_looking a b _ _ _ _ _ looks.memory same (looks.told honest (ok_not_bus _)) (c.write_loaded.ensures.cut (looks.only_reads.honest_is ∙ honest) known.0 known.1 is)
 
 pub load_translation-requires-clause-safe : goal.load_translation-requires-clause-safe
 load_translation-requires-clause-safe g c = c.requires.safe
@@ -97,63 +97,6 @@ write_loaded-requires-clause-safe g c = c.load_translation.ensures.looks.safe
 
 pub write_loaded-requires-clause-page : goal.write_loaded-requires-clause-page
 write_loaded-requires-clause-page g c = subst (λ r. c.args.t < translation_pages r.geometry) (sym c.load_translation.ensures.looks.memory) c.requires.page
-
-pub returns-in_err-load_translation-clause-goes : goal.returns-in_err-load_translation-clause-goes
-returns-in_err-load_translation-clause-goes g c = goes_is (ram c.args.self.now) (ram c.load_translation.new.self) c.load_translation.ensures.looks.memory
-
-pub returns-in_err-load_translation-clause-reads : goal.returns-in_err-load_translation-clause-reads
-returns-in_err-load_translation-clause-reads g c = c.load_translation.ensures.reads
-
-pub returns-in_err-load_translation-clause-erases : goal.returns-in_err-load_translation-clause-erases
-returns-in_err-load_translation-clause-erases g c = c.load_translation.ensures.looks.only_reads.erases_are
-
-pub returns-in_err-load_translation-clause-pin : goal.returns-in_err-load_translation-clause-pin
-returns-in_err-load_translation-clause-pin g c = ap (λ r. r.pin) c.load_translation.ensures.looks.memory
-
-pub returns-in_err-load_translation-clause-cleaned : goal.returns-in_err-load_translation-clause-cleaned
-returns-in_err-load_translation-clause-cleaned g c =
-    let p = err_from_is_err_and c.from_residual.result c.from_residual.ensures.1 in
-    rw p.1 (tt)
-
-pub returns-in_err-load_translation-clause-cleans : goal.returns-in_err-load_translation-clause-cleans
-returns-in_err-load_translation-clause-cleans g c =
-    let p = err_from_is_err_and c.from_residual.result c.from_residual.ensures.1 in
-    rw p.1 (tt)
-
-pub returns-in_err-load_translation-clause-keys : goal.returns-in_err-load_translation-clause-keys
-returns-in_err-load_translation-clause-keys g c = ap (λ r. keys_of r.mapping.cached) c.load_translation.ensures.looks.memory
-
-pub returns-in_err-load_translation-clause-no_more : goal.returns-in_err-load_translation-clause-no_more
-returns-in_err-load_translation-clause-no_more g c = no_more_is _ _ (ap (λ r. r.mapping) c.load_translation.ensures.looks.memory)
-
-pub returns-in_err-load_translation-clause-mapping : goal.returns-in_err-load_translation-clause-mapping
-returns-in_err-load_translation-clause-mapping g c =
-    let p = err_from_is_err_and c.from_residual.result c.from_residual.ensures.1 in
-    rw p.1 (ap (λ r. r.mapping) c.load_translation.ensures.looks.memory)
-
-pub returns-in_err-load_translation-clause-padded : goal.returns-in_err-load_translation-clause-padded
-returns-in_err-load_translation-clause-padded g c =
-    let p = err_from_is_err_and c.from_residual.result c.from_residual.ensures.1 in
-    rw p.1 (tt)
-
-pub returns-in_err-load_translation-clause-checked : goal.returns-in_err-load_translation-clause-checked
-returns-in_err-load_translation-clause-checked g c =
-    let p = err_from_is_err_and c.from_residual.result c.from_residual.ensures.1 in
-    rw p.1 (tt)
-
-pub returns-in_err-load_translation-clause-programmed : goal.returns-in_err-load_translation-clause-programmed
-returns-in_err-load_translation-clause-programmed g c =
-    let p = err_from_is_err_and c.from_residual.result c.from_residual.ensures.1 in
-    rw p.1 (tt)
-
-pub returns-in_err-load_translation-clause-truth : goal.returns-in_err-load_translation-clause-truth
-returns-in_err-load_translation-clause-truth g c =
-    let p = err_from_is_err_and c.from_residual.result c.from_residual.ensures.1 in
-    rw (p.1, p.2)
-    (λ honest w. unread_refused (ram c.args.self.now) (ram c.load_translation.new.self) _ _ _
-    (c.in_err-load_translation.ensures.truth honest
-    (directory_row c.args.self.now.geometry _ c.args.self.now.directory c.args.self.now.mapping c.args.t c.row_of-row.result w.maps
-    c.requires.page c.row_of-row.ensures.value)))
 
 pub returns-clause-goes : goal.returns-clause-goes
 returns-clause-goes g c = goes_from (ram c.args.self.now) (ram c.load_translation.new.self) (ram c.write_loaded.new.self) c.load_translation.ensures.looks.memory c.write_loaded.ensures.goes

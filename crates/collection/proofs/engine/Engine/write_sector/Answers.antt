@@ -12,26 +12,50 @@ use Rattle.collection.proofs.Memory.{goes_same}
 use Rattle.collection.proofs.Ends.{last_noted, settled_noted, page_cost_noted, written_noted, no_more_still}
 use Rattle.collection.proofs.engine.Engine.write_sector.Goals as goal
 
--- ---- what a stop leaves
-
-pub returns-clause-stops : goal.returns-clause-stops
-returns-clause-stops g c = λ honest none w. rw (c.noted.ensures.same, c.noted.ensures.noted) (λ ne. c.append-answer.ensures.stops honest w ne)
-
--- ---- what a fault of the die leaves
-
-pub returns-clause-cut : goal.returns-clause-cut
-returns-clause-cut g c = λ honest none w. rw (c.noted.ensures.same, c.noted.ensures.noted) (λ e.
-    cut_bytes (λ bytes. IsPutByStop Sector c.args.sector bytes (ram c.args.self.now) (image_in g.N.PageSource.view.flash c.args.self.now)) _ _ _ _ _ c.copy_from_slice.ensures.items (c.append-answer.ensures.cut honest w e))
+pub returns : goal.returns
+returns g c =
+    rw (c.noted.ensures.same, c.noted.ensures.noted) (record {
+      stands = acts_noted _ _ _ (not_standing _ _ c.in_ok-standing.ensures) (acts_filled _ _ _ _ c.append-answer.ensures.acts);
+      goes = goes_noted _ _ _ c.append-answer.ensures.goes;
+      only_programs = c.append-answer.ensures.only_programs;
+      pin = c.append-answer.ensures.pin;
+      keys = c.append-answer.ensures.keys;
+      no_more = c.append-answer.ensures.no_more;
+      moved = c.append-answer.ensures.moved;
+      settled = settled_noted _ c.args.sector (ram c.args.self.now) (ram c.append-answer.new.self) c.append-answer.result c.append-answer.ensures.settled;
+      page = λ none. ap (λ b. b.items) c.append-answer.ensures.page ∙ c.copy_from_slice.ensures.items;
+      scratch = c.append-answer.ensures.scratch;
+      programmed = last_noted _ Sector c.args.sector (ram c.append-answer.new.self) _ c.append-answer.result c.append-answer.ensures.programmed;
+      cost = λ none. page_cost_noted _ Data (ram c.args.self.now) (ram c.append-answer.new.self) c.append-answer.result c.append-answer.ensures.cost;
+      truth = λ honest none w. written_noted _ Sector c.args.sector c.args.body.now _ (ram c.args.self.now) (ram c.append-answer.new.self) _ _ c.append-answer.result
+          c.copy_from_slice.ensures.items (c.append-answer.ensures.truth honest w);
+      stops = λ honest none w ne. c.append-answer.ensures.stops honest w ne;
+      cut = λ honest none w e.
+          cut_bytes (λ bytes. IsPutByStop Sector c.args.sector bytes (ram c.args.self.now) (image_in g.N.PageSource.view.flash c.args.self.now)) _ _ _ _ _ c.copy_from_slice.ensures.items (c.append-answer.ensures.cut honest w e);
+    })
 
 -- ---- a fault stands
 
-pub returns-in_err-standing-clause-stands : goal.returns-in_err-standing-clause-stands
-returns-in_err-standing-clause-stands g c =
+pub returns-in_err-standing : goal.returns-in_err-standing
+returns-in_err-standing g c =
     let p = err_from_is_err_and c.from_residual.result c.from_residual.ensures.1 in
-    rw (p.1, p.2) (stands_still _ _ c.requires.safe (is_standing _ _ c.in_err-standing.ensures))
-
-pub returns-clause-stands : goal.returns-clause-stands
-returns-clause-stands g c = rw (c.noted.ensures.same, c.noted.ensures.noted) (acts_noted _ _ _ (not_standing _ _ c.in_ok-standing.ensures) (acts_filled _ _ _ _ c.append-answer.ensures.acts))
+    rw (p.1, p.2) (record {
+      stands = stands_still _ _ c.requires.safe (is_standing _ _ c.in_err-standing.ensures);
+      goes = goes_same _;
+      only_programs = record { reads_are = refl; erases_are = refl };
+      pin = refl;
+      keys = refl;
+      no_more = no_more_still _;
+      moved = refl;
+      settled = tt;
+      page = λ none. absurd (standing_none _ _ c.in_err-standing.ensures none);
+      scratch = refl;
+      programmed = tt;
+      cost = λ none. absurd (standing_none _ _ c.in_err-standing.ensures none);
+      truth = λ _ none. absurd (standing_none _ _ c.in_err-standing.ensures none);
+      stops = λ _ none. absurd (standing_none _ _ c.in_err-standing.ensures none);
+      cut = λ _ none. absurd (standing_none _ _ c.in_err-standing.ensures none);
+    })
 
 pub append-answer-requires-clause-safe : goal.append-answer-requires-clause-safe
 append-answer-requires-clause-safe g c = record {
@@ -40,90 +64,3 @@ append-answer-requires-clause-safe g c = record {
   page = record { body = ap length c.copy_from_slice.ensures.items ∙ c.requires.body; spare = c.requires.safe.page.spare };
   scratch = c.requires.safe.scratch;
 }
-
-pub returns-clause-goes : goal.returns-clause-goes
-returns-clause-goes g c = rw c.noted.ensures.noted (goes_noted _ _ _ c.append-answer.ensures.goes)
-
-pub returns-clause-only_programs : goal.returns-clause-only_programs
-returns-clause-only_programs g c = rw c.noted.ensures.noted c.append-answer.ensures.only_programs
-
-pub returns-clause-pin : goal.returns-clause-pin
-returns-clause-pin g c = rw c.noted.ensures.noted c.append-answer.ensures.pin
-
-pub returns-clause-keys : goal.returns-clause-keys
-returns-clause-keys g c = rw c.noted.ensures.noted c.append-answer.ensures.keys
-
-pub returns-clause-no_more : goal.returns-clause-no_more
-returns-clause-no_more g c = rw c.noted.ensures.noted c.append-answer.ensures.no_more
-
-pub returns-clause-moved : goal.returns-clause-moved
-returns-clause-moved g c = rw c.noted.ensures.noted c.append-answer.ensures.moved
-
-pub returns-clause-scratch : goal.returns-clause-scratch
-returns-clause-scratch g c = rw c.noted.ensures.noted c.append-answer.ensures.scratch
-
-pub returns-clause-settled : goal.returns-clause-settled
-returns-clause-settled g c = rw (c.noted.ensures.same, c.noted.ensures.noted)
-    (settled_noted _ c.args.sector (ram c.args.self.now) (ram c.append-answer.new.self) c.append-answer.result c.append-answer.ensures.settled)
-
-pub returns-clause-page : goal.returns-clause-page
-returns-clause-page g c = λ none. rw c.noted.ensures.noted (ap (λ b. b.items) c.append-answer.ensures.page ∙ c.copy_from_slice.ensures.items)
-
-pub returns-clause-programmed : goal.returns-clause-programmed
-returns-clause-programmed g c = rw (c.noted.ensures.same, c.noted.ensures.noted)
-    (last_noted _ Sector c.args.sector (ram c.append-answer.new.self) _ c.append-answer.result c.append-answer.ensures.programmed)
-
-pub returns-clause-cost : goal.returns-clause-cost
-returns-clause-cost g c = λ none. rw (c.noted.ensures.same, c.noted.ensures.noted)
-    (page_cost_noted _ Data (ram c.args.self.now) (ram c.append-answer.new.self) c.append-answer.result c.append-answer.ensures.cost)
-
-pub returns-clause-truth : goal.returns-clause-truth
-returns-clause-truth g c = λ honest none w. rw (c.noted.ensures.same, c.noted.ensures.noted)
-    (written_noted _ Sector c.args.sector c.args.body.now _ (ram c.args.self.now) (ram c.append-answer.new.self) _ _ c.append-answer.result
-    c.copy_from_slice.ensures.items (c.append-answer.ensures.truth honest w))
-
-pub returns-in_err-standing-clause-goes : goal.returns-in_err-standing-clause-goes
-returns-in_err-standing-clause-goes g c = goes_same _
-
-pub returns-in_err-standing-clause-only_programs : goal.returns-in_err-standing-clause-only_programs
-returns-in_err-standing-clause-only_programs g c = record { reads_are = refl; erases_are = refl }
-
-pub returns-in_err-standing-clause-pin : goal.returns-in_err-standing-clause-pin
-returns-in_err-standing-clause-pin g c = refl
-
-pub returns-in_err-standing-clause-keys : goal.returns-in_err-standing-clause-keys
-returns-in_err-standing-clause-keys g c = refl
-
-pub returns-in_err-standing-clause-no_more : goal.returns-in_err-standing-clause-no_more
-returns-in_err-standing-clause-no_more g c = no_more_still _
-
-pub returns-in_err-standing-clause-moved : goal.returns-in_err-standing-clause-moved
-returns-in_err-standing-clause-moved g c = refl
-
-pub returns-in_err-standing-clause-settled : goal.returns-in_err-standing-clause-settled
-returns-in_err-standing-clause-settled g c =
-    let p = err_from_is_err_and c.from_residual.result c.from_residual.ensures.1 in
-    rw p.1 (tt)
-
-pub returns-in_err-standing-clause-page : goal.returns-in_err-standing-clause-page
-returns-in_err-standing-clause-page g c = λ none. absurd (standing_none _ _ c.in_err-standing.ensures none)
-
-pub returns-in_err-standing-clause-scratch : goal.returns-in_err-standing-clause-scratch
-returns-in_err-standing-clause-scratch g c = refl
-
-pub returns-in_err-standing-clause-programmed : goal.returns-in_err-standing-clause-programmed
-returns-in_err-standing-clause-programmed g c =
-    let p = err_from_is_err_and c.from_residual.result c.from_residual.ensures.1 in
-    rw p.1 (tt)
-
-pub returns-in_err-standing-clause-cost : goal.returns-in_err-standing-clause-cost
-returns-in_err-standing-clause-cost g c = λ none. absurd (standing_none _ _ c.in_err-standing.ensures none)
-
-pub returns-in_err-standing-clause-truth : goal.returns-in_err-standing-clause-truth
-returns-in_err-standing-clause-truth g c = λ _ none. absurd (standing_none _ _ c.in_err-standing.ensures none)
-
-pub returns-in_err-standing-clause-stops : goal.returns-in_err-standing-clause-stops
-returns-in_err-standing-clause-stops g c = λ _ none. absurd (standing_none _ _ c.in_err-standing.ensures none)
-
-pub returns-in_err-standing-clause-cut : goal.returns-in_err-standing-clause-cut
-returns-in_err-standing-clause-cut g c = λ _ none. absurd (standing_none _ _ c.in_err-standing.ensures none)

@@ -1,10 +1,8 @@
-use Rattle.std.proofs.Common.{◌*◌, ◌+◌, ◌∙◌, ◌≤◌, ℕ, [], false, inl, inr, length, refl, replicate, subst, sym}
-use Rattle.std.proofs.lemmas.List.{length-replicate}
-use Rattle.nbd_stream.specs.declared.task.Task.TheVariants as task
+use Rattle.std.proofs.Common.{◌*◌, ◌+◌, ◌∙◌, ◌≤◌, inr, length, refl, subst, sym}
 use Rattle.disk_server.specs.Asked.{SparesZeros}
 use Rattle.disk_server.specs.Guarded.{ReadsGuarded, guarded_contents}
 use Rattle.disk_server.proofs.Bytes.{sector_fits}
-use Rattle.disk_server.proofs.GuardedLemmas.{change_shown, failed_shown, listed_zeros, shown_zeros}
+use Rattle.disk_server.proofs.GuardedLemmas.{listed_zeros, shown_zeros, zeros_failed, zeros_shown}
 use Rattle.disk_server.proofs.guarded.GuardedSectorsSectors.clear_sector.Given.{Over}
 use Rattle.disk_server.proofs.guarded.GuardedSectorsSectors.clear_sector.Goals.{After-know}
 use Rattle.disk_server.proofs.guarded.GuardedSectorsSectors.clear_sector.Goals as goal
@@ -15,18 +13,12 @@ sector_within g c = sector_fits c.args.sector (g.S.Sectors.count c.args.self.now
 
 pub returns-in-Ok-clause-performs : goal.returns-in-Ok-clause-performs
 returns-in-Ok-clause-performs g c =
-    let n = c.args.sector in
-    let size = g.S.Sectors.size c.args.self.now.sectors in
-    change_shown g.S.Sectors.contents g.S.Sectors.size g.S.Sectors.honest g.K.KeepsLost.kept g.S.Sectors.calm n (task.Trim (n * size) size false) [] (replicate size 0) c.args.self.now
-    (λ l. refl) (λ l. refl) (inl refl) c.know.ensures.some (length-replicate {A = ℕ} size 0) (g.S.Sectors.count c.args.self.now.sectors) c.requires.within c.know.ensures.whole
+    zeros_shown g.S.Sectors.contents g.S.Sectors.size g.S.Sectors.honest g.K.KeepsLost.kept g.S.Sectors.calm c.args.sector c.args.self.now c.know.ensures.some (g.S.Sectors.count c.args.self.now.sectors) c.requires.within c.know.ensures.whole
     c.clear_sector.new.self c.heal.new.self c.in-Ok.ensures.size c.heal.ensures.sectors c.in-Ok.ensures.performs c.heal.result c.heal.ensures.heals c.heal.ensures.unlisted c.heal.ensures.taken c.heal.ensures.fault
 
 pub returns-in-Err-clause-performs : goal.returns-in-Err-clause-performs
 returns-in-Err-clause-performs g c =
-    let n = c.args.sector in
-    let size = g.S.Sectors.size c.args.self.now.sectors in
-    failed_shown g.S.Sectors.contents g.S.Sectors.size g.S.Sectors.honest g.S.Sectors.calm n (task.Trim (n * size) size false) [] (replicate size 0) c.args.self.now
-    (λ l. refl) (λ l. refl) c.know.ensures.some (length-replicate {A = ℕ} size 0) (g.S.Sectors.count c.args.self.now.sectors) c.requires.within c.know.ensures.whole
+    zeros_failed g.S.Sectors.contents g.S.Sectors.size g.S.Sectors.honest g.S.Sectors.calm c.args.sector c.args.self.now c.know.ensures.some (g.S.Sectors.count c.args.self.now.sectors) c.requires.within c.know.ensures.whole
     (record { sectors = c.clear_sector.new.self; keeper = c.args.self.now.keeper; lost = c.args.self.now.lost; failed = c.args.self.now.failed })
     _ c.in-Err.ensures.size refl c.in-Err.ensures.performs
 

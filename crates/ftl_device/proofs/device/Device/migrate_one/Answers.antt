@@ -5,8 +5,7 @@ use Rattle.collection.proofs.Looks.{none_from}
 use Rattle.std.proofs.lemmas.Result.{err_from_is_err_and}
 use Rattle.promises.specs.Step as step
 use Rattle.collection.specs.Safe.{ram, image_in}
-use Rattle.ftl_device.proofs.FlushLoops.{keeps_same}
-use Rattle.ftl_device.proofs.LeaveLemmas.{leaves_same, leaves_ends}
+use Rattle.ftl_device.proofs.LeaveLemmas.{leaves_same}
 use Rattle.ftl_device.proofs.ShownLemmas.{left_after}
 use Rattle.ftl_device.proofs.SpentLemmas.{five_free}
 use Rattle.ftl_device.proofs.UpkeepLemmas.{upkept_by, not_upkept}
@@ -17,7 +16,7 @@ use Rattle.ftl_device.proofs.CostLemmas.{done_after}
 use Rattle.ftl_device.proofs.PinLemmas.{knows_well}
 use Rattle.ftl_device.proofs.CursorLemmas.{device_at, kept_ready}
 use Rattle.ftl_device.proofs.ReadRefusals.{only_reads_none}
-use Rattle.ftl_device.proofs.AnswerLemmas.{no_true, no_false, no_err, no_other, not_small, not_large, told_scarce, told_fewer, told_spent}
+use Rattle.ftl_device.proofs.AnswerLemmas.{kept_look, no_true, no_false, no_err, no_other, not_small, not_large, told_scarce, told_fewer, told_spent}
 use Rattle.ftl_device.proofs.device.Device.migrate_one.Goals as goal
 
 pub returns-in_err-may_flush-clause-upkeeps : goal.returns-in_err-may_flush-clause-upkeeps
@@ -33,13 +32,8 @@ returns-then-spare_bytes-lt-SPARE_FOR_VERSION_2-clause-upkeeps g c =
     let may = c.in_ok-may_flush.ensures.may in
     let five = five_free (ram d.engine) d.read_only c.requires.device.read_only may.writable in
     upkept_by g.N.PageSource.view step.Turn d d c.requires.device c.requires.device may (λ reply s h. h) d.engine _ (Ok tt) (Ok tt) refl refl refl (record {
-      ends = leaves_ends g.N.PageSource.view d.engine
-          d.engine (Ok tt)
-          (leaves_same g.N.PageSource.view d.engine
-          c.requires.device.engine may.going) (record { geometry = refl; capacity = refl; share = refl }) c.requires.device.calm;
-      cut = λ honest w bus. absurd (no_err _ _ _ refl bus);
+      kept = kept_look g.N.PageSource.view d.engine d.engine tt (c.requires.device.calm may.going) refl (λ honest. refl) (leaves_same g.N.PageSource.view d.engine c.requires.device.engine may.going);
       no_memory = λ e. no_err _ _ _ refl e;
-      truth = λ honest w. keeps_same (ram d.engine) (image_in g.N.PageSource.view.flash d.engine) w;
       lacks = λ honest w fault e. absurd (no_err _ _ _ refl e);
       left = λ honest w log ro flag on. left_after g.N.PageSource.view step.Turn d.engine d.engine d.engine log d.read_only ro (Ok tt) (Ok tt) 0 refl refl c.requires.device.engine.memory c.requires.device.engine.memory refl flag on (inr five);
       worth = λ honest w log its. absurd (no_true its);
@@ -53,14 +47,14 @@ returns-in_err-finish-clause-upkeeps g c =
     rw (p.1, p.2) (upkept_by g.N.PageSource.view step.Turn c.args.self.now c.finish.new.self c.requires.device c.finish.ensures.device c.in_ok-may_flush.ensures.may (λ reply s h. h)
     c.migrate_ready-answer.new.engine c.good-good.result c.migrate_ready-answer.result (Err _) c.finish.ensures.engine c.good-good.ensures c.in_err-finish.ensures.answer
     (kept_ready g.N.PageSource.view c.args.self.now c.migrate_ready-answer.new.engine c.migrate_ready-answer.result c.requires.device c.in_ok-may_flush.ensures.may
-    c.migrate_ready-answer.ensures.ends c.migrate_ready-answer.ensures.cut c.migrate_ready-answer.ensures.memory c.migrate_ready-answer.ensures.truth c.migrate_ready-answer.ensures.count))
+    c.migrate_ready-answer.ensures.kept c.migrate_ready-answer.ensures.memory c.migrate_ready-answer.ensures.count))
 
 pub returns-in_default-clause-upkeeps : goal.returns-in_default-clause-upkeeps
 returns-in_default-clause-upkeeps g c = upkept_by g.N.PageSource.view step.Turn c.args.self.now c.finish.new.self c.requires.device c.finish.ensures.device c.in_ok-may_flush.ensures.may
     (λ reply s h. h)
     c.migrate_ready-answer.new.engine c.good-good.result c.migrate_ready-answer.result (Ok tt) c.finish.ensures.engine c.good-good.ensures c.in_ok-finish.ensures.answer
     (kept_ready g.N.PageSource.view c.args.self.now c.migrate_ready-answer.new.engine c.migrate_ready-answer.result c.requires.device c.in_ok-may_flush.ensures.may
-    c.migrate_ready-answer.ensures.ends c.migrate_ready-answer.ensures.cut c.migrate_ready-answer.ensures.memory c.migrate_ready-answer.ensures.truth c.migrate_ready-answer.ensures.count)
+    c.migrate_ready-answer.ensures.kept c.migrate_ready-answer.ensures.memory c.migrate_ready-answer.ensures.count)
 
 -- ---- and the cursor moves on
 
@@ -73,7 +67,7 @@ returns-clause-upkeeps g c = upkept_by g.N.PageSource.view
     (device_at g.N.PageSource.view.flash c.finish.new.self (c.in-Some.row + 1) c.finish.ensures.device) c.in_ok-may_flush.ensures.may (λ reply s h. h)
     c.migrate_ready-answer.new.engine c.good-good.result c.migrate_ready-answer.result (Ok tt) c.finish.ensures.engine c.good-good.ensures c.in_ok-finish.ensures.answer
     (kept_ready g.N.PageSource.view c.args.self.now c.migrate_ready-answer.new.engine c.migrate_ready-answer.result c.requires.device c.in_ok-may_flush.ensures.may
-    c.migrate_ready-answer.ensures.ends c.migrate_ready-answer.ensures.cut c.migrate_ready-answer.ensures.memory c.migrate_ready-answer.ensures.truth c.migrate_ready-answer.ensures.count)
+    c.migrate_ready-answer.ensures.kept c.migrate_ready-answer.ensures.memory c.migrate_ready-answer.ensures.count)
 
 -- ---- what it brought
 
@@ -196,7 +190,7 @@ pub returns-in_err-finish-clause-device : goal.returns-in_err-finish-clause-devi
 returns-in_err-finish-clause-device g c = c.finish.ensures.device
 
 pub returns-in_err-finish-clause-geometry : goal.returns-in_err-finish-clause-geometry
-returns-in_err-finish-clause-geometry g c = ap (λ e. e.geometry) c.finish.ensures.engine ∙ c.migrate_ready-answer.ensures.ends.geometry
+returns-in_err-finish-clause-geometry g c = ap (λ e. e.geometry) c.finish.ensures.engine ∙ c.migrate_ready-answer.ensures.kept.ends.geometry
 
 pub returns-in_err-finish-clause-small : goal.returns-in_err-finish-clause-small
 returns-in_err-finish-clause-small g c = λ less. absurd (not_small _ _ 40 c.spare_bytes.ensures c.if-spare_bytes-lt-SPARE_FOR_VERSION_2.false less)
@@ -210,7 +204,7 @@ pub returns-in_default-clause-device : goal.returns-in_default-clause-device
 returns-in_default-clause-device g c = c.finish.ensures.device
 
 pub returns-in_default-clause-geometry : goal.returns-in_default-clause-geometry
-returns-in_default-clause-geometry g c = ap (λ e. e.geometry) c.finish.ensures.engine ∙ c.migrate_ready-answer.ensures.ends.geometry
+returns-in_default-clause-geometry g c = ap (λ e. e.geometry) c.finish.ensures.engine ∙ c.migrate_ready-answer.ensures.kept.ends.geometry
 
 pub returns-in_default-clause-small : goal.returns-in_default-clause-small
 returns-in_default-clause-small g c = λ less. absurd (not_small _ _ 40 c.spare_bytes.ensures c.if-spare_bytes-lt-SPARE_FOR_VERSION_2.false less)
@@ -243,7 +237,7 @@ returns-in_default-clause-moves_on g c = λ honest w done. absurd (no_other _ re
 -- ---- one was renewed
 
 pub returns-clause-geometry : goal.returns-clause-geometry
-returns-clause-geometry g c = ap (λ e. e.geometry) c.finish.ensures.engine ∙ c.migrate_ready-answer.ensures.ends.geometry
+returns-clause-geometry g c = ap (λ e. e.geometry) c.finish.ensures.engine ∙ c.migrate_ready-answer.ensures.kept.ends.geometry
 
 pub returns-clause-small : goal.returns-clause-small
 returns-clause-small g c = λ less. absurd (not_small _ _ 40 c.spare_bytes.ensures c.if-spare_bytes-lt-SPARE_FOR_VERSION_2.false less)
@@ -272,29 +266,19 @@ returns-clause-moves_on g c = λ honest w done.
 
 -- ---- what the calls want
 
-pub finish-requires-clause-safe : goal.finish-requires-clause-safe
-finish-requires-clause-safe g c = c.migrate_ready-answer.ensures.ends.safe
+pub finish-requires : goal.finish-requires
+finish-requires g c =
+    let ends = c.migrate_ready-answer.ensures.kept.ends in
+    record {
+      safe = ends.safe;
+      fault = ends.fault;
+      scarce = told_scarce c.migrate_ready-answer.result (ram c.args.self.now.engine) (ram c.migrate_ready-answer.new.engine) ends.tells;
+      fewer = told_fewer c.migrate_ready-answer.result (ram c.args.self.now.engine) (ram c.migrate_ready-answer.new.engine) _ c.good-good.ensures ends.tells;
+      calm = ends.calm_memory;
+      spent = told_spent c.migrate_ready-answer.result (ram c.args.self.now.engine) (ram c.migrate_ready-answer.new.engine) ends.tells;
+    }
 
-pub finish-requires-clause-fault : goal.finish-requires-clause-fault
-finish-requires-clause-fault g c = c.migrate_ready-answer.ensures.ends.fault
-
-pub finish-requires-clause-scarce : goal.finish-requires-clause-scarce
-finish-requires-clause-scarce g c = told_scarce c.migrate_ready-answer.result (ram c.args.self.now.engine) (ram c.migrate_ready-answer.new.engine) c.migrate_ready-answer.ensures.ends.tells
-
-pub finish-requires-clause-fewer : goal.finish-requires-clause-fewer
-finish-requires-clause-fewer g c = told_fewer c.migrate_ready-answer.result (ram c.args.self.now.engine) (ram c.migrate_ready-answer.new.engine) _ c.good-good.ensures c.migrate_ready-answer.ensures.ends.tells
-
-pub finish-requires-clause-calm : goal.finish-requires-clause-calm
-finish-requires-clause-calm g c = c.migrate_ready-answer.ensures.ends.calm_memory
-
-pub finish-requires-clause-spent : goal.finish-requires-clause-spent
-finish-requires-clause-spent g c = told_spent c.migrate_ready-answer.result (ram c.args.self.now.engine) (ram c.migrate_ready-answer.new.engine) c.migrate_ready-answer.ensures.ends.tells
-
-pub migrate_ready-answer-requires-clause-safe : goal.migrate_ready-answer-requires-clause-safe
-migrate_ready-answer-requires-clause-safe g c = c.requires.device.engine
-
-pub migrate_ready-answer-requires-clause-going : goal.migrate_ready-answer-requires-clause-going
-migrate_ready-answer-requires-clause-going g c = c.in_ok-may_flush.ensures.may.going
-
-pub migrate_ready-answer-requires-clause-calm : goal.migrate_ready-answer-requires-clause-calm
-migrate_ready-answer-requires-clause-calm g c = c.requires.device.calm c.in_ok-may_flush.ensures.may.going
+pub migrate_ready-answer-requires : goal.migrate_ready-answer-requires
+migrate_ready-answer-requires g c =
+    let may = c.in_ok-may_flush.ensures.may in
+    record { safe = c.requires.device.engine; going = may.going; calm = c.requires.device.calm may.going }

@@ -8,32 +8,22 @@ use Rattle.collection.specs.Safe.{ram}
 use Rattle.ftl_device.proofs.AnswerLemmas.{told_scarce, told_fewer, told_spent}
 use Rattle.ftl_device.proofs.device.Device.trim.Goals as goal
 
-pub returns-in_err-may_change-clause-changes : goal.returns-in_err-may_change-clause-changes
-returns-in_err-may_change-clause-changes g c =
+pub returns-in_err-may_change : goal.returns-in_err-may_change
+returns-in_err-may_change g c =
     let p = err_from_is_err_and c.from_residual.result c.from_residual.ensures.1 in
-    rw (p.1, p.2)
-    (not_changed g.N.PageSource.view c.args.sector
-    (zeros c.args.self.now.engine.geometry) (step.Trim c.args.sector) c.args.self.now c.requires.device (λ reply s h. h) refl _
-    c.in_err-may_change.ensures.may_not)
+    record {
+      changes = rw (p.1, p.2) (not_changed g.N.PageSource.view c.args.sector (zeros c.args.self.now.engine.geometry) (step.Trim c.args.sector) c.args.self.now c.requires.device (λ reply s h. h) refl _ c.in_err-may_change.ensures.may_not);
+      device = c.requires.device;
+      geometry = refl;
+      cursor = refl;
+    }
 
 pub returns-clause-changes : goal.returns-clause-changes
 returns-clause-changes g c = changed_by g.N.PageSource.view
     c.args.sector (zeros c.args.self.now.engine.geometry) (step.Trim c.args.sector) c.args.self.now c.finish.new.self c.requires.device
-    c.finish.ensures.device c.in_ok-may_change.ensures.may (λ reply s h. h) refl refl Trim (zeros c.args.self.now.engine.geometry) (λ xs. refl)
+    c.finish.ensures.device c.in_ok-may_change.ensures.may (λ reply s h. h) refl refl Trim (λ xs. refl)
     c.trim_ready-answer.new.engine c.good-good.result c.trim_ready-answer.result c.finish.result c.finish.ensures.engine c.good-good.ensures
-    c.finish.ensures.answer c.trim_ready-answer.ensures.ends c.trim_ready-answer.ensures.cut c.trim_ready-answer.ensures.readies c.trim_ready-answer.ensures.cost
-    c.trim_ready-answer.ensures.checked c.trim_ready-answer.ensures.page c.trim_ready-answer.ensures.newest c.trim_ready-answer.ensures.truth
-
--- ---- it was refused at once
-
-pub returns-in_err-may_change-clause-device : goal.returns-in_err-may_change-clause-device
-returns-in_err-may_change-clause-device g c = c.requires.device
-
-pub returns-in_err-may_change-clause-geometry : goal.returns-in_err-may_change-clause-geometry
-returns-in_err-may_change-clause-geometry g c = refl
-
-pub returns-in_err-may_change-clause-cursor : goal.returns-in_err-may_change-clause-cursor
-returns-in_err-may_change-clause-cursor g c = refl
+    c.finish.ensures.answer c.trim_ready-answer.ensures.changes
 
 -- ---- it was tried
 
@@ -41,39 +31,26 @@ pub returns-clause-device : goal.returns-clause-device
 returns-clause-device g c = c.finish.ensures.device
 
 pub returns-clause-geometry : goal.returns-clause-geometry
-returns-clause-geometry g c = ap (λ e. e.geometry) c.finish.ensures.engine ∙ c.trim_ready-answer.ensures.ends.geometry
+returns-clause-geometry g c = ap (λ e. e.geometry) c.finish.ensures.engine ∙ c.trim_ready-answer.ensures.changes.ends.geometry
 
 pub returns-clause-cursor : goal.returns-clause-cursor
 returns-clause-cursor g c = c.finish.ensures.cursor
 
 -- ---- what the calls want
 
-pub finish-requires-clause-safe : goal.finish-requires-clause-safe
-finish-requires-clause-safe g c = c.trim_ready-answer.ensures.ends.safe
+pub finish-requires : goal.finish-requires
+finish-requires g c =
+    let ends = c.trim_ready-answer.ensures.changes.ends in
+    record {
+      safe = ends.safe;
+      fault = ends.fault;
+      scarce = told_scarce c.trim_ready-answer.result (ram c.args.self.now.engine) (ram c.trim_ready-answer.new.engine) ends.tells;
+      fewer = told_fewer c.trim_ready-answer.result (ram c.args.self.now.engine) (ram c.trim_ready-answer.new.engine) _ c.good-good.ensures ends.tells;
+      calm = ends.calm_memory;
+      spent = told_spent c.trim_ready-answer.result (ram c.args.self.now.engine) (ram c.trim_ready-answer.new.engine) ends.tells;
+    }
 
-pub finish-requires-clause-fault : goal.finish-requires-clause-fault
-finish-requires-clause-fault g c = c.trim_ready-answer.ensures.ends.fault
-
-pub finish-requires-clause-scarce : goal.finish-requires-clause-scarce
-finish-requires-clause-scarce g c = told_scarce c.trim_ready-answer.result (ram c.args.self.now.engine) (ram c.trim_ready-answer.new.engine) c.trim_ready-answer.ensures.ends.tells
-
-pub finish-requires-clause-fewer : goal.finish-requires-clause-fewer
-finish-requires-clause-fewer g c = told_fewer c.trim_ready-answer.result (ram c.args.self.now.engine) (ram c.trim_ready-answer.new.engine) _ c.good-good.ensures c.trim_ready-answer.ensures.ends.tells
-
-pub finish-requires-clause-calm : goal.finish-requires-clause-calm
-finish-requires-clause-calm g c = c.trim_ready-answer.ensures.ends.calm_memory
-
-pub finish-requires-clause-spent : goal.finish-requires-clause-spent
-finish-requires-clause-spent g c = told_spent c.trim_ready-answer.result (ram c.args.self.now.engine) (ram c.trim_ready-answer.new.engine) c.trim_ready-answer.ensures.ends.tells
-
-pub trim_ready-answer-requires-clause-safe : goal.trim_ready-answer-requires-clause-safe
-trim_ready-answer-requires-clause-safe g c = c.requires.device.engine
-
-pub trim_ready-answer-requires-clause-going : goal.trim_ready-answer-requires-clause-going
-trim_ready-answer-requires-clause-going g c = c.in_ok-may_change.ensures.may.going
-
-pub trim_ready-answer-requires-clause-calm : goal.trim_ready-answer-requires-clause-calm
-trim_ready-answer-requires-clause-calm g c = c.requires.device.calm c.in_ok-may_change.ensures.may.going
-
-pub trim_ready-answer-requires-clause-sector : goal.trim_ready-answer-requires-clause-sector
-trim_ready-answer-requires-clause-sector g c = c.in_ok-may_change.ensures.may.within
+pub trim_ready-answer-requires : goal.trim_ready-answer-requires
+trim_ready-answer-requires g c =
+    let may = c.in_ok-may_change.ensures.may in
+    record { safe = c.requires.device.engine; going = may.going; calm = c.requires.device.calm may.going; sector = may.within }

@@ -46,3 +46,27 @@ returns-clause-sized c =
       few = search rules;
       room = search rules;
     }
+
+pub note_newest-requires : goal.note_newest-requires
+note_newest-requires c = record {
+  row_in = c.requires.row_in;
+  size = ap length c.deref_mut.ensures.value ∙ c.requires.sized.newest;
+  within = rw c.deref_mut.ensures.value c.requires.sized.within;
+}
+
+pub note_look-requires : goal.note_look-requires
+note_look-requires c = record {
+  row_in = c.requires.row_in;
+  size = ap length c.deref_mut-2.ensures.value ∙ c.requires.sized.looks;
+  bounded = rw c.deref_mut-2.ensures.value c.requires.sized.bounded;
+}
+
+pub note_table-requires : goal.note_table-requires
+note_table-requires c =
+    let sized = c.requires.sized in
+    let newest_is : (with_items c.args.self.now.newest c.note_newest.new.newest).items ≡ c.note_newest.new.newest = with_items_is c.args.self.now.newest c.note_newest.new.newest (c.note_newest.auto.newest ∙ c.deref_mut.ensures.len) in
+    record {
+      size = ap length c.deref_mut-3.ensures.value ∙ sized.tables;
+      newest_size = ap length (c.deref.ensures.value ∙ newest_is) ∙ (c.note_newest.auto.newest ∙ (ap length c.deref_mut.ensures.value ∙ sized.newest));
+      body_whole = c.requires.body_whole;
+    }

@@ -1,35 +1,19 @@
 use Rattle.std.proofs.Common.{◌∙◌, refl, Ok, Err}
 use Rattle.page_layout.specs.Flash.{Erase, block_at}
 use Rattle.onfi_cycles.specs.Outcomes.{is_passed}
+use Rattle.onfi_cycles.proofs.Calling.{erases_so}
 use Rattle.onfi_cycles.proofs.Stepping.{seen_steps}
 use Rattle.onfi_cycles.proofs.driver.DriverNand.erase.Goals as goal
 
 pub returns-in-Ok-clause-called : goal.returns-in-Ok-clause-called
 returns-in-Ok-clause-called g c =
-    let block_in = rw (← c.self.view_is) at c.requires.block_in in
-    rw (← c.self.view_is) record {
-      in_range = block_in;
-      result = Ok c.in-Ok.outcome;
-      answer = refl;
-      sends = c.in-Ok.ensures.sends;
-      step = λ h. seen_steps _ _ _ (λ s. Erase c.args.block (is_passed c.in-Ok.outcome) (block_at s c.args.block))
-          (c.self.invariant h).0 (c.erase_block.ensures.geometry h ∙ (c.self.invariant h).0) (c.in-Ok.ensures.did h (c.self.invariant h).1).step;
-      told = c.of-history.ensures;
-      geometry = refl;
-    }
+    rw (← c.self.view_is) (erases_so _ _ _ _ _ _ (Ok c.in-Ok.outcome) (rw (← c.self.view_is) at c.requires.block_in) c.in-Ok.ensures.sends
+    (λ h. seen_steps _ _ _ (λ s. Erase c.args.block (is_passed c.in-Ok.outcome) (block_at s c.args.block))
+    (c.self.invariant h).0 (c.erase_block.ensures.geometry h ∙ (c.self.invariant h).0) (c.in-Ok.ensures.did h (c.self.invariant h).1).step)
+    c.of-history.ensures refl)
 
 pub returns-in-Err-clause-called : goal.returns-in-Err-clause-called
-returns-in-Err-clause-called g c =
-    let block_in = rw (← c.self.view_is) at c.requires.block_in in
-    rw (← c.self.view_is) record {
-      in_range = block_in;
-      result = Err c.in-Err.fault;
-      answer = refl;
-      sends = c.in-Err.ensures.sends;
-      step = tt;
-      told = c.of-history-in-Err.ensures;
-      geometry = refl;
-    }
+returns-in-Err-clause-called g c = rw (← c.self.view_is) (erases_so _ _ _ _ _ _ (Err c.in-Err.fault) (rw (← c.self.view_is) at c.requires.block_in) c.in-Err.ensures.sends tt c.of-history-in-Err.ensures refl)
 
 pub returns-in-Ok-clause-spells : goal.returns-in-Ok-clause-spells
 returns-in-Ok-clause-spells g c = rw (← c.self.view_is) (λ h. (c.in-Ok.ensures.did h (c.self.invariant h).1).spells)

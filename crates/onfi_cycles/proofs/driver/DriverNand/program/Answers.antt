@@ -2,43 +2,21 @@ use Rattle.std.proofs.Common.{◌∙◌, refl, Ok, Err}
 use Rattle.page_layout.specs.Flash.{Program, page_at}
 use Rattle.page_layout.specs.Page.{page}
 use Rattle.onfi_cycles.specs.Outcomes.{is_passed}
+use Rattle.onfi_cycles.proofs.Calling.{programs_so}
 use Rattle.onfi_cycles.proofs.Stepping.{seen_steps}
 use Rattle.onfi_cycles.proofs.driver.DriverNand.program.Goals as goal
 
 pub returns-in-Ok-clause-called : goal.returns-in-Ok-clause-called
 returns-in-Ok-clause-called g c =
-    let body_whole = rw (← c.self.view_is) at c.requires.body_whole in
-    let spare_whole = rw (← c.self.view_is) at c.requires.spare_whole in
-    let row_in = rw (← c.self.view_is) at c.requires.row_in in
-    rw (← c.self.view_is) record {
-      in_range = row_in;
-      body_whole = body_whole;
-      spare_whole = spare_whole;
-      result = Ok c.in-Ok.outcome;
-      answer = refl;
-      sends = c.in-Ok.ensures.sends;
-      step = λ h. seen_steps _ _ _ (λ s. Program c.args.row (page c.args.body.now c.args.spare.now) (is_passed c.in-Ok.outcome) (page_at s c.args.row))
-          (c.self.invariant h).0 (c.program_page.ensures.geometry h ∙ (c.self.invariant h).0) (c.in-Ok.ensures.did h (c.self.invariant h).1).step;
-      told = c.of-history.ensures;
-      geometry = refl;
-    }
+    rw (← c.self.view_is) (programs_so _ _ _ _ _ _ _ (Ok c.in-Ok.outcome) (rw (← c.self.view_is) at c.requires.row_in) (rw (← c.self.view_is) at c.requires.body_whole) (rw (← c.self.view_is) at c.requires.spare_whole) c.in-Ok.ensures.sends
+    (λ h. seen_steps _ _ _ (λ s. Program c.args.row (page c.args.body.now c.args.spare.now) (is_passed c.in-Ok.outcome) (page_at s c.args.row))
+    (c.self.invariant h).0 (c.program_page.ensures.geometry h ∙ (c.self.invariant h).0) (c.in-Ok.ensures.did h (c.self.invariant h).1).step)
+    c.of-history.ensures refl)
 
 pub returns-in-Err-clause-called : goal.returns-in-Err-clause-called
 returns-in-Err-clause-called g c =
-    let body_whole = rw (← c.self.view_is) at c.requires.body_whole in
-    let spare_whole = rw (← c.self.view_is) at c.requires.spare_whole in
-    let row_in = rw (← c.self.view_is) at c.requires.row_in in
-    rw (← c.self.view_is) record {
-      in_range = row_in;
-      body_whole = body_whole;
-      spare_whole = spare_whole;
-      result = Err c.in-Err.fault;
-      answer = refl;
-      sends = c.in-Err.ensures.sends;
-      step = tt;
-      told = c.of-history-in-Err.ensures;
-      geometry = refl;
-    }
+    rw (← c.self.view_is) (programs_so _ _ _ _ _ _ _ (Err c.in-Err.fault) (rw (← c.self.view_is) at c.requires.row_in) (rw (← c.self.view_is) at c.requires.body_whole) (rw (← c.self.view_is) at c.requires.spare_whole) c.in-Err.ensures.sends
+    tt c.of-history-in-Err.ensures refl)
 
 pub returns-in-Ok-clause-spells : goal.returns-in-Ok-clause-spells
 returns-in-Ok-clause-spells g c = rw (← c.self.view_is) (λ h. (c.in-Ok.ensures.did h (c.self.invariant h).1).spells)
