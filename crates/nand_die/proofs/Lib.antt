@@ -7,5 +7,6 @@ pub mod ActLemmas
 pub mod LawLemmas
 pub mod StopLemmas
 pub mod LeavesLemmas
+pub mod CallLemmas
 pub mod TapeLemmas
 pub mod BusLemmas

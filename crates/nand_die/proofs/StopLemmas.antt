@@ -72,7 +72,7 @@ pub first_true : (a b : Bool) → (a && b) ≡ true → a ≡ true
 first_true true b e = refl
 first_true false b e = e
 
-not_true : (b : Bool) → not b ≡ true → b ≡ false
+pub not_true : (b : Bool) → not b ≡ true → b ≡ false
 not_true true e = sym e
 not_true false e = refl
 
@@ -158,7 +158,7 @@ after_noted (Erases block) c room told = next_noted (room == 0) (Erase block (c.
 after_noted (Refuses fault) c room told = refl
 
 -- a command that was done is noted
-done_noted : (d e : DieValue) (due : Due) (left : ℕ) (r : Result (Unit {0}) BusFault) → e ≡ done_as d due left → OnOk r (true ≡ true → Notes due d.recorded e.state e.recorded)
+pub done_noted : (d e : DieValue) (due : Due) (left : ℕ) (r : Result (Unit {0}) BusFault) → e ≡ done_as d due left → OnOk r (true ≡ true → Notes due d.recorded e.state e.recorded)
 done_noted d e due left (Ok x) is = λ h. subst (λ (v : DieValue). Notes due d.recorded v.state v.recorded) (sym is) (after_noted due (answered due (chip_of d)) d.room d.recorded)
 done_noted d e due left (Err fault) is = tt
 
@@ -172,7 +172,7 @@ run_noted d x e code left r is does = subst (λ (y : DieValue). OnOk r (true ≡
 pub calm_law : CalmLaw
 calm_law d e = (calm_failures d e, λ cycle. ap (λ b. if b then refused Device else answer_to (due_now d cycle)) (calm_runs d cycle e))
 
-after_stopped : (d : DieValue) (cycle : Cycle) → d.stopped ≡ true → after_cycle cycle d ≡ failed_as d (chip_of d) d.left
+pub after_stopped : (d : DieValue) (cycle : Cycle) → d.stopped ≡ true → after_cycle cycle d ≡ failed_as d (chip_of d) d.left
 after_stopped d (Command code) e = rw e refl
 after_stopped d (Address byte) e = rw e refl
 after_stopped d (DataIn bytes) e = rw e refl

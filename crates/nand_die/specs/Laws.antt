@@ -1,5 +1,5 @@
 -- What a die in memory does, said of its value before and after.
-use Rattle.std.specs.Prelude.{List, [], ◌∷◌, ◌++◌, Some, Contains, ◌≡◌, ◌≢◌, ◌⊎◌, ◌↔◌, ℕ, ◌*◌, ◌<◌, true, false, if◌then◌else◌, length, slice_get, IsSome, None}
+use Rattle.std.specs.Prelude.{List, ◌++◌, Some, Contains, ◌≡◌, ◌≢◌, ◌⊎◌, ◌↔◌, ℕ, ◌*◌, ◌<◌, true, false, if◌then◌else◌, length, slice_get, IsSome, None}
 use Rattle.std.specs.Prelude.{Option, Result}
 use Rattle.page_layout.specs.Block.{past_last}
 use Rattle.page_layout.specs.Page.{Page, Image}

@@ -1,5 +1,5 @@
 //! A die in memory, which may be stopped in the middle of its work.
-ghost use Rattle.std.specs.Prelude.{◌≡◌, ◌*◌, ◌-◌, ℕ, true, false, [], length, Some, None, Err, IfOk, IfErr, OnOk, OnErr, if◌then◌else◌};
+ghost use Rattle.std.specs.Prelude.{◌≡◌, ◌≤◌, ◌*◌, ◌-◌, ℕ, true, false, [], length, Some, None, Err, IfOk, IfErr, OnOk, OnErr, if◌then◌else◌};
 ghost use Rattle.page_layout.specs.Geometry.{row_count, page_bytes};
 ghost use Rattle.page_layout.specs.Raw.{raw_bytes, raw_image};
 ghost use Rattle.onfi_cycles.specs.Cycles.{Command, Address, DataIn, DataOut};
@@ -212,6 +212,7 @@ impl Die {
         ensures new { self.new ≡ failed_as self.old (chip_of self.old) self.old.left }
         ensures whole { IsImage self.new.state.flash.geometry self.new.state.flash.image }
         ensures device { result ≡ Err BusFault.Device }
+        ensures rises { self.old.failures ≤ self.new.failures }
     {
         self.chip.give_up();
         self.tape = None;
