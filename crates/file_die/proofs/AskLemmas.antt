@@ -1,15 +1,66 @@
 -- What the calls of a store for one program or erase come to together.
-use Rattle.std.proofs.Common.{◌≡◌, ◌⊎◌, inl, inr, ℕ, zero, suc, ◌<◌, Bool, true, false, [], ◌∷◌, refl, sym, ◌∙◌, ap, subst, arith}
+use Rattle.std.proofs.Common.{◌≡◌, ◌⊎◌, inl, inr, ℕ, zero, suc, ◌<◌, ◌≤◌, Bool, true, false, [], ◌∷◌, refl, sym, ◌∙◌, ap, subst, arith}
+use Rattle.std.specs.Prelude.{Result, Ok, Err, OnOk, OnErr, is_ok, is_err}
 use Rattle.std.specs.List.{Contains}
 use Rattle.std.proofs.lemmas.List.{get_or-set_same}
 use Rattle.page_layout.specs.declared.geometry.Geometry.{Geometry}
 use Rattle.page_layout.specs.Geometry.{row_count}
 use Rattle.page_layout.specs.Page.{Page, Image}
 use Rattle.page_layout.specs.Flash.{no_page}
+use Rattle.page_layout.specs.Counter.{HasRisen}
+use Rattle.onfi_cycles.specs.declared.nand.BusFault.{BusFault}
+use Rattle.onfi_cycles.specs.declared.nand.BusFault.TheVariants.{Device}
 use Rattle.file_die.specs.declared.die.SyncWhen.{SyncWhen}
+use Rattle.file_die.specs.declared.die.SyncWhen.TheVariants as sync
 use Rattle.file_die.specs.Store.{Held, AreImages, page_in, MayBeLeft, LastsOf, Lasts, Puts, Clears, Syncs}
-use Rattle.file_die.specs.Die.{ProgramsIn, ErasesInStore}
+use Rattle.file_die.specs.Die.{Asks, ProgramsIn, ErasesInStore}
 use Rattle.file_die.proofs.StoreLemmas.{erased_in}
+
+-- ---- what is counted
+
+pub asks_done : {S : Type 0} → (held : S → Held) (honest : S → Bool) (failed : S → ℕ) (old new : S) → (held new).geometry ≡ (held old).geometry → honest new ≡ honest old → failed old ≤ failed new → failed new ≡ failed old → Asks held honest failed old new (Ok tt)
+asks_done held honest failed old new geometry as_honest rising settled = record { geometry = geometry; as_honest = as_honest; rising = rising; settled = settled; rose = tt; device = tt }
+
+pub asks_failed : {S : Type 0} → (held : S → Held) (honest : S → Bool) (failed : S → ℕ) (old new : S) → (held new).geometry ≡ (held old).geometry → honest new ≡ honest old → failed old ≤ failed new → HasRisen (failed old) (failed new) → Asks held honest failed old new (Err Device)
+asks_failed held honest failed old new geometry as_honest rising rose = record { geometry = geometry; as_honest = as_honest; rising = rising; settled = tt; rose = rose; device = refl }
+
+-- a call after one that was done
+pub asks_then : {S : Type 0} → (held : S → Held) (honest : S → Bool) (failed : S → ℕ) (old mid new : S) (result : Result (Unit {0}) BusFault) → (held mid).geometry ≡ (held old).geometry → honest mid ≡ honest old → failed mid ≡ failed old
+    → Asks held honest failed mid new result → Asks held honest failed old new result
+asks_then held honest failed old mid new result geometry as_honest same asks = record {
+  geometry = asks.geometry ∙ geometry;
+  as_honest = asks.as_honest ∙ as_honest;
+  rising = subst (λ n. n ≤ failed new) same asks.rising;
+  settled = subst (λ n. OnOk result (failed new ≡ n)) same asks.settled;
+  rose = subst (λ n. OnErr result (HasRisen n (failed new))) same asks.rose;
+  device = asks.device;
+}
+
+-- what a call says, by whether it failed
+pub failed_by : {T E P : Type 0} (r : Result T E) (b : Bool) → b ≡ is_err r → b ≡ true → OnErr r P → P
+failed_by (Ok x) b is e p = let no : ⊥ = cc in absurd no
+failed_by (Err x) b is e p = p
+
+pub done_by : {T E P : Type 0} (r : Result T E) (b : Bool) → b ≡ is_err r → b ≡ false → OnOk r P → P
+done_by (Ok x) b is e p = p
+done_by (Err x) b is e p = let no : ⊥ = cc in absurd no
+
+pub not_done : {T E : Type 0} (r : Result T E) (b : Bool) → b ≡ is_err r → b ≡ true → is_ok r ≡ false
+not_done (Ok x) b is e = let no : ⊥ = cc in absurd no
+not_done (Err x) b is e = refl
+
+pub was_done : {T E : Type 0} (r : Result T E) (b : Bool) → b ≡ is_err r → b ≡ false → is_ok r ≡ true
+was_done (Ok x) b is e = refl
+was_done (Err x) b is e = let no : ⊥ = cc in absurd no
+
+-- ---- what is left of the pages
+
+pub programs_failed : (s t : Held) (row : ℕ) (page : Page) (sync_when : SyncWhen) (done : Bool) → done ≡ false → Puts s row page done t → ProgramsIn s row page sync_when false t
+programs_failed s t row page sync_when done e puts = record { puts = subst (λ d. Puts s row page d t) e puts; synced = λ a d. (let no : ⊥ = cc in absurd no) }
+
+-- it is not synced
+pub programs_put : (s t : Held) (row : ℕ) (page : Page) (sync_when : SyncWhen) (done : Bool) → done ≡ true → Puts s row page done t → sync_when ≡ sync.Erases → ProgramsIn s row page sync_when true t
+programs_put s t row page sync_when done e puts is = record { puts = subst (λ d. Puts s row page d t) e puts; synced = λ a d. (let no : sync.Erases ≡ sync.Always = sym is ∙ a in let never : ⊥ = cc in absurd never) }
 
 -- one of three
 pub of_three : (a b c now : Page) → Contains (a ∷ b ∷ c ∷ []) now → (a ≡ now) ⊎ ((b ≡ now) ⊎ (c ≡ now))

@@ -19,7 +19,7 @@ use Rattle.nand_die.specs.Turns.{turn_of}
 use Rattle.file_die.specs.Die.{FileState, IsFit, ActsOverStore, Asks, Leaves, change_ended, shown}
 
 -- a die of these parts
-abbrev of_parts : {S : Type 0} → S → List TurnState → ℕ → Phase → List ℕ → ℕ → SyncWhen → FileState S
+abbrev pub of_parts : {S : Type 0} → S → List TurnState → ℕ → Phase → List ℕ → ℕ → SyncWhen → FileState S
 of_parts store turns abuse phase register status sync_when = record { store = store; turns = turns; abuse = abuse; phase = phase; register = register; status = status; sync_when = sync_when }
 
 -- a block's turn was set, and the count of abuse

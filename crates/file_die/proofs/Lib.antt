@@ -3,6 +3,7 @@ pub mod MemoryLemmas
 pub mod AskLemmas
 pub mod DieLemmas
 pub mod ChangeLemmas
+pub mod LoadLemmas
 pub mod OpenLemmas
 pub mod DieLawLemmas
 pub mod BytesLemmas

@@ -1,6 +1,6 @@
 -- What the calls of a file of bytes come to for the rows in it.
 use Rattle.std.proofs.Common.{◌≡◌, ◌≢◌, ◌⊎◌, inl, inr, ◌∙◌, ◌<◌, ◌≤◌, ◌/◌, ◌+◌, ◌-◌, ◌*◌, ap, refl, sym, subst, arith, ℕ, zero, suc, Bool, true, false, List, [], ◌∷◌, ◌++◌, length, get_or, take, drop, replicate, length-append, length-take, length-drop}
-use Rattle.std.specs.Prelude.{slice_get, slice_set, slice_index, ◌==◌, ◌&&◌, if◌then◌else◌, Option, None, Result, Ok, Err, IfErr, OnErr, is_ok, is_err}
+use Rattle.std.specs.Prelude.{slice_get, slice_set, slice_index, ◌==◌, ◌&&◌, ◌^◌, if◌then◌else◌, Option, None, Some, Result, Ok, Err, IfErr, OnOk, OnErr, is_ok, is_err}
 use Rattle.std.proofs.Math.Facts.{eqb_yes}
 use Rattle.std.proofs.Math.Nat.{mul-le-mul_right}
 use Rattle.std.proofs.Math.Seq.{take-length}
@@ -12,6 +12,7 @@ use Rattle.std.proofs.lemmas.List.FromFn.{length-map-range_with_len, get_or-map-
 use Rattle.std.proofs.lemmas.Option.{slice_get_within, get_or_from_slice_get}
 use Rattle.page_layout.specs.declared.geometry.Geometry.{Geometry}
 use Rattle.page_layout.specs.Geometry.{row_count, page_bytes}
+use Rattle.page_layout.specs.Counter.{counted, HasRisen}
 use Rattle.page_layout.specs.Page.{Page, Image, IsPage, IsImage}
 use Rattle.page_layout.specs.Change.{erased_page}
 use Rattle.page_layout.specs.Flash.{no_page, with_block}
@@ -21,7 +22,7 @@ use Rattle.nand_die.proofs.PagesLemmas.{block_within, page_of_blank}
 use Rattle.file_die.specs.Bytes.{Bytes, AreBytes, FailsBy, Gives, HasEnded, SyncsBytes, over, piece, IsTold}
 use Rattle.file_die.specs.declared.bytes.ByteFault.{ByteFault}
 use Rattle.file_die.specs.declared.store.StoreFault.{StoreFault}
-use Rattle.file_die.specs.Rows.{Rows, AreRows, Remembers, TellsEnd, TellsFull, WritesAll, IsReading, lacks_room, read_rows, held_in, is_kept, syncs_lost}
+use Rattle.file_die.specs.Rows.{Rows, AreRows, Counts, FailsSync, Remembers, TellsEnd, TellsFull, WritesAll, IsReading, lacks_room, read_rows, held_in, is_kept, syncs_lost}
 use Rattle.file_die.specs.Store.{Held, AreImages, MayBeLeft, LastsOf, Lasts, Loads, Puts, Clears, Syncs, page_in}
 use Rattle.file_die.proofs.BytesLemmas.{get_drop, take_alike, over_before, over_within, over_after, length_over, length_mixed, length_lasts, fits_over, fits_mixed, fits_lasts, fits_take, fits_drop}
 use Rattle.file_die.proofs.MemoryLemmas.{other_row, outside}
@@ -53,6 +54,68 @@ end_told gave row size at wanted old new file (Err why) (Err fault) a w by first
   ended = subst (λ left. HasEnded gave old.file (row * size) size why left) (sym same) (subst (λ k. HasEnded gave old.file (row * size) k why file) w (subst (λ k. HasEnded gave old.file k wanted why file) a by));
   first = first;
 }
+
+-- what a call that was settled has counted
+risen : (a b : ℕ) → b ≡ counted a → HasRisen a b
+risen a b is = elim (cases_lt a (2 ^ 64 - 1)) [
+  | inl below ↦ inl (omega (arith, is, below))
+  | inr most ↦ inr (omega (arith, is, most))
+]
+
+risen_on : {T E : Type 0} (r : Result T E) (a b : ℕ) → OnErr r (b ≡ counted a) → OnErr r (HasRisen a b)
+risen_on (Ok x) a b is = tt
+risen_on (Err e) a b is = risen a b is
+
+pub counts_settled : {F : Type 0} → (old new : Rows F) (result : Result (Unit {0}) StoreFault) → new.geometry ≡ old.geometry → new.size ≡ old.size → OnOk result ((new.failures ≡ old.failures) × (new.fault ≡ old.fault))
+    → old.failures ≤ new.failures → OnErr result (new.failures ≡ counted old.failures) → ((fault : ByteFault) → old.fault ≡ Some fault → new.fault ≡ Some fault) → Counts old new result
+counts_settled old new result geometry size ok rising rose first = record {
+  geometry = geometry;
+  size = size;
+  rising = rising;
+  settled = ok;
+  rose = risen_on result old.failures new.failures rose;
+  first = first;
+}
+
+-- there was room where it was done
+pub room_settled : (full lost : Bool) (answer : Result (Unit {0}) ByteFault) (result : Result (Unit {0}) StoreFault) → full ≡ lacks_room true lost answer → is_ok result ≡ is_ok answer → OnOk result (full ≡ false)
+room_settled full lost answer (Err fault) is e = tt
+room_settled full true (Ok x) (Ok y) is e = is
+room_settled full false (Ok x) (Ok y) is e = is
+room_settled full lost (Err why) (Ok y) is e = let no : ⊥ = cc in absurd no
+
+pub sync_told : {F : Type 0} → (refused : F → ByteFault → F → Type 0) (old new : Rows F) (file : F) (answer : Result (Unit {0}) ByteFault) (result : Result (Unit {0}) StoreFault)
+    → IfErr answer (λ why. refused old.file why file) → IfErr answer (λ why. Remembers old new why) → is_ok result ≡ is_ok answer → new.file ≡ file → OnErr result (FailsSync refused old new)
+sync_told refused old new file answer (Ok done) by first e same = tt
+sync_told refused old new file (Ok done) (Err fault) by first e same = let no : ⊥ = cc in absurd no
+sync_told refused old new file (Err why) (Err fault) by first e same = record { why = why; refused_by = λ _. subst (refused old.file why) (sym same) by; first = first }
+
+-- a sync that was not asked for
+pub sync_lost : {F : Type 0} → (refused : F → ByteFault → F → Type 0) (old new : Rows F) (why : ByteFault) (result : Result (Unit {0}) StoreFault) → old.sync_failed ≡ true → Remembers old new why → OnErr result (FailsSync refused old new)
+sync_lost refused old new why (Ok done) lost first = tt
+sync_lost refused old new why (Err fault) lost first = record { why = why; refused_by = λ e. (let no : true ≡ false = sym lost ∙ e in let never : ⊥ = cc in absurd never); first = first }
+
+pub syncs_none : (s : Held) (done : Bool) → done ≡ false → Syncs s done s
+syncs_none s done e = record {
+  same = refl;
+  synced = λ d. (let no : true ≡ false = sym d ∙ e in let never : ⊥ = cc in absurd never);
+  lasts = λ row. record { left = inl (0, omega arith, refl); kept = λ a b. a };
+  whole = λ v. v;
+}
+
+-- ---- what the pages of a die keep
+
+pub kept_still : {F : Type 0} → (held : F → Bytes) (honest : F → Bool) (tells : F → ℕ → (List ℕ → Page) → Bool) (old new : Rows F) → new.geometry ≡ old.geometry
+    → ((reads : List ℕ → Page) → is_kept held honest tells reads new ≡ is_kept held honest tells reads old) → is_kept held honest tells (page_of new.geometry) new ≡ is_kept held honest tells (page_of old.geometry) old
+kept_still held honest tells old new geometry kept = ap (λ (z : Geometry). is_kept held honest tells (page_of z) new) geometry ∙ kept (page_of old.geometry)
+
+pub failures_still : {F : Type 0} → (old new : Rows F) (result : Result (Unit {0}) StoreFault) → OnOk result ((new.failures ≡ old.failures) × (new.fault ≡ old.fault)) → OnOk result (new.failures ≡ old.failures)
+failures_still old new (Ok done) same = same.0
+failures_still old new (Err fault) same = tt
+
+pub where_ok : {T E P : Type 0} (r : Result T E) → (is_ok r ≡ true → P) → OnOk r P
+where_ok (Ok x) p = p refl
+where_ok (Err e) p = tt
 
 -- ---- rows
 

@@ -129,17 +129,27 @@ impl<S: Store> FileDie<S> {
         Err(fault)
     }
 
-    // Loads the page of a row, where the buffer has another one, and puts it out.
+    // Loads the page of a row, and puts it out.
+    fn load(&mut self, row: u32, column: u32) -> Result<(), BusFault>
+        requires { IsWithin (S.held self.old.store).geometry (BusState.Ready (OutputSource.Page row column)) }
+        ensures { ActsOverStore S.held S.honest S.failed (Moves (phase_of self.old.register (BusState.Ready (OutputSource.Page row column)))) self.old self.new result }
+    {
+        self.page_row = None;
+        self.bus_state = self.bus_state.given_up();
+        asks::load(&mut self.store, row, &mut self.page)?;
+        self.page_row = Some(row);
+        self.bus_state = BusState::Ready(OutputSource::Page { row, column });
+        Ok(())
+    }
+
+    // Puts out the page of a row, which is loaded where the buffer has another one.
     fn show(&mut self, row: u32, column: u32) -> Result<(), BusFault>
         requires { IsWithin (S.held self.old.store).geometry (BusState.Ready (OutputSource.Page row column)) }
         ensures { ActsOverStore S.held S.honest S.failed (Moves (phase_of self.old.register (BusState.Ready (OutputSource.Page row column)))) self.old self.new result }
     {
         if self.page_row != Some(row) {
-            self.page_row = None;
-            self.bus_state = self.bus_state.given_up();
-            asks::load(&mut self.store, row, &mut self.page)?;
+            return self.load(row, column);
         }
-        self.page_row = Some(row);
         self.bus_state = BusState::Ready(OutputSource::Page { row, column });
         Ok(())
     }

@@ -26,6 +26,20 @@ loop-tries-preserved g c =
           (was.told h first l going size reads tells) (made.told (was.honest ∙ h) first l (was.going h first l going) size reads (was.tells size reads ∙ tells));
     }
 
-pub returns-clause-patient : goal.returns-clause-patient
-returns-clause-patient g c =
-    is_patient (WriteInterrupted g.F.ByteFile.wrote) c.loop-tries._tries c.loop-tries.file c.write_once-2.new.file c.write_once-2.result (omega (arith, c.loop-tries-test.false, c.loop-tries.auto._tries-end)) c.loop-tries.invariant.tried c.write_once-2.ensures.interrupted
+pub returns : goal.returns
+returns g c =
+    let was = c.loop-tries.invariant in
+    let made = c.write_once-2.ensures in
+    let left = c.write_once-2.new.file in
+    let held = g.F.ByteFile.held in
+    record {
+      next = made.next;
+      fails = made.fails;
+      patient = is_patient (WriteInterrupted g.F.ByteFile.wrote) c.loop-tries._tries c.loop-tries.file left c.write_once-2.result (omega (arith, c.loop-tries-test.false, c.loop-tries.auto._tries-end)) was.tried made.interrupted;
+      goes = λ h first l going. made.goes (was.honest ∙ h) first l (was.going h first l going);
+      told = λ h first l going size reads tells.
+          tells_on size reads (over c.args.at c.args.bytes.now first.bytes) (held c.args.file.now) (held c.loop-tries.file) (held left)
+          (was.told h first l going size reads tells) (made.told (was.honest ∙ h) first l (was.going h first l going) size reads (was.tells size reads ∙ tells));
+      honest = made.honest ∙ was.honest;
+      tells = λ size reads. made.tells size reads ∙ was.tells size reads;
+    }

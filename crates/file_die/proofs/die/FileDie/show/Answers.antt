@@ -1,15 +1,22 @@
-use Rattle.std.proofs.lemmas.Grind.{common_steps}
-use Rattle.std.proofs.Common.{arith}
+use Rattle.std.proofs.Common.{◌∙◌, map, refl, rules}
+use Rattle.std.proofs.lemmas.List.{length-map}
+use Rattle.onfi_cycles.specs.Cycles.{status_of}
+use Rattle.nand_die.specs.BusState.{phase_of}
+use Rattle.nand_die.specs.Turns.{turn_of}
+use Rattle.file_die.proofs.DieLemmas.{asks_none}
+use Rattle.file_die.proofs.LoadLemmas.{acts_shown, parts_shown}
 use Rattle.file_die.proofs.die.FileDie.show.Goals as goal
 
 pub invariant_of-self : goal.invariant_of-self
-invariant_of-self g c = grind (arith, common_steps)
-
-pub returns-in_err-load : goal.returns-in_err-load
-returns-in_err-load g c = grind (arith, common_steps)
-
-pub invariant_of-self-2 : goal.invariant_of-self-2
-invariant_of-self-2 g c = grind (arith, common_steps)
+invariant_of-self g c =
+    let i = c.self.inside in
+    parts_shown (g.S.Store.held i.store) (g.S.Store.honest i.store) i.geometry i.register.items i.page.items i.page_row i.turns.items i.bus_state c.args.row c.args.column c.self.invariant
+    (search rules) (rw (← c.self.view_is, c.self.invariant.same) at c.requires)
 
 pub returns : goal.returns
-returns g c = grind (arith, common_steps)
+returns g c =
+    let i = c.self.inside in
+    let inv = c.self.invariant in
+    let r = i.register.items in
+    acts_shown g.S.Store.held g.S.Store.honest g.S.Store.failed i.store i.store (map turn_of i.turns.items) i.abuse (phase_of r i.bus_state) r (status_of i.passed) i.sync_when c.args.self.now i.geometry c.self.view_is inv.same inv.images
+    (length-map i.turns.items turn_of ∙ inv.turns_whole) (λ h. refl) _ (asks_none g.S.Store.held g.S.Store.honest g.S.Store.failed i.store)

@@ -4,12 +4,23 @@ use Rattle.std.specs.Result.{is_ok}
 use Rattle.onfi_cycles.specs.Cycles.{page_of}
 use Rattle.file_die.specs.Store.{Puts}
 use Rattle.file_die.specs.Rows.{held_in}
-use Rattle.file_die.proofs.RowLemmas.{plain_reading}
+use Rattle.file_die.proofs.RowLemmas.{failures_still, kept_still, plain_reading}
 use Rattle.file_die.proofs.file_store.DieFileStore.put.Goals as goal
 
-pub returns-clause-puts : goal.returns-clause-puts
-returns-clause-puts g c e =
+pub returns : goal.returns
+returns g c =
     let now = c.args.self.now in
     let held = g.F.ByteFile.held in
-    subst (λ (z : Geometry). Puts (held_in held (page_of now.rows.geometry) now.rows) c.args.row (page_of now.rows.geometry c.args.page.now) (is_ok c.write.result) (held_in held (page_of z) c.write.new.self)) (sym c.write.ensures.counts.geometry)
-    (c.write.ensures.puts (page_of now.rows.geometry) (plain_reading now.rows.geometry now.rows.size now.sized) e)
+    let left = c.write.new.self in
+    let counts = c.write.ensures.counts in
+    record {
+      puts = λ e. subst (λ (z : Geometry). Puts (held_in held (page_of now.rows.geometry) now.rows) c.args.row (page_of now.rows.geometry c.args.page.now) (is_ok c.write.result) (held_in held (page_of z) left)) (sym counts.geometry)
+          (c.write.ensures.puts (page_of now.rows.geometry) (plain_reading now.rows.geometry now.rows.size now.sized) e);
+      geometry = counts.geometry;
+      honest = kept_still held g.F.ByteFile.honest g.F.ByteFile.tells now.rows left counts.geometry c.write.ensures.kept;
+      failed = counts.rising;
+      rose = counts.rose;
+      settled = failures_still now.rows left c.write.result counts.settled;
+      room = c.write.ensures.room;
+      full = c.write.ensures.full;
+    }
