@@ -1,9 +1,8 @@
 -- Which bad blocks were written again.
-use Rattle.std.proofs.Common.{◌≡◌, ◌≢◌, inl, inr, ℕ, zero, suc, ◌+◌, ◌/◌, ◌<◌, Bool, true, false, [], ◌∷◌, length, get_or, Option, Some, None, refl, sym, ap, ◌∙◌, subst, arith, slice_get, count_by}
+use Rattle.std.proofs.Common.{◌≡◌, inl, inr, ℕ, zero, suc, ◌+◌, ◌/◌, ◌<◌, Bool, true, false, [], ◌∷◌, length, get_or, Option, Some, None, refl, sym, ap, ◌∙◌, subst, arith, slice_get, count_by}
 use Rattle.std.specs.Prelude.{◌==◌, ◌&&◌, ◌||◌, not, nat_lt}
 use Rattle.std.specs.List.{list_any, range_with_len}
-use Rattle.std.proofs.lemmas.Bool.{cases_Bool, cases_eq, cases_order, eq-eqb, eqb-true, lt-ltb, ltb-true, and_from, and_parts, true≢false}
-use Rattle.std.proofs.lemmas.List.Folds.{list_any-append}
+use Rattle.std.proofs.lemmas.Bool.{cases_Bool, cases_eq, eq-eqb, eqb-true, lt-ltb, ltb-true, and_from, and_parts, true≢false}
 use Rattle.std.proofs.lemmas.List.Sums.{sum_by-cons}
 use Rattle.page_layout.specs.declared.geometry.Geometry.{Geometry}
 use Rattle.page_layout.specs.declared.record.Record.{Record}
@@ -26,7 +25,7 @@ use Rattle.image_check.specs.Survey.{index_of}
 use Rattle.image_check.proofs.SurveyLemmas.{index_within}
 use Rattle.lab_dump.specs.Count.{is_in_range, is_outside, one}
 use Rattle.lab_dump.specs.Bad.{HasNewer, IsRewritten, IsPlain, is_tied, is_plain, is_rewritten, keeps_below, key_at, latest_at, strange_of, ties_below, RewrittenLaw, RewrittenToldLaw}
-use Rattle.lab_dump.proofs.AnyLemmas.{any_at, any_more, any_same}
+use Rattle.lab_dump.proofs.AnyLemmas.{any_at, any_more}
 use Rattle.lab_dump.proofs.TraceLemmas.{key_found, place_is}
 
 -- ---- some of the first numbers

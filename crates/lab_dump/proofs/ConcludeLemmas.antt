@@ -394,6 +394,16 @@ seen_all g image dt new plain size h p kept t b u hs o = record {
   kept_is = λ n l. kept n l ∙ keeps_are g image dt.traces.items n size h.traces;
 }
 
+-- the same by what was handed to the functions that looked for ties and marked the blocks
+pub seen_marked : (g : Geometry) (image : Image) (dt new : Doubting) (plain : Bool) (tied kept : List Trace) (marked : List Bool) (pages : ℕ) → length image ≡ row_count g → IsDoubting g (row_count g) image dt
+    → tied ≡ dt.traces.items → plain ≡ ((dt.strange == 0) && not (ties_in tied (length tied))) → kept ≡ dt.traces.items → pages ≡ g.pages → new.kept.items ≡ marked → length marked ≡ g.blocks
+    → ((b : ℕ) → b < length marked → get_or marked b false ≡ keeps_in pages kept (length kept) b)
+    → new.traces ≡ dt.traces → new.tables ≡ dt.tables → new.unsound ≡ dt.unsound → new.holes ≡ dt.holes → new.outside ≡ dt.outside → IsSeen g image new plain
+seen_marked g image dt new plain tied kept marked pages size h tied_is is kept_is pages_is at few each t b u hs o =
+    seen_all g image dt new plain size h (is ∙ ap (λ (xs : List Trace). (dt.strange == 0) && not (ties_in xs (length xs))) tied_is)
+    (λ n l. ap (λ (xs : List Bool). get_or xs n false) at ∙ (each n (subst (λ k. n < k) (sym few) l)
+    ∙ (ap (λ k. keeps_in k kept (length kept) n) pages_is ∙ ap (λ (xs : List Trace). keeps_in g.pages xs (length xs) n) kept_is))) t b u hs o
+
 pub summed_all : (g : Geometry) (image : Image) (d : Doubts) → length image ≡ row_count g → AreSummed g image g.blocks d → d ≡ doubts_of g image
 unfolding doubts_of
 summed_all g image d size h =

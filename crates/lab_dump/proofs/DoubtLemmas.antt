@@ -6,7 +6,6 @@ use Rattle.std.specs.List.{list_any, range_with_len}
 use Rattle.std.proofs.Math.Nat.{mul-le-mul_right, mod-lt}
 use Rattle.std.proofs.lemmas.Bool.{cases_eq, cases_order, eq-eqb, eqb-true, ne_eqb, lt-ltb, le-ltb, ltb-true, and_from, and_parts, true≢false}
 use Rattle.std.proofs.lemmas.List.{get_or-set_same, get_or-set_other, get_or-replicate, get_or_default, length-set, length-replicate}
-use Rattle.std.proofs.lemmas.List.Folds.{list_any-append}
 use Rattle.std.proofs.lemmas.List.Sums.{sum_by_push}
 use Rattle.std.proofs.lemmas.Nat.{div-add-mod'}
 use Rattle.std.proofs.lemmas.Option.{slice_get_within}
@@ -401,3 +400,7 @@ hole_law g image row = (
       (and_from (nat_lt row h.later) ((h.later / g.pages == row / g.pages) && is_programmed_at image h.later) (lt-ltb row h.later h.behind)
       (and_from (h.later / g.pages == row / g.pages) (is_programmed_at image h.later) (eq-eqb (h.later / g.pages) (row / g.pages) h.same_block) h.programmed))),
 )
+
+-- as many as the row, with the row's own
+pub one_more : (row ending carried : ℕ) → carried ≤ ending → ending ≤ row → carried + 1 ≤ row + 1
+one_more row ending carried few below = omega arith

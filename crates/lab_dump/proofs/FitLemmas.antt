@@ -3,7 +3,9 @@ use Rattle.std.proofs.Common.{◌≡◌, ℕ, zero, suc, ◌+◌, ◌-◌, ◌<�
 use Rattle.std.specs.Prelude.{nat_lt, ◌&&◌, if◌then◌else◌}
 use Rattle.std.specs.List.{flat_map, range_with_len}
 use Rattle.std.proofs.lemmas.List.{flat_map_more, take_more}
+use Rattle.std.specs.Prelude.{IsPermutation}
 use Rattle.std.proofs.lemmas.List.Elements.{All-push, All-nil}
+use Rattle.std.proofs.lemmas.List.Sorted.{length_permutation}
 use Rattle.page_layout.specs.declared.geometry.Geometry.{Geometry}
 use Rattle.page_layout.specs.Limits.{IsSectorCount}
 use Rattle.lab_dump.specs.declared.fit.Fit.{Fit}
@@ -120,3 +122,10 @@ area_is g size d s all sample told items new like size_is shaped is told_is some
 
 pub possible_none : (items : List Fit) → items ≡ [] → All IsPossible items
 possible_none items e = subst (All IsPossible) (sym e) (All-nil IsPossible)
+
+pub few_found : (old new sorted : List Fit) → old ≡ [] → Adds 11025 old new → IsPermutation new sorted → length sorted ≤ 11025
+few_found old new sorted none added moved = (let few = added.few in omega (arith, few, ap (λ (xs : List Fit). length xs) none, length_permutation new sorted moved))
+
+-- as many places as the steps that are left may need
+pub places_left : (old new : List Fit) (done all step capacity kept : ℕ) → Adds done old new → done + step ≤ all → length old + all ≤ capacity → kept ≡ capacity → length new + step ≤ kept
+places_left old new done all step capacity kept added l room same = (let few = added.few in omega arith)

@@ -31,7 +31,7 @@ use Rattle.lab_dump.specs.declared.history.SectorPage.{SectorPage}
 use Rattle.lab_dump.specs.declared.history.Wrote.{Wrote}
 use Rattle.lab_dump.specs.contracts.history.SectorPageOrd.TheImpl as ranked
 use Rattle.lab_dump.proofs.CountLemmas.{count_more}
-use Rattle.lab_dump.specs.History.{AreNewestFirst, ComesBefore, FirstLaw, HistoryLaw, IsHistoryOf, IsPageOf, Shows, page_by, page_in_row, pages_below, pages_of, told_page, wrote_of}
+use Rattle.lab_dump.specs.History.{AreNewestFirst, ComesBefore, FirstLaw, HasRoom, HistoryLaw, IsHistoryOf, IsPageOf, Shows, page_by, page_in_row, pages_below, pages_of, told_page, wrote_of}
 
 -- ---- one row more
 
@@ -202,3 +202,19 @@ history_of g n pages h bytes taken moved order =
         unsound_is = taken.shown.unsound_is ∙ ap (count_by is_broken) (ap (λ k. take k image) (sym size) ∙ take-length image);
       };
     }
+
+-- no page has passed, and none is listed
+pub nothing_listed : (all capacity : ℕ) (pages : List SectorPage) → pages ≡ [] → all ≤ capacity → HasRoom all 0 pages capacity × (0 ≤ 0)
+nothing_listed all capacity pages none room = (record { few = subst (λ (ps : List SectorPage). length ps ≤ 0) (sym none) (omega arith); room = room }, omega arith)
+
+pub room_more : (all row capacity kept : ℕ) (old new : List SectorPage) → HasRoom all row old capacity → length new ≤ length old + 1 → kept ≡ capacity → HasRoom all (row + 1) new kept
+room_more all row capacity kept old new h one same = record { few = (let few = h.few in omega arith); room = (let room = h.room in omega arith) }
+
+pub room_same : (all row capacity : ℕ) (pages : List SectorPage) → HasRoom all row pages capacity → HasRoom all (row + 1) pages capacity
+room_same all row capacity pages h = record { few = (let few = h.few in omega arith); room = h.room }
+
+pub same_unsound : (row old new : ℕ) → old ≤ row → new ≡ old → new ≤ row + 1
+same_unsound row old new few same = omega arith
+
+pub one_unsound : (row old : ℕ) → old ≤ row → old + 1 ≤ row + 1
+one_unsound row old few = omega arith

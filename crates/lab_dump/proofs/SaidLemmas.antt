@@ -1,5 +1,5 @@
 -- What pages say of themselves that are neither erased nor sound.
-use Rattle.std.proofs.Common.{◌≡◌, ◌≢◌, inl, inr, ℕ, zero, suc, ◌+◌, ◌-◌, ◌<◌, ◌≤◌, List, [], ◌∷◌, ◌++◌, length, get_or, map, set, take, drop, Option, Some, None}
+use Rattle.std.proofs.Common.{◌≡◌, ◌≢◌, inl, inr, ℕ, zero, suc, ◌+◌, ◌-◌, ◌<◌, ◌≤◌, List, [], ◌∷◌, ◌++◌, length, length-append, get_or, map, set, take, drop, Option, Some, None}
 use Rattle.std.proofs.Common.{All, Bool, true, false, refl, sym, ap, ◌∙◌, subst, arith, slice_get, cond}
 use Rattle.std.specs.Prelude.{◌==◌, ◌&&◌, ◌||◌, nat_le, nat_lt, slice_index, slice_range, option_map, Contains}
 use Rattle.std.proofs.Math.Seq.{take-length}
@@ -269,6 +269,9 @@ says_so g p broken = says_broken g p true broken
 
 pub rows_more : (row : ℕ) (said : List SaidPage) → All (λ x. x.row < row) said → All (λ x. x.row < row + 1) said
 rows_more row said h i d l = let before = h i d l in omega arith
+
+pub pushed_few : (old new : List SaidPage) (x : SaidPage) → new ≡ old ++ x ∷ [] → length new ≤ length old + 1
+pushed_few old new x e = omega (arith, ap (λ (xs : List SaidPage). length xs) e, length-append old (x ∷ []))
 
 -- ---- in the end
 

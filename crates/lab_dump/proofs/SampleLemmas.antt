@@ -73,3 +73,6 @@ pub noted_looked : (x : Sample) (look : Look) → (noted x look).looked ≡ x.lo
 noted_looked x (Sound r) = refl
 noted_looked x Erased = refl
 noted_looked x Unsound = refl
+
+pub looked_few : (place looked count : ℕ) (s : Sample) → s.sound + s.unsound ≤ place → place ≤ looked → looked ≡ count → s.looked ≡ count → s.sound + s.unsound ≤ s.looked
+looked_few place looked count s few below is same = omega arith

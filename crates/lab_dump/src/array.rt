@@ -5,7 +5,7 @@ ghost use Rattle.page_layout.specs.Page.{Image};
 ghost use Rattle.page_layout.specs.Array.{zeros};
 ghost use Rattle.lab_dump.specs.Doubting.{DoubtingStands, IsDoubting};
 ghost use Rattle.lab_dump.specs.Rooms.{IsArrayRoom};
-ghost use Rattle.lab_dump.specs.Unmade.{IsUnmade};
+ghost use Rattle.lab_dump.specs.Unmade.{IsUnmade, fault_of};
 ghost use Rattle.lab_dump.specs.Written.{IsLeftUnsettled, IsWritten, TiedLaw};
 
 use crate::damaged::DamagedWriting;
@@ -13,7 +13,7 @@ use crate::doubting::Doubting;
 use crate::doubts::Unsettled;
 use crate::held::Held;
 use crate::make_fault::MakeFault;
-use crate::pass::scan;
+use crate::pass::{PassFault, scan};
 use crate::target::{DamagedTarget, Target};
 use crate::writing::Writing;
 use image_check::DumpReader;
@@ -102,6 +102,17 @@ fn conclude<T>(geometry: &Geometry, writing: Writing<T>) -> ArrayWritten<T>
     }
 }
 
+// Why no file was made, by why not all pages were taken, and the file as far as it was written.
+fn not_written<T>(fault: PassFault, target: T) -> Unwritten<T>
+    ensures fault { result.fault ≡ fault_of fault }
+    ensures target { result.target ≡ target }
+{
+    Unwritten {
+        fault: MakeFault::from(fault),
+        target,
+    }
+}
+
 /// Writes each sector of a dump to a target, in one pass over the dump: the data area of the sector's newest page, or zeros where that page
 /// is a trim, the sector has none, or two of its pages share its greatest sequence. The target has a piece of zeros for each sector at
 /// first. The newest page of a sector is its sound page of greatest sequence, over all blocks, bad ones included. Where a sequence `until` is said,
@@ -142,10 +153,7 @@ pub fn write_array<R: DumpReader, T: Target + Drop>(
     };
     match scan(reader, geometry, &mut writing, &mut body, &mut spare) {
         Ok(()) => Ok(conclude(geometry, writing)),
-        Err(fault) => Err(Unwritten {
-            fault: MakeFault::from(fault),
-            target: writing.target,
-        }),
+        Err(fault) => Err(not_written(fault, writing.target)),
     }
 }
 
@@ -184,9 +192,6 @@ pub fn write_damaged<R: DumpReader, T: DamagedTarget + Drop>(
     let mut taker = DamagedWriting { writing };
     match scan(reader, geometry, &mut taker, &mut body, &mut spare) {
         Ok(()) => Ok(conclude(geometry, taker.writing)),
-        Err(why) => Err(Unwritten {
-            fault: MakeFault::from(why),
-            target: taker.writing.target,
-        }),
+        Err(fault) => Err(not_written(fault, taker.writing.target)),
     }
 }

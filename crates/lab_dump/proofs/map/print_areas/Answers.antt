@@ -1,6 +1,7 @@
-use Rattle.std.proofs.Common.{◌≡◌, ℕ, map, sym, subst, arith}
+use Rattle.std.proofs.Common.{◌≡◌, ◌<◌, ℕ, map, sym, subst, arith}
 use Rattle.std.specs.Io.KnownBytes.{Appends}
 use Rattle.std.proofs.KnownBytes.{Appends-trans}
+use Rattle.std.proofs.lemmas.Result.{err_from_is_err_and}
 use Rattle.lab_dump.specs.Map.{area_line, areas_below}
 use Rattle.lab_dump.proofs.MapLemmas.{below_more, below_none, first_zero}
 use Rattle.lab_dump.proofs.map.print_areas.Goals as goal
@@ -22,8 +23,19 @@ loop-sector-preserved g c =
           (area_line c.args.geometry.now marks c.loop-sector.sector) c.loop-sector.invariant.printed c.in_ok-first.ensures.printed);
     }
 
-pub returns-clause-printed : goal.returns-clause-printed
-returns-clause-printed g c =
-    let marks = map g.M.Marked.marked c.args.sectors.now in
-    let all : c.loop-sector.sector ≡ c.args.geometry.now.sectors = omega arith in
-    subst (λ (k : ℕ). Appends (g.W.MapWriter.contents c.args.out.now) (g.W.MapWriter.contents c.loop-sector.out) (areas_below c.args.geometry.now marks k)) all c.loop-sector.invariant.printed
+pub returns : goal.returns
+returns g c = record {
+  printed =
+      let marks = map g.M.Marked.marked c.args.sectors.now in
+      let all : c.loop-sector.sector ≡ c.args.geometry.now.sectors = omega arith in
+      subst (λ (k : ℕ). Appends (g.W.MapWriter.contents c.args.out.now) (g.W.MapWriter.contents c.loop-sector.out) (areas_below c.args.geometry.now marks k)) all c.loop-sector.invariant.printed;
+  failed = tt;
+}
+
+pub print_end-requires : goal.print_end-requires
+print_end-requires g c = record { sized = c.requires; within = subst (λ n. c.loop-sector.sector < n) c.sectors-sector-end.ensures c.loop-sector-test.true; first = c.loop-sector.invariant.first_is }
+
+pub returns-in_err-first : goal.returns-in_err-first
+returns-in_err-first g c =
+    let p = err_from_is_err_and c.from_residual.result c.from_residual.ensures.1 in
+    rw p.1 (record { printed = tt; failed = c.in_err-first.ensures.failed })

@@ -1,4 +1,4 @@
-use Rattle.std.proofs.Common.{◌≡◌, length}
+use Rattle.std.proofs.Common.{◌≡◌}
 use Rattle.lab_dump.specs.Rows.{within}
 use Rattle.lab_dump.specs.Scan.{IsReadTo}
 use Rattle.lab_dump.proofs.pass.scan_rows.Given as goal
@@ -9,7 +9,5 @@ invariant-loop-row g l =
       asked : g.T.Taker.asked l.taker ≡ g.T.Taker.asked l.fn.taker;
       fixed : g.T.Taker.fixed l.taker ≡ g.T.Taker.fixed l.fn.taker;
       stands : g.T.Taker.stands l.taker l.geometry l.row;
-      body_whole : length l.body ≡ l.geometry.data_bytes;
-      spare_whole : length l.spare ≡ l.geometry.spare_bytes;
       read : IsReadTo l.geometry l.row (g.R.DumpReader.remaining l.fn.reader) (g.R.DumpReader.remaining l.reader) (λ image. g.T.Taker.shows l.taker l.geometry l.row (within l.geometry l.rows image));
     }

@@ -1,8 +1,9 @@
 use Rattle.std.proofs.Common.{ap, ◌∙◌, arith, rules}
 use Rattle.page_layout.specs.Geometry.{row_count}
+use Rattle.std.proofs.lemmas.Result.{err_from_is_err_and}
 use Rattle.lab_dump.specs.Look.{look_of}
 use Rattle.lab_dump.specs.Sample.{looked_row, look_at}
-use Rattle.lab_dump.proofs.SampleLemmas.{sample_more, sample_none, sample_all, noted_few, noted_looked}
+use Rattle.lab_dump.proofs.SampleLemmas.{looked_few, sample_more, sample_none, sample_all, noted_few, noted_looked}
 use Rattle.lab_dump.proofs.sample.take_sample.Goals as goal
 
 pub loop-place-init : goal.loop-place-init
@@ -29,8 +30,18 @@ loop-place-preserved g c =
           (c.in_ok-look.ensures.look ∙ (ap look_of (c.in_ok-look.ensures.read all (inv.same ∙ told)) ∙ ap (look_at geo.data_bytes geo.spare_bytes all) row)) c.noted-sample.ensures;
     }
 
-pub returns-clause-sample : goal.returns-clause-sample
-returns-clause-sample g c = λ all told.
-    let geo = c.args.geometry.now in
-    sample_all geo.data_bytes geo.spare_bytes (row_count geo) c.loop-place.place all c.loop-place.sample
-    (omega (arith, c.loop-place-test.false, c.loop-place.auto.place-end) ∙ c.none-sample.ensures.looked) (c.loop-place.invariant.sample all told)
+pub returns : goal.returns
+returns g c = record {
+  sample = λ all told.
+      let geo = c.args.geometry.now in
+      sample_all geo.data_bytes geo.spare_bytes (row_count geo) c.loop-place.place all c.loop-place.sample
+      (omega (arith, c.loop-place-test.false, c.loop-place.auto.place-end) ∙ c.none-sample.ensures.looked) (c.loop-place.invariant.sample all told);
+  few = looked_few _ _ _ c.loop-place.sample c.loop-place.invariant.few c.loop-place.auto.place-end c.none-sample.ensures.looked c.loop-place.invariant.looked_is;
+  failed = tt;
+  same = c.loop-place.invariant.same;
+}
+
+pub returns-in_err-look : goal.returns-in_err-look
+returns-in_err-look g c =
+    let p = err_from_is_err_and c.from_residual.result c.from_residual.ensures.1 in
+    rw p.1 (record { sample = tt; few = tt; failed = c.in_err-look.ensures.failed; same = c.look_at_row.ensures.same ∙ c.loop-place.invariant.same })
