@@ -297,3 +297,30 @@ tries_failed g first old new table block done next failed outcome trying within 
       fewer = (let in_table : block < length table = rw (trying.underway.table_is, length-table_after g first.image trying.log) within in
           omega (arith, trying.fewer, good_count-retired table block in_table good));
     }
+
+-- before the first page of a block it makes no difference which one is tried next
+pub any_block : (g : Geometry) (first now : Flash) (table : List TableRow) (block next failed other : ℕ) → IsTrying g first now table block 0 next failed → IsTrying g first now table other 0 next failed
+any_block g first now table block next failed other trying =
+    let u = trying.underway in
+    record {
+      log = trying.log;
+      underway = record {
+        fresh = u.fresh;
+        whole = u.whole;
+        did = u.did;
+        count = u.count;
+        table_is = u.table_is;
+        turns = λ b l good. u.turns b l good ∙ ap turn (done_none block b ∙ sym (done_none other b));
+        kept = λ row l good turn_of. u.kept row l good (omega (arith, done_none block (row / g.pages)));
+        one = u.one;
+        below = u.below;
+        no_sector = u.no_sector;
+        no_translation = u.no_translation;
+        tried = u.tried;
+        sequence = u.sequence;
+        sequence_is = u.sequence_is;
+        pages = λ k l. absurd (omega arith);
+      };
+      failed_is = trying.failed_is;
+      fewer = trying.fewer;
+    }

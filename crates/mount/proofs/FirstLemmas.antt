@@ -1,5 +1,5 @@
 -- The first number that passes a test, of ranges that are joined.
-use Rattle.std.proofs.Common.{◌≡◌, inl, inr, ℕ, ◌+◌, ◌<◌, ◌≤◌, Bool, true, false, Option, Some, None, ◌∙◌, ap, arith}
+use Rattle.std.proofs.Common.{◌≡◌, inl, inr, ℕ, ◌+◌, ◌*◌, ◌<◌, ◌≤◌, Bool, true, false, Option, Some, None, ◌∙◌, ap, arith}
 use Rattle.std.proofs.lemmas.Bool.{cases_lt}
 use Rattle.mount.specs.Fresh.{NonePass, IsFirstPass, IsFirst}
 
@@ -18,6 +18,9 @@ IsFirst-same test other from to (Some k) same first = record {
 
 pub none_passes : (test : ℕ → Bool) (from : ℕ) → NonePass test from from
 none_passes test from = record { none = λ k low high. absurd (omega arith) }
+
+pub none_yet : (test : ℕ → Bool) (n : ℕ) → NonePass test 0 (0 * n)
+none_yet test n = record { none = λ k low high. absurd (omega arith) }
 
 pub none_joins : (test : ℕ → Bool) (from mid to : ℕ) → NonePass test from mid → NonePass test mid to → NonePass test from to
 none_joins test from mid to left right = record {

@@ -1,9 +1,9 @@
 -- Counting good blocks.
-use Rattle.std.proofs.Common.{◌≡◌, ℕ, zero, suc, ◌+◌, ◌<◌, true, false, cond, List, [], ◌∷◌, length, get_or, set, refl, ap, arith}
+use Rattle.std.proofs.Common.{◌≡◌, ℕ, zero, suc, ◌+◌, ◌<◌, ◌≤◌, true, false, cond, List, [], ◌∷◌, length, get_or, set, refl, ◌∙◌, ap, arith}
 use Rattle.std.specs.Prelude.{count_by}
 use Rattle.std.proofs.Math.ListN.{get_or-map}
 use Rattle.std.proofs.lemmas.List.{length-map}
-use Rattle.std.proofs.lemmas.List.Sums.{sum_by-cons}
+use Rattle.std.proofs.lemmas.List.Sums.{sum_by-cons, count_by-le-length}
 use Rattle.bad_blocks.specs.declared.class.Class.{Class}
 use Rattle.bad_blocks.specs.declared.class.Class.TheVariants.{Good, Factory, Grown}
 use Rattle.bad_blocks.specs.declared.table.TableRow.{TableRow}
@@ -54,3 +54,16 @@ pub unworn_retired : (classes : List Class) (b : ℕ) → unworn (set classes b 
 unworn_retired [] b = refl
 unworn_retired (class ∷ classes) zero = refl
 unworn_retired (class ∷ classes) (suc b) = ap (λ (rows : List TableRow). row_of class ∷ rows) (unworn_retired classes b)
+
+-- no more are good than there are
+pub good_fits : (classes : List Class) (good blocks : ℕ) → good ≡ good_count (unworn classes) → length classes ≡ blocks → good ≤ blocks
+good_fits classes good blocks is whole =
+    let most : count_by is_good_class classes ≤ length classes = count_by-le-length is_good_class classes in
+    let counted : good ≡ count_by is_good_class classes = is ∙ unworn_good_count classes in
+    omega (arith, most, counted, whole)
+
+pub some_good : (need good : ℕ) → 0 < need → need ≤ good → 0 < good
+some_good need good some enough = omega (arith, some, enough)
+
+pub fewer_good : (need left good : ℕ) → left + 1 ≡ good → need ≤ good → need ≤ left + 1
+fewer_good need left good fewer enough = omega (arith, fewer, enough)

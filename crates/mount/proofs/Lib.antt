@@ -1,3 +1,4 @@
+pub mod CountLemmas
 pub mod LookLemmas
 pub mod FirstLemmas
 pub mod SurveyLemmas

@@ -1,20 +1,21 @@
 -- From what the pages show to the certificate.
-use Rattle.std.proofs.Common.{◌≡◌, ◌↔◌, ℕ, ◌+◌, ◌≤◌, List, length, map, Some, refl, sym, ap, subst, ◌∙◌, arith, get_or}
+use Rattle.std.proofs.Common.{◌≡◌, ◌↔◌, ℕ, ◌+◌, ◌≤◌, All, List, length, map, Some, refl, sym, ap, subst, ◌∙◌, arith, get_or}
 use Rattle.std.specs.Prelude.{IsPermutation}
 use Rattle.page_layout.specs.declared.geometry.Geometry.{Geometry}
 use Rattle.image_check.specs.Newest.{place_in, blank}
-use Rattle.page_layout.specs.Geometry.{translation_pages, table_pages}
+use Rattle.page_layout.specs.Geometry.{row_count, translation_pages, table_pages}
 use Rattle.page_layout.specs.Page.{Image}
 use Rattle.page_layout.specs.Word.{row_of_word}
 use Rattle.certificate.specs.declared.block_state.BlockState.{BlockState}
 use Rattle.certificate.specs.Claim.{Claim, sizes_of, claim_from}
 use Rattle.certificate.specs.Parts.{FitTogether}
+use Rattle.certificate.specs.Spelling.{FitsBlock, IsRowOf}
 use Rattle.image_check.specs.declared.survey.Survey.{Survey}
 use Rattle.image_check.specs.Agrees.{EachState, HasTables}
 use Rattle.image_check.specs.Blocks.{block_state, AreStates}
 use Rattle.image_check.specs.Refused.{Numbers, Sequences, Tables, HoldBetween}
 use Rattle.image_check.specs.Stale.{stale_sectors, stale_count}
-use Rattle.image_check.specs.Surveyed.{Surveys, SurveysPairs}
+use Rattle.image_check.specs.Surveyed.{IsSized, Surveys, SurveysPairs}
 use Rattle.image_check.proofs.PartLemmas.{sectors_hold, directory_holds}
 use Rattle.mount.specs.declared.mount_pages.Shown.{Shown}
 use Rattle.mount.specs.Mounted.{IsMounted}
@@ -23,6 +24,22 @@ use Rattle.mount.proofs.RefuseLemmas.{no_claim}
 use Rattle.mount.proofs.WordLemmas.{row_told, words_fit}
 
 -- ---- from the survey
+
+-- it is sized for its own geometry
+pub own_sized : (g : Geometry) (s : Survey) → IsSized g (row_count g) s → IsSized s.geometry (row_count s.geometry) s
+own_sized g s h = subst (λ k. IsSized k (row_count k) s) (sym h.geometry_is) h
+
+-- what is shown is as large as the survey was
+pub shown_sized : (g : Geometry) (old new : Survey) (shown : Shown) → IsSized g (row_count g) old → new ≡ record old { pairs = new.pairs } → shown.newest.items ≡ new.newest.items
+    → length shown.blocks.items ≡ old.geometry.blocks → All FitsBlock shown.blocks.items → IsShownSized g shown
+shown_sized g old new shown h others newest size fits =
+    let kept : shown.newest.items ≡ old.newest.items = newest ∙ ap (λ (s : Survey). s.newest.items) others in
+    record {
+      newest = ap length kept ∙ h.newest;
+      within = subst (λ xs. All (λ x. IsRowOf (row_count g) (place_in x)) xs) (sym kept) h.within;
+      blocks = size ∙ ap (λ (k : Geometry). k.blocks) h.geometry_is;
+      fits = fits;
+    }
 
 pub orderly_at : (g k : Geometry) (image : Image) (s : Survey) → k ≡ g → Surveys g image s → ((capacity : ℕ) (image : Image) (claim : Claim) → Surveys k image s → HoldBetween k capacity image claim 1 4) → (capacity : ℕ) (claim : Claim) → HoldBetween g capacity image claim 1 4
 orderly_at g k image s e surveys h capacity claim =

@@ -1,5 +1,5 @@
 -- What the pages of a block say of it.
-use Rattle.std.proofs.Common.{[], ◌≡◌, inl, inr, ℕ, ◌+◌, ◌-◌, ◌*◌, ◌/◌, ◌<◌, ◌≤◌, ◌^◌, Bool, false, List, length, set, Option, Some, None, get_or, sym}
+use Rattle.std.proofs.Common.{[], ◌≡◌, inl, inr, ℕ, ◌+◌, ◌-◌, ◌*◌, ◌/◌, ◌<◌, ◌≤◌, ◌^◌, Bool, true, false, ◌||◌, List, length, set, Option, Some, None, get_or, sym}
 use Rattle.std.proofs.Common.{◌∙◌, ap, arith}
 use Rattle.std.specs.Option.{IfSome, option_or}
 use Rattle.std.proofs.lemmas.Bool.{cases_eq}
@@ -8,14 +8,17 @@ use Rattle.std.proofs.lemmas.List.{get_or-set_same, get_or-set_other, length-map
 use Rattle.std.proofs.lemmas.Nat.{div-mul-add}
 use Rattle.page_layout.specs.declared.geometry.Geometry.{Geometry}
 use Rattle.page_layout.specs.Counter.{counted}
+use Rattle.page_layout.specs.Geometry.{row_count}
 use Rattle.page_layout.specs.Page.{Image}
 use Rattle.page_layout.specs.Flash.{no_page}
 use Rattle.bad_blocks.specs.declared.class.Class.{Class}
 use Rattle.bad_blocks.specs.declared.class.Class.TheVariants.{Good}
 use Rattle.bad_blocks.specs.declared.table.TableRow.{TableRow}
-use Rattle.bad_blocks.specs.Marks.{is_marked}
+use Rattle.bad_blocks.specs.Marks.{has_mark, is_marked}
 use Rattle.mount.specs.Fresh.{is_page_used, is_used, IsFirst}
 use Rattle.mount.specs.Formatted.{class_after, table_after}
+use Rattle.mount.specs.PageLook.{look_of}
+use Rattle.mount.specs.declared.format_survey.PageLook.{PageLook}
 use Rattle.bad_blocks.specs.Table.{no_table_row, unworn}
 use Rattle.bad_blocks.proofs.RangeLemmas.{map_range_from_places}
 use Rattle.mount.proofs.TableLemmas.{row_after}
@@ -85,6 +88,71 @@ reads_whole a b c d inner pages one two each all fits =
     let two_more : c ≡ a + 2 = omega (arith, one, two, all, fits) in
     let sum = each (omega (arith, two_more, all, fits)) in
     omega (arith, two_more, sum, all)
+
+-- ---- whether a block is marked
+
+pub or_then : (either one two : Bool) → one ≡ true → either ≡ one → either ≡ one || two
+or_then either one two is made = made ∙ (is ∙ ap (λ b. b || two) (sym is))
+
+pub or_else : (either one two : Bool) → one ≡ false → either ≡ two → either ≡ one || two
+or_else either one two is made = made ∙ ap (λ b. b || two) (sym is)
+
+-- by the looks at its first page and its last
+pub marked_block : (g : Geometry) (image : Image) (block first last pages : ℕ) (marked : Bool) (one two : PageLook) → marked ≡ one.has_zero || two.has_zero
+    → one ≡ look_of (get_or image first no_page) → two ≡ look_of (get_or image last no_page) → first ≡ block * g.pages → last ≡ block * g.pages + (pages - 1) → pages ≡ g.pages → marked ≡ is_marked g image block
+marked_block g image block first last pages marked one two either one_is two_is first_is last_is pages_are =
+    let at_first : one.has_zero ≡ has_mark image (block * g.pages) = ap (λ (l : PageLook). l.has_zero) one_is ∙ ap (has_mark image) first_is in
+    let at_last : two.has_zero ≡ has_mark image (block * g.pages + (g.pages - 1)) = ap (λ (l : PageLook). l.has_zero) two_is ∙ ap (has_mark image) (last_is ∙ ap (λ n. block * g.pages + (n - 1)) pages_are) in
+    either ∙ (ap (λ b. b || two.has_zero) at_first ∙ ap (λ b. has_mark image (block * g.pages) || b) at_last)
+
+-- the rows of the first page of a block, of its last one, and how many are between
+pub record IsBlockRows (g : Geometry) (block first last : ℕ) : Type 0 where
+  pub first_is : first ≡ block * g.pages
+  pub last_is : last + 1 ≡ block * g.pages + g.pages
+  pub order : first < last
+  pub inner_order : first + 1 ≤ last
+  pub inner_in : last ≤ row_count g
+  pub first_low : block * g.pages ≤ first
+  pub first_high : first < block * g.pages + g.pages
+  pub inner_low : block * g.pages ≤ first + 1
+  pub inner_high : last ≤ block * g.pages + g.pages
+  pub last_low : block * g.pages ≤ last
+  pub last_high : last < block * g.pages + g.pages
+  pub all : last - (first + 1) + 2 ≡ g.pages
+
+pub two_pages : (g : Geometry) → 2 ≤ g.pages
+two_pages g = omega (arith, g.limits.page_count.least)
+
+pub block_rows : (g : Geometry) (block first last pages : ℕ) → first ≡ block * g.pages + 0 → last ≡ block * g.pages + (pages - 1) → last < row_count g → pages ≡ g.pages → IsBlockRows g block first last
+block_rows g block first last pages first_row last_row last_in pages_are =
+    let some : 2 ≤ g.pages = two_pages g in
+    let first_is : first ≡ block * g.pages = omega (arith, first_row) in
+    let last_is : last + 1 ≡ block * g.pages + g.pages = omega (arith, last_row, pages_are, some) in
+    record {
+      first_is = first_is;
+      last_is = last_is;
+      order = omega (arith, first_is, last_is, some);
+      inner_order = omega (arith, first_is, last_is, some);
+      inner_in = omega (arith, last_in);
+      first_low = omega (arith, first_is);
+      first_high = omega (arith, first_is, some);
+      inner_low = omega (arith, first_is);
+      inner_high = omega (arith, last_is);
+      last_low = omega (arith, last_is, some);
+      last_high = omega (arith, last_is);
+      all = omega (arith, first_is, last_is, some);
+    }
+
+-- what is at most the last one is a row
+pub row_past : (found : Option ℕ) (last rows : ℕ) → IfSome found (λ row. row ≤ last) → last < rows → IfSome found (λ row. row < rows)
+row_past None last rows most below = tt
+row_past (Some row) last rows most below = omega (arith, most, below)
+
+pub no_class : {k : ℕ} → k < 0 → ⊥
+no_class below = omega (arith, below)
+
+pub some_blocks : (g : Geometry) → 0 < g.blocks
+some_blocks g = omega (arith, g.limits.block_count.least)
 
 -- nothing was programmed
 pub unprogrammed : (a b n : ℕ) → b ≡ a → b ≤ a + n

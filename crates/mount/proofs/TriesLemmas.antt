@@ -1,5 +1,6 @@
 -- Writing the table pages into one block after another.
-use Rattle.std.proofs.Common.{◌≡◌, refl, ℕ, ◌+◌, ◌*◌, ◌<◌, ◌≤◌, true, false, List, [], ◌∷◌, Result, Ok, Err, sym, ◌∙◌, ap, arith}
+use Rattle.std.proofs.Common.{◌≡◌, refl, ℕ, ◌+◌, ◌*◌, ◌^◌, ◌<◌, ◌≤◌, true, false, List, [], ◌∷◌, Result, Ok, Err, sym, ◌∙◌, ap, subst, arith}
+use Rattle.std.proofs.Math.Nat.{mul-le-mul}
 use Rattle.page_layout.specs.declared.geometry.Geometry.{Geometry}
 use Rattle.page_layout.specs.Geometry.{row_count, table_pages}
 use Rattle.page_layout.specs.Flash.{Flash, Operation, Program, Erase, Leads}
@@ -12,11 +13,12 @@ use Rattle.promises.specs.Log.{programs_in, erases_in}
 use Rattle.mount.specs.Log.{failures}
 use Rattle.mount.specs.Fresh.{is_used, IsFirstPass}
 use Rattle.mount.proofs.TableLemmas.{good_count-table}
-use Rattle.mount.specs.Formatted.{good_after, IsNotFresh, table_after, IsFormatted, IsTooFewGood, IsWriteFailed, Formats}
-use Rattle.mount.specs.Attempt.{IsTrying, Tries, WritesFormat}
+use Rattle.mount.specs.Formatted.{good_after, Answers, IsNotFresh, table_after, IsFormatted, IsTooFewGood, IsWriteFailed, Formats}
+use Rattle.mount.specs.Attempt.{IsTrying, Tries, WritesFormat, AnswersWrite}
 use Rattle.mount.specs.declared.format_fault.FormatFault.{FormatFault}
 use Rattle.mount.specs.declared.format_fault.FormatFault.TheVariants.{TooFewGood, Bus, OutOfMemory, WriteFailed, NotFresh}
 use Rattle.mount.proofs.FinishLemmas.{finished}
+use Rattle.mount.proofs.SizeLemmas.{table_pages_fit}
 
 -- ---- by the outcome
 
@@ -101,3 +103,62 @@ used_at g needed old table row is enough first = record {
   first = first;
   untouched = refl;
 }
+
+-- ---- what the loops of the writes know
+
+-- an outcome that isn't passed
+pub failed_of : (o : Outcome) → is_passed o ≡ false → o ≡ Failed
+failed_of Passed e = absurd (let clash : true ≡ false = e in cc)
+failed_of Failed e = refl
+
+pub passed_not_failed : Passed ≡ Failed → ⊥
+passed_not_failed e = (let never : ⊥ = cc in never)
+
+-- before the first failure nothing was written
+pub first_sequence : (g : Geometry) (next failed : ℕ) → next ≤ 1 + failed * table_pages g → failed ≡ 0 → next ≤ 1
+first_sequence g next failed most none = (let zero : failed * table_pages g ≡ 0 * table_pages g = ap (λ f. f * table_pages g) none in omega (arith, most, zero))
+
+pub sequences_fit : (g : Geometry) (next failed : ℕ) → next ≤ 1 + failed * table_pages g → failed < 3 → next + table_pages g < 2 ^ 64
+sequences_fit g next failed most few =
+    let all : failed * table_pages g ≤ 3 * table_pages g = mul-le-mul (omega (arith, few)) (omega arith) in
+    omega (arith, most, all, table_pages_fit g, g.limits.page_count.most)
+
+pub good_not_bus : {T : Type 0} (good : T) → ◌≡◌ {A = Result T FormatFault} (Ok good) (Err Bus) → ⊥
+good_not_bus good is = (let never : ⊥ = cc in never)
+
+pub few_not_bus : {T : Type 0} (good asked : ℕ) → ◌≡◌ {A = Result T FormatFault} (Err (TooFewGood good asked)) (Err Bus) → ⊥
+few_not_bus good asked is = (let never : ⊥ = cc in never)
+
+pub write_not_bus : {T : Type 0} → ◌≡◌ {A = Result T FormatFault} (Err WriteFailed) (Err Bus) → ⊥
+write_not_bus is = (let never : ⊥ = cc in never)
+
+pub fresh_not_bus : {T : Type 0} (row : ℕ) → ◌≡◌ {A = Result T FormatFault} (Err (NotFresh row)) (Err Bus) → ⊥
+fresh_not_bus row is = (let never : ⊥ = cc in never)
+
+pub fresh_not_memory : {T : Type 0} (row : ℕ) → ◌≡◌ {A = Result T FormatFault} (Err (NotFresh row)) (Err OutOfMemory) → ⊥
+fresh_not_memory row is = (let never : ⊥ = cc in never)
+
+pub few_not_memory : {T : Type 0} (good asked : ℕ) → ◌≡◌ {A = Result T FormatFault} (Err (TooFewGood good asked)) (Err OutOfMemory) → ⊥
+few_not_memory good asked is = (let never : ⊥ = cc in never)
+
+pub memory_not_bus : {T : Type 0} → ◌≡◌ {A = Result T FormatFault} (Err OutOfMemory) (Err Bus) → ⊥
+memory_not_bus is = (let never : ⊥ = cc in never)
+
+pub bus_not_memory : {T : Type 0} → ◌≡◌ {A = Result T FormatFault} (Err Bus) (Err OutOfMemory) → ⊥
+bus_not_memory is = (let never : ⊥ = cc in never)
+
+-- what the writes answer after a scan that programmed nothing
+pub writes_answers : (g : Geometry) (needed before old new : ℕ) (r : Result ℕ FormatFault) → old ≡ before → AnswersWrite g needed old new r → Answers g needed before new r
+writes_answers g needed before old new r same writes = by_case r (subst (λ n. AnswersWrite g needed n new r) same writes)
+  where
+    by_case : (r : Result ℕ FormatFault) → AnswersWrite g needed before new r → Answers g needed before new r
+    by_case (Ok good) writes = writes
+    by_case (Err (TooFewGood good asked)) writes = writes
+    by_case (Err Bus) writes = writes
+    by_case (Err OutOfMemory) writes = absurd writes
+    by_case (Err WriteFailed) writes = writes
+    by_case (Err (NotFresh row)) writes = absurd writes
+
+-- the writes never want memory
+pub not_for_memory : (g : Geometry) (needed old new : ℕ) (r : Result ℕ FormatFault) → r ≡ Err OutOfMemory → AnswersWrite g needed old new r → ⊥
+not_for_memory g needed old new r is writes = subst (λ r. AnswersWrite g needed old new r) is writes

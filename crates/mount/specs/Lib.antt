@@ -9,3 +9,4 @@ pub mod MountLaws
 pub mod Room
 pub mod Shown
 pub mod Ready
+pub mod OnlyWrites

@@ -5,6 +5,7 @@ ghost use Rattle.page_layout.specs.Flash.{Flash};
 ghost use Rattle.page_layout.specs.Geometry.{table_pages};
 ghost use Rattle.bad_blocks.specs.Table.{good_count, is_good_at, unworn};
 ghost use Rattle.mount.specs.Attempt.{IsTableProgram, IsTrying, Tries, WritesFormat, AnswersWrite};
+ghost use Rattle.mount.specs.OnlyWrites.{OnlyWrites};
 
 use crate::format_fault::FormatFault;
 use bad_blocks::{Class, write_unworn_page};
@@ -31,13 +32,8 @@ fn program_table<N: Nand>(
     ensures programmed { IfOk result (λ outcome. N.view.honest nand.old ≡ true →
         IsTableProgram geometry.now (N.view.flash nand.old) (N.view.flash nand.new) (block * geometry.now.pages + u)
         u sequence (unworn classes.now) outcome) }
-    ensures geometry { (N.view.flash nand.new).geometry ≡ (N.view.flash nand.old).geometry }
-    ensures honest { N.view.honest nand.new ≡ N.view.honest nand.old }
-    ensures calm { N.view.calm nand.new ≡ N.view.calm nand.old }
-    ensures reads { N.view.reads nand.new ≡ N.view.reads nand.old }
+    ensures only_writes { OnlyWrites N.view nand.old nand.new }
     ensures programs { N.view.programs nand.new ≡ counted (N.view.programs nand.old) }
-    ensures erases { N.view.erases nand.new ≡ N.view.erases nand.old }
-    ensures failed { N.view.failed nand.old ≤ N.view.failed nand.new }
     ensures rose { OnErr result (HasRisen (N.view.failed nand.old) (N.view.failed nand.new)) }
 {
     let record = Record {
@@ -72,14 +68,9 @@ fn write_in_block<N: Nand>(
         IsTrying geometry.now first (N.view.flash nand.old) (unworn classes.now) block 0 sequence.old failed →
         Tries geometry.now first (N.view.flash nand.new) (unworn classes.now) block sequence.new failed outcome) }
     ensures sequences { sequence.new ≤ sequence.old + table_pages geometry.now }
-    ensures geometry { (N.view.flash nand.new).geometry ≡ (N.view.flash nand.old).geometry }
-    ensures honest { N.view.honest nand.new ≡ N.view.honest nand.old }
-    ensures calm { N.view.calm nand.new ≡ N.view.calm nand.old }
-    ensures reads { N.view.reads nand.new ≡ N.view.reads nand.old }
+    ensures only_writes { OnlyWrites N.view nand.old nand.new }
     ensures programs { N.view.programs nand.new ≤ N.view.programs nand.old + table_pages geometry.now }
     ensures tried { IfOk result (λ outcome. outcome ≡ Outcome.Failed → counted (N.view.programs nand.old) ≤ N.view.programs nand.new) }
-    ensures erases { N.view.erases nand.new ≡ N.view.erases nand.old }
-    ensures failed { N.view.failed nand.old ≤ N.view.failed nand.new }
     ensures rose { OnErr result (HasRisen (N.view.failed nand.old) (N.view.failed nand.new)) }
 {
     for u in 0..geometry.table_pages() {
@@ -155,13 +146,8 @@ pub fn write_tables<N: Nand>(
         IsTrying geometry.now (N.view.flash nand.old) (N.view.flash nand.old) (unworn classes.old) 0 0 1 0 →
         WritesFormat geometry.now need (N.view.flash nand.old) (N.view.flash nand.new) result }
     ensures answers { AnswersWrite geometry.now need (N.view.programs nand.old) (N.view.programs nand.new) result }
-    ensures geometry { (N.view.flash nand.new).geometry ≡ (N.view.flash nand.old).geometry }
-    ensures honest { N.view.honest nand.new ≡ N.view.honest nand.old }
-    ensures calm { N.view.calm nand.new ≡ N.view.calm nand.old }
-    ensures reads { N.view.reads nand.new ≡ N.view.reads nand.old }
+    ensures only_writes { OnlyWrites N.view nand.old nand.new }
     ensures programs { N.view.programs nand.new ≤ N.view.programs nand.old + 3 * table_pages geometry.now }
-    ensures erases { N.view.erases nand.new ≡ N.view.erases nand.old }
-    ensures failed { N.view.failed nand.old ≤ N.view.failed nand.new }
     ensures rose { IsErrOf result FormatFault.Bus → HasRisen (N.view.failed nand.old) (N.view.failed nand.new) }
 {
     let mut sequence = 1;

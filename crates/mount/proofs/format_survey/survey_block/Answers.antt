@@ -1,191 +1,135 @@
-use Rattle.std.proofs.Common.{◌≡◌, ◌+◌, ◌*◌, get_or, sym, ◌∙◌, ap, subst, arith, ◌-◌}
-use Rattle.std.proofs.lemmas.Grind.{common_steps}
+use Rattle.std.proofs.Common.{◌≡◌, ◌+◌, true, ◌||◌, get_or, sym, ◌∙◌, ap, subst}
+use Rattle.std.proofs.lemmas.Result.{err_from_is_err_and}
 use Rattle.page_layout.specs.Flash.{Flash, page_at, no_page}
+use Rattle.image_check.proofs.ReadLemmas.{reads_then, risen_over}
 use Rattle.mount.specs.Fresh.{is_page_used, is_used, IsFirst}
 use Rattle.mount.specs.PageLook.{look_of, is_look_used}
 use Rattle.mount.specs.declared.format_survey.PageLook.{PageLook}
-use Rattle.mount.proofs.SurveyLemmas.{is_used-block, first_used-block, reads_first, reads_last, reads_inner, reads_whole}
-use Rattle.std.proofs.lemmas.Result.{err_from_is_err_and}
-use Rattle.image_check.proofs.ReadLemmas.{reads_then, risen_over}
+use Rattle.mount.proofs.SurveyLemmas.{block_rows, is_used-block, first_used-block, reads_first, reads_last, reads_inner, reads_whole, row_past, two_pages, or_then, or_else, marked_block}
+use Rattle.mount.proofs.format_survey.survey_block.Goals.{then-first, else-first}
 use Rattle.mount.proofs.format_survey.survey_block.Goals as goal
 
-pub returns-clause-marked : goal.returns-clause-marked
-returns-clause-marked g c = grind (arith, common_steps)
+pub read_look-requires : goal.read_look-requires
+read_look-requires g c = record {
+  within = c.row-first_row.ensures.within;
+  geometry = c.requires.geometry;
+  body_whole = c.requires.body_whole;
+  spare_whole = c.requires.spare_whole;
+}
 
-pub returns-clause-first : goal.returns-clause-first
-returns-clause-first g c = λ h.
+pub read_look-requires-2 : goal.read_look-requires-2
+read_look-requires-2 g c = record {
+  within = c.row-last_row.ensures.within;
+  geometry = c.in_ok-first.ensures.only_reads.geometry_is ∙ c.requires.geometry;
+  body_whole = c.read_look.auto.body ∙ c.requires.body_whole;
+  spare_whole = c.read_look.auto.spare ∙ c.requires.spare_whole;
+}
+
+pub used_between-requires : goal.used_between-requires
+used_between-requires g c =
+    let rows = block_rows c.args.geometry.now c.args.block _ _ _ c.row-first_row.ensures.is c.row-last_row.ensures.is c.row-last_row.ensures.within c.pages.ensures in
+    record {
+      order = rows.inner_order;
+      within = rows.inner_in;
+      geometry = (c.in_ok-last.ensures.only_reads.geometry_is ∙ c.in_ok-first.ensures.only_reads.geometry_is) ∙ c.requires.geometry;
+      body_whole = (c.read_look-2.auto.body ∙ c.read_look.auto.body) ∙ c.requires.body_whole;
+      spare_whole = (c.read_look-2.auto.spare ∙ c.read_look.auto.spare) ∙ c.requires.spare_whole;
+    }
+
+pub first_of_block-used-requires : goal.first_of_block-used-requires
+first_of_block-used-requires g c = record {
+  order = (block_rows c.args.geometry.now c.args.block _ _ _ c.row-first_row.ensures.is c.row-last_row.ensures.is c.row-last_row.ensures.within c.pages.ensures).order;
+  row = c.in_ok-inner.ensures.row;
+}
+
+pub returns-in_err-first : goal.returns-in_err-first
+returns-in_err-first g c =
+    let p = err_from_is_err_and c.from_residual.result c.from_residual.ensures.1 in
+    let read = c.in_err-first.ensures in
+    rw p.1 (record {
+      marked = tt;
+      first = tt;
+      row = tt;
+      same = tt;
+      whole = tt;
+      only_reads = read.only_reads;
+      reads = tt;
+      most_reads = reads_first _ _ _ read.reads (two_pages c.args.geometry.now);
+      rose = read.rose;
+    })
+
+pub returns-in_err-last : goal.returns-in_err-last
+returns-in_err-last g c =
+    let p = err_from_is_err_and c.from_residual-in_err-last.result c.from_residual-in_err-last.ensures.1 in
+    let before = c.in_ok-first.ensures in
+    let read = c.in_err-last.ensures in
+    rw p.1 (record {
+      marked = tt;
+      first = tt;
+      row = tt;
+      same = tt;
+      whole = tt;
+      only_reads = reads_then _ _ _ _ before.only_reads read.only_reads;
+      reads = tt;
+      most_reads = reads_last _ _ _ _ before.reads read.reads (two_pages c.args.geometry.now);
+      rose = risen_over _ _ _ before.only_reads.failed_is read.rose;
+    })
+
+pub returns-in_err-inner : goal.returns-in_err-inner
+returns-in_err-inner g c =
+    let p = err_from_is_err_and c.from_residual-in_err-inner.result c.from_residual-in_err-inner.ensures.1 in
+    let rows = block_rows c.args.geometry.now c.args.block _ _ _ c.row-first_row.ensures.is c.row-last_row.ensures.is c.row-last_row.ensures.within c.pages.ensures in
+    let before = reads_then _ _ _ _ c.in_ok-first.ensures.only_reads c.in_ok-last.ensures.only_reads in
+    let read = c.in_err-inner.ensures in
+    rw p.1 (record {
+      marked = tt;
+      first = tt;
+      row = tt;
+      same = tt;
+      whole = tt;
+      only_reads = reads_then _ _ _ _ before read.only_reads;
+      reads = tt;
+      most_reads = reads_inner _ _ _ _ _ _ c.in_ok-first.ensures.reads c.in_ok-last.ensures.reads read.most_reads rows.all;
+      rose = risen_over _ _ _ before.failed_is read.rose;
+    })
+
+pub returns : goal.returns
+returns g c =
     let geometry = c.args.geometry.now in
     let flash = g.S.PageSource.view.flash c.args.source.now in
     let block = c.args.block in
     let marked = c.if-first.marked in
-    let is = returns-clause-marked g c h in
     let first_row = c.row-first_row.result in
     let last_row = c.row-last_row.result in
-    let first_is : first_row ≡ block * geometry.pages = omega (arith, c.row-first_row.ensures.is) in
-    let last_is : last_row + 1 ≡ block * geometry.pages + geometry.pages = omega (arith, c.row-last_row.ensures.is, c.pages.ensures, geometry.limits.page_count.least) in
-    let h1 = c.in_ok-first.ensures.only_reads.honest_is ∙ h in
-    let h2 = c.in_ok-last.ensures.only_reads.honest_is ∙ h1 in
-    let same1 = c.in_ok-first.ensures.same h in
-    let same2 = c.in_ok-last.ensures.same h1 ∙ same1 in
-    let first : c.in_ok-first.first ≡ look_of (page_at flash first_row) = c.in_ok-first.ensures.looked h in
-    let last : c.in_ok-last.last ≡ look_of (page_at flash last_row) = c.in_ok-last.ensures.looked h1 ∙ ap (λ (f : Flash). look_of (page_at f last_row)) same1 in
-    let inner : IsFirst (λ row. is_page_used marked (get_or flash.image row no_page)) (first_row + 1) last_row c.in_ok-inner.inner =
-    subst (λ (f : Flash). IsFirst (λ row. is_page_used marked (page_at f row)) (first_row + 1) last_row c.in_ok-inner.inner) same2 (c.in_ok-inner.ensures.first h2) in
-    let found : IsFirst (is_used geometry flash.image) first_row (last_row + 1) c.first_of_block-used.result =
-    c.first_of_block-used.ensures.first (is_used geometry flash.image)
-    (is_used-block geometry flash.image block first_row marked is (omega arith) (omega (arith, geometry.limits.page_count.least)) ∙ ap (λ (l : PageLook). is_look_used marked l) (sym first))
-    (first_used-block geometry flash.image block (first_row + 1) last_row marked c.in_ok-inner.inner is (omega arith) (omega arith) inner)
-    (is_used-block geometry flash.image block last_row marked is (omega (arith, geometry.limits.page_count.least)) (omega arith) ∙ ap (λ (l : PageLook). is_look_used marked l) (sym last)) in
-    rw (← last_is, ← first_is) found
-
-pub returns-in_err-first-clause-marked : goal.returns-in_err-first-clause-marked
-returns-in_err-first-clause-marked g c =
-    let p = err_from_is_err_and c.from_residual.result c.from_residual.ensures.1 in
-    rw p.1 (tt)
-
-pub returns-in_err-first-clause-first : goal.returns-in_err-first-clause-first
-returns-in_err-first-clause-first g c =
-    let p = err_from_is_err_and c.from_residual.result c.from_residual.ensures.1 in
-    rw p.1 (tt)
-
-pub returns-in_err-first-clause-row : goal.returns-in_err-first-clause-row
-returns-in_err-first-clause-row g c =
-    let p = err_from_is_err_and c.from_residual.result c.from_residual.ensures.1 in
-    rw p.1 (tt)
-
-pub returns-in_err-first-clause-same : goal.returns-in_err-first-clause-same
-returns-in_err-first-clause-same g c =
-    let p = err_from_is_err_and c.from_residual.result c.from_residual.ensures.1 in
-    rw p.1 (tt)
-
-pub returns-in_err-first-clause-whole : goal.returns-in_err-first-clause-whole
-returns-in_err-first-clause-whole g c =
-    let p = err_from_is_err_and c.from_residual.result c.from_residual.ensures.1 in
-    rw p.1 (tt)
-
-pub returns-in_err-first-clause-reads : goal.returns-in_err-first-clause-reads
-returns-in_err-first-clause-reads g c =
-    let p = err_from_is_err_and c.from_residual.result c.from_residual.ensures.1 in
-    rw p.1 (tt)
-
-pub returns-in_err-last-clause-marked : goal.returns-in_err-last-clause-marked
-returns-in_err-last-clause-marked g c =
-    let p = err_from_is_err_and c.from_residual-in_err-last.result c.from_residual-in_err-last.ensures.1 in
-    rw p.1 (tt)
-
-pub returns-in_err-last-clause-first : goal.returns-in_err-last-clause-first
-returns-in_err-last-clause-first g c =
-    let p = err_from_is_err_and c.from_residual-in_err-last.result c.from_residual-in_err-last.ensures.1 in
-    rw p.1 (tt)
-
-pub returns-in_err-last-clause-row : goal.returns-in_err-last-clause-row
-returns-in_err-last-clause-row g c =
-    let p = err_from_is_err_and c.from_residual-in_err-last.result c.from_residual-in_err-last.ensures.1 in
-    rw p.1 (tt)
-
-pub returns-in_err-last-clause-same : goal.returns-in_err-last-clause-same
-returns-in_err-last-clause-same g c =
-    let p = err_from_is_err_and c.from_residual-in_err-last.result c.from_residual-in_err-last.ensures.1 in
-    rw p.1 (tt)
-
-pub returns-in_err-last-clause-whole : goal.returns-in_err-last-clause-whole
-returns-in_err-last-clause-whole g c =
-    let p = err_from_is_err_and c.from_residual-in_err-last.result c.from_residual-in_err-last.ensures.1 in
-    rw p.1 (tt)
-
-pub returns-in_err-last-clause-reads : goal.returns-in_err-last-clause-reads
-returns-in_err-last-clause-reads g c =
-    let p = err_from_is_err_and c.from_residual-in_err-last.result c.from_residual-in_err-last.ensures.1 in
-    rw p.1 (tt)
-
-pub returns-in_err-inner-clause-marked : goal.returns-in_err-inner-clause-marked
-returns-in_err-inner-clause-marked g c =
-    let p = err_from_is_err_and c.from_residual-in_err-inner.result c.from_residual-in_err-inner.ensures.1 in
-    rw p.1 (tt)
-
-pub returns-in_err-inner-clause-first : goal.returns-in_err-inner-clause-first
-returns-in_err-inner-clause-first g c =
-    let p = err_from_is_err_and c.from_residual-in_err-inner.result c.from_residual-in_err-inner.ensures.1 in
-    rw p.1 (tt)
-
-pub returns-in_err-inner-clause-row : goal.returns-in_err-inner-clause-row
-returns-in_err-inner-clause-row g c =
-    let p = err_from_is_err_and c.from_residual-in_err-inner.result c.from_residual-in_err-inner.ensures.1 in
-    rw p.1 (tt)
-
-pub returns-in_err-inner-clause-same : goal.returns-in_err-inner-clause-same
-returns-in_err-inner-clause-same g c =
-    let p = err_from_is_err_and c.from_residual-in_err-inner.result c.from_residual-in_err-inner.ensures.1 in
-    rw p.1 (tt)
-
-pub returns-in_err-inner-clause-whole : goal.returns-in_err-inner-clause-whole
-returns-in_err-inner-clause-whole g c =
-    let p = err_from_is_err_and c.from_residual-in_err-inner.result c.from_residual-in_err-inner.ensures.1 in
-    rw p.1 (tt)
-
-pub returns-in_err-inner-clause-reads : goal.returns-in_err-inner-clause-reads
-returns-in_err-inner-clause-reads g c =
-    let p = err_from_is_err_and c.from_residual-in_err-inner.result c.from_residual-in_err-inner.ensures.1 in
-    rw p.1 (tt)
-
-pub returns-in_err-first-clause-only_reads : goal.returns-in_err-first-clause-only_reads
-returns-in_err-first-clause-only_reads g c = c.in_err-first.ensures.only_reads
-
-pub returns-in_err-first-clause-rose : goal.returns-in_err-first-clause-rose
-returns-in_err-first-clause-rose g c =
-    let p = err_from_is_err_and c.from_residual.result c.from_residual.ensures.1 in
-    rw p.1 c.in_err-first.ensures.rose
-
-pub returns-in_err-last-clause-only_reads : goal.returns-in_err-last-clause-only_reads
-returns-in_err-last-clause-only_reads g c = reads_then _ _ _ _ c.in_ok-first.ensures.only_reads c.in_err-last.ensures.only_reads
-
-pub returns-in_err-last-clause-rose : goal.returns-in_err-last-clause-rose
-returns-in_err-last-clause-rose g c =
-    let p = err_from_is_err_and c.from_residual-in_err-last.result c.from_residual-in_err-last.ensures.1 in
-    rw p.1 (risen_over _ _ _ c.in_ok-first.ensures.only_reads.failed_is c.in_err-last.ensures.rose)
-
-pub returns-in_err-inner-clause-only_reads : goal.returns-in_err-inner-clause-only_reads
-returns-in_err-inner-clause-only_reads g c = reads_then _ _ _ _ (reads_then _ _ _ _ c.in_ok-first.ensures.only_reads c.in_ok-last.ensures.only_reads) c.in_err-inner.ensures.only_reads
-
-pub returns-in_err-inner-clause-rose : goal.returns-in_err-inner-clause-rose
-returns-in_err-inner-clause-rose g c =
-    let p = err_from_is_err_and c.from_residual-in_err-inner.result c.from_residual-in_err-inner.ensures.1 in
-    let before = reads_then _ _ _ _ c.in_ok-first.ensures.only_reads c.in_ok-last.ensures.only_reads in
-    rw p.1 (risen_over _ _ _ before.failed_is c.in_err-inner.ensures.rose)
-
-pub returns-clause-only_reads : goal.returns-clause-only_reads
-returns-clause-only_reads g c = reads_then _ _ _ _ (reads_then _ _ _ _ c.in_ok-first.ensures.only_reads c.in_ok-last.ensures.only_reads) c.in_ok-inner.ensures.only_reads
-
-pub returns-clause-same : goal.returns-clause-same
-returns-clause-same g c = λ h.
-    let first = c.in_ok-first.ensures in
-    let last = c.in_ok-last.ensures in
-    let h1 = first.only_reads.honest_is ∙ h in
-    c.in_ok-inner.ensures.same (last.only_reads.honest_is ∙ h1) ∙ (last.same h1 ∙ first.same h)
-
-pub returns-clause-whole : goal.returns-clause-whole
-returns-clause-whole g c = c.in_ok-first.ensures.whole
-
-pub returns-in_err-first-clause-most_reads : goal.returns-in_err-first-clause-most_reads
-returns-in_err-first-clause-most_reads g c = reads_first _ _ _ c.in_err-first.ensures.reads (omega (arith, c.args.geometry.now.limits.page_count.least))
-
-pub returns-in_err-last-clause-most_reads : goal.returns-in_err-last-clause-most_reads
-returns-in_err-last-clause-most_reads g c = reads_last _ _ _ _ c.in_ok-first.ensures.reads c.in_err-last.ensures.reads (omega (arith, c.args.geometry.now.limits.page_count.least))
-
-pub returns-in_err-inner-clause-most_reads : goal.returns-in_err-inner-clause-most_reads
-returns-in_err-inner-clause-most_reads g c =
-    let geometry = c.args.geometry.now in
-    let inner : c.row-last_row.result - (c.row-first_row.result + 1) + 2 ≡ geometry.pages = omega (arith, c.row-first_row.ensures.is, c.row-last_row.ensures.is, c.pages.ensures, geometry.limits.page_count.least) in
-    reads_inner _ _ _ _ _ _ c.in_ok-first.ensures.reads c.in_ok-last.ensures.reads c.in_err-inner.ensures.most_reads inner
-
-pub returns-clause-most_reads : goal.returns-clause-most_reads
-returns-clause-most_reads g c =
-    let geometry = c.args.geometry.now in
-    let inner : c.row-last_row.result - (c.row-first_row.result + 1) + 2 ≡ geometry.pages = omega (arith, c.row-first_row.ensures.is, c.row-last_row.ensures.is, c.pages.ensures, geometry.limits.page_count.least) in
-    reads_inner _ _ _ _ _ _ c.in_ok-first.ensures.reads c.in_ok-last.ensures.reads c.in_ok-inner.ensures.most_reads inner
-
-pub returns-clause-reads : goal.returns-clause-reads
-returns-clause-reads g c = λ fits.
-    let geometry = c.args.geometry.now in
-    let inner : c.row-last_row.result - (c.row-first_row.result + 1) + 2 ≡ geometry.pages = omega (arith, c.row-first_row.ensures.is, c.row-last_row.ensures.is, c.pages.ensures, geometry.limits.page_count.least) in
-    reads_whole _ _ _ _ _ _ c.in_ok-first.ensures.reads c.in_ok-last.ensures.reads c.in_ok-inner.ensures.reads inner fits
+    let rows = block_rows geometry block _ _ _ c.row-first_row.ensures.is c.row-last_row.ensures.is c.row-last_row.ensures.within c.pages.ensures in
+    let made1 = c.in_ok-first.ensures in
+    let made2 = c.in_ok-last.ensures in
+    let made = c.in_ok-inner.ensures in
+    let before = reads_then _ _ _ _ made1.only_reads made2.only_reads in
+    let either : marked ≡ c.in_ok-first.first.has_zero || c.in_ok-last.last.has_zero = elim c.if-first.branch [
+      | then-first w ↦ or_then _ _ _ w.if-first.true w.marked-is
+      | else-first w ↦ or_else _ _ _ w.if-first.false w.marked-is
+    ] in
+    let last_look = λ (h : g.S.PageSource.view.honest c.args.source.now ≡ true). made2.looked (made1.only_reads.honest_is ∙ h) ∙ ap (λ (f : Flash). look_of (page_at f last_row)) (made1.same h) in
+    let marked_is = λ (h : g.S.PageSource.view.honest c.args.source.now ≡ true).
+    marked_block geometry flash.image block first_row last_row _ marked _ _ either (made1.looked h) (last_look h) rows.first_is c.row-last_row.ensures.is c.pages.ensures in
+    record {
+      marked = marked_is;
+      first = λ h.
+          let is = marked_is h in
+          let inner : IsFirst (λ row. is_page_used marked (get_or flash.image row no_page)) (first_row + 1) last_row c.in_ok-inner.inner =
+          subst (λ (f : Flash). IsFirst (λ row. is_page_used marked (page_at f row)) (first_row + 1) last_row c.in_ok-inner.inner) (made2.same (made1.only_reads.honest_is ∙ h) ∙ made1.same h) (made.first (before.honest_is ∙ h)) in
+          let found : IsFirst (is_used geometry flash.image) first_row (last_row + 1) c.first_of_block-used.result =
+          c.first_of_block-used.ensures.first (is_used geometry flash.image)
+          (is_used-block geometry flash.image block first_row marked is rows.first_low rows.first_high ∙ ap (λ (l : PageLook). is_look_used marked l) (sym (made1.looked h)))
+          (first_used-block geometry flash.image block (first_row + 1) last_row marked c.in_ok-inner.inner is rows.inner_low rows.inner_high inner)
+          (is_used-block geometry flash.image block last_row marked is rows.last_low rows.last_high ∙ ap (λ (l : PageLook). is_look_used marked l) (sym (last_look h))) in
+          rw (← rows.last_is, ← rows.first_is) found;
+      row = row_past _ _ _ c.first_of_block-used.ensures.row c.row-last_row.ensures.within;
+      same = λ h. made.same (before.honest_is ∙ h) ∙ (made2.same (made1.only_reads.honest_is ∙ h) ∙ made1.same h);
+      whole = made1.whole;
+      only_reads = reads_then _ _ _ _ before made.only_reads;
+      reads = reads_whole _ _ _ _ _ _ made1.reads made2.reads made.reads rows.all;
+      most_reads = reads_inner _ _ _ _ _ _ made1.reads made2.reads made.most_reads rows.all;
+      rose = tt;
+    }

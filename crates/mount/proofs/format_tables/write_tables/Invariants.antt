@@ -2,6 +2,7 @@ use Rattle.std.proofs.Common.{◌≡◌, ◌<◌, ◌≤◌, ℕ, ◌+◌, ◌-�
 use Rattle.page_layout.specs.Geometry.{table_pages}
 use Rattle.bad_blocks.specs.Table.{good_count, unworn}
 use Rattle.mount.specs.Attempt.{IsTrying}
+use Rattle.mount.specs.OnlyWrites.{OnlyWrites}
 use Rattle.mount.proofs.format_tables.write_tables.Given as goal
 
 abbrev pub invariant-loop-failures : goal.invariant-loop-failures
@@ -14,12 +15,7 @@ invariant-loop-failures g l =
       just : 0 < l._failures → l.need ≤ good_count (unworn l.classes) + 1;
       untouched : l._failures ≡ 0 → n.view.programs l.nand ≡ n.view.programs l.initial.nand;
       sequences : l.sequence ≤ 1 + l._failures * table_pages l.geometry;
-      same_geometry : (n.view.flash l.nand).geometry ≡ (n.view.flash l.initial.nand).geometry;
-      as_honest : n.view.honest l.nand ≡ n.view.honest l.initial.nand;
-      as_calm : n.view.calm l.nand ≡ n.view.calm l.initial.nand;
-      reads : n.view.reads l.nand ≡ n.view.reads l.initial.nand;
+      only_writes : OnlyWrites n.view l.initial.nand l.nand;
       programs : n.view.programs l.nand ≤ n.view.programs l.initial.nand + l._failures * table_pages l.geometry;
       at_least : min (n.view.programs l.initial.nand + l._failures) (2 ^ 64 - 1) ≤ n.view.programs l.nand;
-      erases : n.view.erases l.nand ≡ n.view.erases l.initial.nand;
-      failed : n.view.failed l.initial.nand ≤ n.view.failed l.nand;
     }
