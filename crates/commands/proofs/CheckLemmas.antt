@@ -1,5 +1,5 @@
 -- From what a step of `check` came to, to what the command came to.
-use Rattle.std.proofs.Common.{◌≡◌, ℕ, Bool, List, Option, Some, None, IfSome, Result, Ok, Err, OnOk, IfErr, ◌⊎◌, inl, inr, ap, subst, sym, arith, ◌∙◌}
+use Rattle.std.proofs.Common.{◌≡◌, ℕ, Bool, List, Option, Some, None, IfSome, Result, Ok, Err, OnOk, IfOk, IfErr, ◌⊎◌, inl, inr, ap, subst, sym, arith, ◌∙◌}
 use Rattle.std.specs.Io.KnownBytes.{Appends, Keeps}
 use Rattle.page_layout.specs.declared.geometry.Geometry.{Geometry}
 use Rattle.page_layout.specs.Counter.{HasRisen}
@@ -17,8 +17,9 @@ use Rattle.commands.specs.declared.files.FileFault.TheVariants as file
 use Rattle.commands.specs.declared.text.CommandFault.{CommandFault}
 use Rattle.commands.specs.declared.text.CommandFault.TheVariants as fault
 use Rattle.command_words.specs.declared.words.CertificateWords.{CertificateWords}
-use Rattle.commands.specs.Files.{Gives}
+use Rattle.commands.specs.Files.{Gives, IsOpened}
 use Rattle.commands.specs.Inputs.{IsUnread}
+use Rattle.commands.specs.Check.{AsksForCapacity, HasNoCertificate, HoldsClaim, HoldsNoClaim, IsNoCertificate, LacksCertificate}
 use Rattle.commands.specs.Check.{Accepts, DoesCheck, HasCertificate, HasFiles, DiffersAs, IsCheckFault, IsHeld, IsHeldAs, IsOutputKept, IsSpelled, IsToldAs, IsUnheld, IsWhole, accepted_line}
 use Rattle.commands.specs.Lines.{IsUnprinted}
 
@@ -33,6 +34,36 @@ pub unread_before : (old new : Gives) (text : List ℕ) (stop : CommandFault) �
 unread_before old new text (fault.Read path) same unread = (unread.0, same text (Err file.Failed) unread.1)
 unread_before old new text fault.OutOfMemory same unread = same text (Err file.OutOfMemory) unread
 unread_before old new text _ same unread = absurd unread
+
+-- the bytes of a file spell the certificate, where they are one's
+pub claims : (gives : Gives) (path written all : List ℕ) (result : Result Claim CommandFault) → gives path (Ok written) → all ≡ written → IfOk result (λ c. IsSpelled c all) → IfOk result (HoldsClaim gives path)
+claims gives path written all (Ok c) given same spelled = record { written = written; given = given; spelled = subst (λ (w : List ℕ). IsSpelled c w) same spelled }
+claims gives path written all (Err stop) given same spelled = tt
+
+pub no_claim : (gives : Gives) (path written all : List ℕ) (result : Result Claim CommandFault) → gives path (Ok written) → all ≡ written → IfErr result (IsNoCertificate all) → IfErr result (HoldsNoClaim gives path)
+no_claim gives path written all (Ok c) given same broken = tt
+no_claim gives path written all (Err stop) given same broken = inr (written, given, subst (λ (w : List ℕ). IsNoCertificate w stop) same broken)
+
+-- after the image's file, the certificate's was not read, or has none
+pub uncertified : (gives later : Gives) (tells : Bool) (words : CertificateWords) (g : Geometry) (capacity : ℕ) (known : Option (List ℕ)) (stop : CommandFault) → AsksForCapacity words g capacity
+    → IsOpened gives tells words.image.now known → ((at : List ℕ) (answer : Result (List ℕ) FileFault) → later at answer → gives at answer)
+    → HoldsNoClaim later words.certificate.now stop → LacksCertificate gives tells words stop ⊎ HasNoCertificate gives tells words stop
+uncertified gives later tells words g capacity known stop asked image same (inl unread) =
+    inl (record { geometry = g; capacity = capacity; known = known; asked = asked; image = image; unread = unread_before gives later words.certificate.now stop same unread })
+uncertified gives later tells words g capacity known stop asked image same (inr (written, given, broken)) =
+    let files : HasFiles gives tells words g capacity known written = record { asked = asked; image = image; certificate = same words.certificate.now (Ok written) given } in
+    inr (record { geometry = g; capacity = capacity; known = known; written = written; files = files; broken = broken })
+
+pub uncertified_fault : (gives : Gives) (tells : Bool) (words : CertificateWords) (before after : Option (List ℕ)) (stop : CommandFault) → LacksCertificate gives tells words stop ⊎ HasNoCertificate gives tells words stop
+    → IsCheckFault gives tells words before after stop
+uncertified_fault gives tells words before after stop (inl lacks) = inr (inr (inl lacks))
+uncertified_fault gives tells words before after stop (inr none) = inr (inr (inr (inl none)))
+
+-- or it has this one
+pub has_files : (gives later : Gives) (tells : Bool) (words : CertificateWords) (g : Geometry) (capacity : ℕ) (known : Option (List ℕ)) (c : Claim) → AsksForCapacity words g capacity
+    → IsOpened gives tells words.image.now known → ((at : List ℕ) (answer : Result (List ℕ) FileFault) → later at answer → gives at answer)
+    → (held : HoldsClaim later words.certificate.now c) → HasFiles gives tells words g capacity known held.written
+has_files gives later tells words g capacity known c asked image same held = record { asked = asked; image = image; certificate = same words.certificate.now (Ok held.written) held.given }
 
 kept : (stop : CommandFault) (before after : Option (List ℕ)) → Keeps before after → IsOutputKept stop before after
 kept (fault.Write path) before after keeps = tt

@@ -1,12 +1,9 @@
 -- From what a step of a command came to, to what the command came to.
-use Rattle.std.proofs.Common.{◌≡◌, ◌*◌, ◌∙◌, ℕ, Bool, List, length, Option, Some, Result, Ok, Err, OnOk, IfErr, inl, inr, ap, subst, sym}
+use Rattle.std.proofs.Common.{◌≡◌, ◌≢◌, ◌*◌, ◌∙◌, ℕ, Bool, true, false, List, length, Option, Result, Ok, Err, OnOk, IfErr, inl, inr, ap, subst, sym}
 use Rattle.std.specs.Io.KnownBytes.{Keeps}
 use Rattle.page_layout.specs.declared.geometry.Geometry.{Geometry}
-use Rattle.page_layout.specs.Faults.{HasNumbers}
 use Rattle.page_layout.specs.Geometry.{row_count, page_bytes}
 use Rattle.page_layout.specs.Raw.{raw_image}
-use Rattle.program_words.specs.declared.numbers.GeometryNumbers.{GeometryNumbers}
-use Rattle.program_words.specs.Numbers.{SpellsGeometry, number_of}
 use Rattle.commands.specs.declared.sector.PrintFault.{PrintFault}
 use Rattle.commands.specs.declared.sector.PrintFault.TheVariants as print
 use Rattle.commands.specs.declared.text.CommandFault.{CommandFault}
@@ -22,12 +19,30 @@ use Rattle.commands.specs.Serve.{DoesServe, IsServeUnstarted, IsUnclaimed}
 use Rattle.commands.specs.Migrate.{DoesMigrate, IsClaimUnmigrated, IsUnbegun}
 use Rattle.commands.specs.Commands.{Obeys, OrderComesTo}
 use Rattle.commands.specs.Files.{Gives, Left, LeavesUntouched}
-use Rattle.commands.specs.Inputs.{IsUnread}
+use Rattle.commands.specs.Inputs.{AreNoNumbers, AreNumbers, IsUnread}
 use Rattle.commands.specs.Sector.{DoesSector, AsksForNumber, HasImage, IsPrintFault, IsUnprinted, IsUnreadable, TellsUnprinted, sector_line}
 use Rattle.commands.specs.Show.{DoesShow, IsUnshown, Shows}
 use Rattle.command_words.specs.Words.{IsOrder}
+use Rattle.commands.proofs.WordLemmas.{asks_for}
 
--- a file that was not read ends the command
+-- what is so of the fault that ended a step is so of what the step came to
+pub ended : {A : Type 0} (P : Result A CommandFault → Type 0) (result : Result A CommandFault) (stop : CommandFault) → result ≡ Err stop → P (Err stop) → P result
+ended P result stop is = subst P (sym is)
+
+-- words that are no numbers end the command
+pub unnumbered_does : (gives : Gives) (words : ImageWords) (before after : Option (List ℕ)) (stop : CommandFault)
+    → Keeps before after → AreNoNumbers words.geometry.now words.number.now stop → DoesSector gives words before after (Err stop)
+unnumbered_does gives words before after (fault.BadNumber word) keeps un = (keeps, un)
+unnumbered_does gives words before after (fault.Geometry broken) keeps un = (keeps, un)
+unnumbered_does gives words before after _ keeps un = absurd un
+
+pub unnumbered_shows : (gives : Gives) (words : ImageWords) (before after : Option (List ℕ)) (stop : CommandFault)
+    → Keeps before after → AreNoNumbers words.geometry.now words.number.now stop → DoesShow gives words before after (Err stop)
+unnumbered_shows gives words before after (fault.BadNumber word) keeps un = (keeps, un)
+unnumbered_shows gives words before after (fault.Geometry broken) keeps un = (keeps, un)
+unnumbered_shows gives words before after _ keeps un = absurd un
+
+-- so does a file that was not read
 pub unread_does : (gives : Gives) (words : ImageWords) (g : Geometry) (n : ℕ) (before after : Option (List ℕ)) (fault : CommandFault)
     → AsksForNumber words g n → Keeps before after → IsUnread gives words.image.now fault → DoesSector gives words before after (Err fault)
 unread_does gives words g n before after (fault.Read path) asked keeps unread = (keeps, unread.0, unread.1, (g, n, asked))
@@ -45,13 +60,13 @@ unprinted_does gives words g n bytes before after print.OutOfMemory fault.OutOfM
 unprinted_does gives words g n bytes before after _ _ image why un is = absurd is
 
 -- the words are numbers, and the file has as many bytes as the geometry says
-pub has_image : (gives : Gives) (words : ImageWords) (numbers : GeometryNumbers) (g : Geometry) (n : ℕ) (all bytes : List ℕ) → SpellsGeometry words.geometry.now numbers → number_of words.number.now ≡ Some n
-    → HasNumbers numbers.data_bytes numbers.spare_bytes numbers.pages numbers.blocks numbers.sectors g → gives words.image.now (Ok bytes) → all ≡ bytes → length all ≡ row_count g * page_bytes g → HasImage gives words g n bytes
-has_image gives words numbers g n all bytes spelled number_is valid given same whole = record {
-  asked = record { numbers = numbers; geometry = spelled; sector = number_is; valid = valid };
-  given = given;
-  whole = ap length (sym same) ∙ whole;
-}
+pub has_image : (gives : Gives) (words : ImageWords) (g : Geometry) (n : ℕ) (all bytes : List ℕ) → AreNumbers words.geometry.now words.number.now g n → gives words.image.now (Ok bytes) → all ≡ bytes
+    → length all ≡ row_count g * page_bytes g → HasImage gives words g n bytes
+has_image gives words g n all bytes asked given same whole = record { asked = asks_for words g n asked; given = given; whole = ap length (sym same) ∙ whole }
+
+-- or it has not
+pub not_whole : (g : Geometry) (all bytes : List ℕ) → (length all ≡ row_count g * page_bytes g → false ≡ true) → all ≡ bytes → length bytes ≢ row_count g * page_bytes g
+not_whole g all bytes takes same whole = let clash : false ≡ true = takes (ap length same ∙ whole) in cc
 
 pub unread_shows : (gives : Gives) (words : ImageWords) (g : Geometry) (n : ℕ) (before after : Option (List ℕ)) (fault : CommandFault)
     → AsksForNumber words g n → Keeps before after → IsUnread gives words.image.now fault → DoesShow gives words before after (Err fault)

@@ -1,3 +1,4 @@
+pub mod WordLemmas
 pub mod PartLemmas
 pub mod ImageLemmas
 pub mod CheckLemmas

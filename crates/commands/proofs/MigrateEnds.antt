@@ -31,7 +31,7 @@ use Rattle.commands.specs.Check.{IsWhole}
 use Rattle.commands.specs.Files.{Gives, Left, LeavesUntouched, with_store, written_file}
 use Rattle.commands.specs.Lines.{IsUnprinted}
 use Rattle.commands.specs.Steady.{has_spared}
-use Rattle.commands.specs.Serve.{Driver, HasClaim, IsDieUnmade, bad_in, failures_of, flash_behind, recorded_of, driver_view}
+use Rattle.commands.specs.Serve.{Driver, HasClaim, HasGivenBack, IsDieUnmade, bad_in, failures_of, flash_behind, recorded_of, driver_view}
 use Rattle.commands.specs.Migrate.{DoesMigrate, EndsShort, HasMigrated, IsSettled, IsUnbegun, IsUnmigratedDie, KeepsAll, MigratesDie, RenewsThenFlushes, StartsOver, migrated_line}
 use Rattle.ftl_device.proofs.MountableLemmas.{restart_more}
 use Rattle.ftl_device.proofs.PinLemmas.{room_within}
@@ -123,8 +123,8 @@ starts_over nand checked g capacity c a d roomy sized reads same told whole clai
 }
 
 -- it answers each call, so the array stays
-never_bus : (came : Result ℕ DeviceFault) (was now most : ℕ) → (came ≡ Err BusFault → HasRisen was now) → now ≤ most → most ≡ 0 → came ≢ Err BusFault
-never_bus came was now most rose le none is = not_risen was now most (rose is) le none
+never_bus : (came : Result ℕ DeviceFault) (was now : ℕ) → (came ≡ Err BusFault → HasRisen was now) → now ≡ 0 → came ≢ Err BusFault
+never_bus came was now rose none is = not_risen was now now (rose is) (omega arith) none
 
 -- the image has a certificate at the capacity that the device began with
 mounts_on : (g : Geometry) (capacity : ℕ) (c : Claim) (nand : Driver) (first last : Device Driver) → StartsOver g capacity c nand first → IsDevice flash_behind last
@@ -145,19 +145,18 @@ legal_by g capacity c nand first last starts went =
     let accounts = accounts_of g (flash_behind nand).image (is_bad_in c) in
     subst (λ (k : Geometry). LegalFrom k.pages accounts went.log) starts.sized (went.follows.legal accounts starts.accounts)
 
-pub die_migrated : (g : Geometry) (capacity : ℕ) (c : Claim) (nand given : Driver) (first last : Device Driver) (came : Result ℕ DeviceFault) (after : List ℕ) (back : Flash) (most : ℕ)
+pub die_migrated : (g : Geometry) (capacity : ℕ) (c : Claim) (nand given : Driver) (first last : Device Driver) (came : Result ℕ DeviceFault) (after : List ℕ)
     → StartsOver g capacity c nand first
     → RenewsThenFlushes driver_view first came last
     → (came ≢ Err BusFault → KeepsAll driver_view first last) → (came ≡ Err BusFault → HasRisen (failures_of first.engine.nand) (failures_of last.engine.nand))
     → OnOk came (IsSettled g (image_in flash_behind last.engine)) → IsDevice flash_behind last
-    → last.engine.geometry ≡ g → given ≡ last.engine.nand → failures_of given ≤ most → most ≡ 0 → back ≡ flash_behind given
-    → has_spared back ≡ true → raw_image back.geometry after ≡ back.image → after ≡ raw_bytes back.image → MigratesDie g capacity c (flash_behind nand) after came
-die_migrated g capacity c nand given first last came after back most starts comes keeps rose settled device sized' given_is few none known spared pages bytes =
-    let le : failures_of last.engine.nand ≤ most = subst (λ n. failures_of n ≤ most) given_is few in
-    let there : back ≡ flash_behind last.engine.nand = known ∙ ap flash_behind given_is in
-    let sized : back.geometry ≡ g = ap (λ (f : Flash). f.geometry) there ∙ (device.engine.geometry ∙ sized') in
-    let kept : KeepsAll driver_view first last = keeps (never_bus came _ _ most rose le none) in
-    let image_is : raw_image g after ≡ (flash_behind last.engine.nand).image = ap (λ k. raw_image k after) (sym sized) ∙ (pages ∙ ap (λ (f : Flash). f.image) there) in
+    → last.engine.geometry ≡ g → given ≡ last.engine.nand → HasGivenBack given after → MigratesDie g capacity c (flash_behind nand) after came
+die_migrated g capacity c nand given first last came after starts comes keeps rose settled device sized' given_is back =
+    let none : failures_of last.engine.nand ≡ 0 = subst (λ n. failures_of n ≡ 0) given_is back.none in
+    let there : flash_behind given ≡ flash_behind last.engine.nand = ap flash_behind given_is in
+    let sized : (flash_behind given).geometry ≡ g = ap (λ (f : Flash). f.geometry) there ∙ (device.engine.geometry ∙ sized') in
+    let kept : KeepsAll driver_view first last = keeps (never_bus came _ _ rose none) in
+    let image_is : raw_image g after ≡ (flash_behind last.engine.nand).image = ap (λ k. raw_image k after) (sym sized) ∙ (back.pages ∙ ap (λ (f : Flash). f.image) there) in
     let same : flash_behind first.engine.nand ≡ flash_behind nand = starts.begun.same refl in
     let there_told = recorded_of last.engine.nand in
     let told : recorded_of first.engine.nand ≡ recorded_of nand = starts.begun.told refl in
@@ -169,7 +168,7 @@ die_migrated g capacity c nand given first last came after back most starts come
     ap (array_of g) image_is ∙ (ap (λ k. array_of k (flash_behind last.engine.nand).image) (sym sized') ∙ (kept.array
     ∙ (ap (λ k. array_of k (flash_behind first.engine.nand).image) starts.sized ∙ ap (λ (f : Flash). array_of g f.image) same))) in
     let passed : (before : List ℕ) → flash_behind nand ≡ loaded_flash g before (bad_in g c) → failures went.log ≡ 0 = λ before loaded.
-    none_failed g before (bad_in g c) (is_bad_in c) (flash_behind last.engine.nand) went.log (named_bad g c) (subst (λ (f : Flash). has_spared f ≡ true) there spared)
+    none_failed g before (bad_in g c) (is_bad_in c) (flash_behind last.engine.nand) went.log (named_bad g c) (subst (λ (f : Flash). has_spared f ≡ true) there back.spared)
     (subst (λ (f : Flash). IsLegal g f.image (is_bad_in c) went.log) loaded legal) (subst (λ (f : Flash). Leads f went.log (flash_behind last.engine.nand)) loaded went.leads) in
     record {
       nand = nand;
@@ -179,7 +178,7 @@ die_migrated g capacity c nand given first last came after back most starts come
       starts = starts;
       comes = comes;
       pages = image_is;
-      bytes = bytes ∙ ap (λ (f : Flash). raw_bytes f.image) there;
+      bytes = back.bytes ∙ ap (λ (f : Flash). raw_bytes f.image) there;
       array = array;
       mountable = subst (λ (i : Image). capacity + g.pages ≤ 65536 → IsMountable g (capacity + g.pages) i) (sym image_is) (mounts_on g capacity c nand first last starts device sized' kept);
       settled = subst (λ (i : Image). OnOk came (IsSettled g i)) (sym image_is) settled;

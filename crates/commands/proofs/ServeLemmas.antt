@@ -1,5 +1,5 @@
 -- From what serving a die in memory came to, to what became of its image, and to what the command came to.
-use Rattle.std.proofs.Common.{◌≡◌, ◌⊎◌, inl, inr, ℕ, ◌≤◌, Bool, true, List, Option, Result, Ok, Err, refl, sym, ap, subst, ◌∙◌}
+use Rattle.std.proofs.Common.{◌≡◌, ◌⊎◌, inl, inr, ℕ, ◌≤◌, Bool, true, List, Option, Result, Ok, Err, refl, sym, ap, subst, ◌∙◌, arith}
 use Rattle.std.specs.Io.KnownBytes.{Keeps}
 use Rattle.page_layout.specs.declared.geometry.Geometry.{Geometry}
 use Rattle.page_layout.specs.Counter.{HasRisen}
@@ -29,7 +29,7 @@ use Rattle.commands.specs.declared.text.CommandFault.{CommandFault}
 use Rattle.commands.specs.declared.text.CommandFault.TheVariants as fault
 use Rattle.commands.specs.Check.{IsWhole}
 use Rattle.commands.specs.Files.{Gives, Left, LeavesUntouched}
-use Rattle.commands.specs.Serve.{Driver, flash_behind, failures_of, bad_in, stop_in, DoesServe, EndsServing, HasClaim, HasServedImage, HasServed, IsUnserved, IsUnservedDie, IsServeUnstarted, ServesDie, IsDieUnmade, driver_view}
+use Rattle.commands.specs.Serve.{Driver, flash_behind, failures_of, bad_in, stop_in, DoesServe, EndsServing, HasClaim, HasGivenBack, HasServedImage, HasServed, IsUnserved, IsUnservedDie, IsServeUnstarted, ServesDie, IsDieUnmade, driver_view}
 use Rattle.commands.specs.Steady.{has_spared}
 use Rattle.commands.proofs.BadLemmas.{named_bad}
 use Rattle.commands.proofs.PassedLemmas.{none_failed}
@@ -48,16 +48,15 @@ passed_in g before c s t ro pinned events first begins run legal loaded spared =
     none_failed g before (bad_in g c) (is_bad_in c) t (log_of events) (named_bad g c) spared
     (subst (λ (f : Flash). IsLegal g f.image (is_bad_in c) (log_of events)) loaded legal) (subst (λ (f : Flash). Leads f (log_of events) t) (begins ∙ loaded) leads)
 
-pub die_served : (nand given : Driver) (g : Geometry) (capacity : ℕ) (c : Claim) (u v b w : Option (List ℕ)) (result : Result Served ServeFault) (how : Option ServeStop) (after : List ℕ) (back : Flash) (most : ℕ)
-    → IsServed driver_view nand g 0 capacity c u v b w result given → failures_of given ≤ most → most ≡ 0 → back ≡ flash_behind given → back.geometry ≡ g → has_spared back ≡ true
-    → how ≡ stop_in result → raw_image back.geometry after ≡ back.image → after ≡ raw_bytes back.image → HasServed g capacity c (flash_behind nand) after u v b w how
-die_served nand given g capacity c u v b w result how after back most s le none same sized spared how_is pages bytes =
-    let known : AreKnown s.exchanges = all_known s.exchanges (failures_of nand) (failures_of given) most s.rose le none in
-    let there : back ≡ flash_behind s.last.engine.nand = same ∙ ap flash_behind s.given_is in
+pub die_served : (nand given : Driver) (g : Geometry) (capacity : ℕ) (c : Claim) (u v b w : Option (List ℕ)) (result : Result Served ServeFault) (how : Option ServeStop) (after : List ℕ)
+    → IsServed driver_view nand g 0 capacity c u v b w result given → how ≡ stop_in result → HasGivenBack given after → HasServed g capacity c (flash_behind nand) after u v b w how
+die_served nand given g capacity c u v b w result how after s how_is back =
+    let known : AreKnown s.exchanges = all_known s.exchanges (failures_of nand) (failures_of given) (failures_of given) s.rose (omega arith) back.none in
+    let there : flash_behind given ≡ flash_behind s.last.engine.nand = ap flash_behind s.given_is in
     let holds = until_known (HoldsTo driver_view nand g 0 capacity c s.first) (HasBusFailed driver_view) s.exchanges s.last s.headline known refl in
     let passed : (before : List ℕ) → flash_behind nand ≡ loaded_flash g before (bad_in g c) → failures (log_of holds.headline.run.events) ≡ 0 = λ before loaded.
     passed_in g before c (flash_behind nand) (flash_behind s.last.engine.nand) holds.headline.ro holds.headline.pinned holds.headline.run.events (accepted_device (flash_behind nand) c) refl holds.headline.run.run holds.headline.legal loaded
-    (subst (λ (f : Flash). has_spared f ≡ true) there spared) in
+    (subst (λ (f : Flash). has_spared f ≡ true) there back.spared) in
     record {
       came = result;
       how_is = how_is;
@@ -73,17 +72,17 @@ die_served nand given g capacity c u v b w result how after back most s le none 
         begun = s.begun;
         holds = holds;
         passed = passed;
-        pages = ap (λ k. raw_image k after) (sym sized) ∙ (pages ∙ ap (λ (f : Flash). f.image) there);
-        bytes = bytes ∙ ap (λ (f : Flash). raw_bytes f.image) there;
+        pages = ap (λ k. raw_image k after) (sym s.back.sized) ∙ (back.pages ∙ ap (λ (f : Flash). f.image) there);
+        bytes = back.bytes ∙ ap (λ (f : Flash). raw_bytes f.image) there;
       };
     }
 
 -- a die that counted no fault was refused for memory, or for the first part that fails
-pub read_through : (g : Geometry) (capacity : ℕ) (image : Image) (c : Claim) (r : Refusal) (was now most : ℕ) → IsRefusal g capacity image c r → (r ≡ refusals.Source → HasRisen was now) → now ≤ most → most ≡ 0
+pub read_through : (g : Geometry) (capacity : ℕ) (image : Image) (c : Claim) (r : Refusal) (was now : ℕ) → IsRefusal g capacity image c r → (r ≡ refusals.Source → HasRisen was now) → now ≡ 0
     → (r ≡ refusals.OutOfMemory) ⊎ IsFirstWrong g capacity image c r
-read_through g capacity image c r was now most (inl (inl source)) rose le none = absurd (not_risen was now most (rose source) le none)
-read_through g capacity image c r was now most (inl (inr memory)) rose le none = inl memory
-read_through g capacity image c r was now most (inr wrong) rose le none = inr wrong
+read_through g capacity image c r was now (inl (inl source)) rose none = absurd (not_risen was now now (rose source) (omega arith) none)
+read_through g capacity image c r was now (inl (inr memory)) rose none = inl memory
+read_through g capacity image c r was now (inr wrong) rose none = inr wrong
 
 -- ---- the command
 

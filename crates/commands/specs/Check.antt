@@ -60,6 +60,16 @@ abbrev pub IsNoCertificate : List ℕ → CommandFault → Type 0
 IsNoCertificate written (fault.Certificate broken) = certificate.IsFirstFault written broken
 IsNoCertificate written _ = ⊥
 
+-- the path's file was read, and its bytes are those of this claim
+pub record HoldsClaim (gives : Gives) (path : List ℕ) (c : Claim) : Type 0 where
+  pub written : List ℕ
+  pub given : gives path (Ok written)
+  pub spelled : IsSpelled c written
+
+-- it was not, or its bytes are no certificate
+abbrev pub HoldsNoClaim : Gives → List ℕ → CommandFault → Type 0
+HoldsNoClaim gives path stop = IsUnread gives path stop ⊎ ((written : List ℕ) × gives path (Ok written) × IsNoCertificate written stop)
+
 -- as many bytes as the die's pages have
 abbrev pub IsWhole : Geometry → List ℕ → Type 0
 IsWhole g bytes = length bytes ≡ row_count g * page_bytes g

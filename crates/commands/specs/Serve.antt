@@ -32,11 +32,10 @@ use Rattle.command_words.specs.declared.words.ServeWords.{ServeWords}
 use Rattle.commands.specs.declared.text.CommandFault.{CommandFault}
 use Rattle.commands.specs.declared.text.CommandFault.TheVariants as fault
 use Rattle.commands.specs.declared.steady.SteadyDie.{SteadyDie}
-use Rattle.commands.specs.Steady.{is_flawless}
+use Rattle.commands.specs.Steady.{has_spared, is_flawless}
 use Rattle.commands.specs.declared.text.ServeStop.{ServeStop}
 use Rattle.commands.specs.declared.text.ServeStop.TheVariants as stop
 use Rattle.commands.specs.Check.{HasFiles, HasNoCertificate, IsImageUnopened, IsSpelled, IsUnasked, IsWhole, LacksCertificate}
-use Rattle.commands.specs.Steady.{is_flawless}
 use Rattle.commands.specs.Files.{Gives, Left, LeavesUntouched, Stored, with_store, written_file, unwritten_file}
 
 -- ---- an image in place
@@ -83,6 +82,13 @@ driver_view = record {
   failed = failures_of;
   called = driver_called (λ bus. bus.die.state) (λ bus. true) (λ old cycle answer out new. ⊤);
 }
+
+-- the driver has answered no fault, its die has failed nothing that was due, and these are the bytes of its image
+pub record HasGivenBack (d : Driver) (after : List ℕ) : Type 0 where
+  pub none : failures_of d ≡ 0
+  pub spared : has_spared (flash_behind d) ≡ true
+  pub pages : raw_image (flash_behind d).geometry after ≡ (flash_behind d).image
+  pub bytes : after ≡ raw_bytes (flash_behind d).image
 
 -- Requests were served over a die in memory: what was read and written, the calls of the device that `start` began over it, and the image that it
 -- holds then. The headline holds, since a die in memory is honest and answers all that it is asked; its events are those calls. And of a die that was

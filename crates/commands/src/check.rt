@@ -1,7 +1,7 @@
 //! The command `check GEOM C IMAGE CERT`.
 ghost use Rattle.std.specs.Prelude.{◌≡◌, OnOk, IfOk, IfErr};
 ghost use Rattle.std.specs.Io.KnownBytes.{Appends};
-ghost use Rattle.commands.specs.Check.{Accepts, DoesCheck, IsHeldAs, IsNoCertificate, IsSpelled, IsToldAs, IsUnheld, accepted_line};
+ghost use Rattle.commands.specs.Check.{Accepts, DoesCheck, HoldsClaim, HoldsNoClaim, IsHeldAs, IsNoCertificate, IsSpelled, IsToldAs, IsUnheld, accepted_line};
 ghost use Rattle.commands.specs.Lines.{IsUnprinted};
 
 use crate::files::FileStore;
@@ -16,10 +16,7 @@ use std::alloc::Global;
 use std::io::{Read, Write};
 
 // The certificate that a file's bytes spell.
-pub(crate) fn certificate_in<'a>(
-    alloc: Global,
-    written: &[u8],
-) -> Result<Certificate, CommandFault<'a>>
+fn certificate_in<'a>(alloc: Global, written: &[u8]) -> Result<Certificate, CommandFault<'a>>
     ensures ok { IfOk result (λ certificate. IsSpelled certificate written.now) }
     ensures fault { IfErr result (IsNoCertificate written.now) }
 {
@@ -27,6 +24,20 @@ pub(crate) fn certificate_in<'a>(
         Ok(certificate) => Ok(certificate),
         Err(fault) => Err(CommandFault::Certificate(fault)),
     }
+}
+
+// The certificate that a file holds. The file's bytes are gone before more memory is taken.
+pub(crate) fn certificate_at<'a, F: FileStore>(
+    alloc: Global,
+    files: &mut F,
+    path: &'a str,
+) -> Result<Certificate, CommandFault<'a>>
+    ensures ok { IfOk result (HoldsClaim (F.gives files.old) path.now) }
+    ensures fault { IfErr result (HoldsNoClaim (F.gives files.old) path.now) }
+    ensures stores { F.stores files.new ≡ F.stores files.old }
+{
+    let written = load(files, path)?;
+    certificate_in(alloc, &written)
 }
 
 // How the program tells that the image of this path was refused: its length and its reads are told of the file.
@@ -104,9 +115,6 @@ pub fn check_command<'a, F: FileStore, W: Write>(
 {
     let asked = cache_asked(&words)?;
     let mut image = open(files, words.image)?;
-    let written = load(files, words.certificate)?;
-    let certificate = certificate_in(alloc, &written)?;
-    // Its bytes go before the memory of the check is taken.
-    drop(written);
+    let certificate = certificate_at(alloc, files, words.certificate)?;
     accept(alloc, &asked, words.image, &mut image, &certificate, out)
 }

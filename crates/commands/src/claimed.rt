@@ -5,7 +5,7 @@ ghost use Rattle.nand_die.specs.Made.{loaded_flash};
 ghost use Rattle.commands.specs.Check.{IsWhole};
 ghost use Rattle.commands.specs.Serve.{bad_in, HasClaim, IsDieUnmade, IsUnclaimed};
 
-use crate::check::certificate_in;
+use crate::check::certificate_at;
 use crate::files::FileStore;
 use crate::format::driver_of;
 use crate::inputs::{CacheAsked, cache_asked, load};
@@ -47,8 +47,7 @@ pub(crate) fn claim<'a, F: FileStore>(
         certificate: words.certificate,
     })?;
     let bytes = load(files, words.image)?;
-    let written = load(files, words.certificate)?;
-    let certificate = certificate_in(alloc, &written)?;
+    let certificate = certificate_at(alloc, files, words.certificate)?;
     Ok(Claimed {
         asked,
         bytes,

@@ -4,7 +4,7 @@ ghost use Rattle.page_layout.specs.Faults.{HasNumbers};
 ghost use Rattle.program_words.specs.declared.numbers.GeometryNumbers.{GeometryNumbers};
 ghost use Rattle.commands.specs.declared.files.FileFault.{FileFault};
 ghost use Rattle.commands.specs.Check.{AsksForCapacity, IsUnasked};
-ghost use Rattle.commands.specs.Inputs.{IsBadGeometry, IsBadNumber, IsUnread};
+ghost use Rattle.commands.specs.Inputs.{AreNoNumbers, AreNumbers, IsBadGeometry, IsBadNumber, IsUnread};
 ghost use Rattle.program_words.specs.Numbers.{SpellsGeometry, number_of};
 
 use crate::files::{FileFault, FileStore};
@@ -66,6 +66,28 @@ pub fn geometry_of<'a>(numbers: &GeometryNumbers) -> Result<Geometry, CommandFau
     }
 }
 
+/// A geometry, and a number beside it: of a sector, of a row or of entries.
+#[derive(Clone, Copy)]
+pub struct Numbered {
+    pub geometry: Geometry,
+    pub number: u32,
+}
+
+/// The geometry that a word writes, and the number that another one does.
+///
+/// # Errors
+///
+/// The first of this order: `BadNumber` where a word writes no numbers, `Geometry` where they are no geometry.
+pub fn numbered_by<'a>(sizes: &'a str, count: &'a str) -> Result<Numbered, CommandFault<'a>>
+    ensures ok { IfOk result (λ asked. AreNumbers sizes.now count.now asked.geometry asked.number) }
+    ensures fault { IfErr result (AreNoNumbers sizes.now count.now) }
+{
+    let numbers = numbers_at(sizes)?;
+    let number = number_at(count)?;
+    let geometry = geometry_of(&numbers)?;
+    Ok(Numbered { geometry, number })
+}
+
 /// The greatest capacity of a cache, in entries.
 const MOST_CAPACITY: u32 = 65536;
 
@@ -86,13 +108,15 @@ pub fn cache_asked<'a>(words: &CertificateWords<'a>) -> Result<CacheAsked, Comma
     ensures ok { IfOk result (λ asked. AsksForCapacity words.now asked.geometry asked.capacity) }
     ensures fault { IfErr result (IsUnasked words.now) }
 {
-    let numbers = numbers_at(words.geometry)?;
-    let capacity = number_at(words.capacity)?;
-    let geometry = geometry_of(&numbers)?;
+    let asked = numbered_by(words.geometry, words.capacity)?;
+    let capacity = asked.number;
     if capacity == 0 || capacity > MOST_CAPACITY {
         return Err(CommandFault::Capacity);
     }
-    Ok(CacheAsked { geometry, capacity })
+    Ok(CacheAsked {
+        geometry: asked.geometry,
+        capacity,
+    })
 }
 
 /// The bytes of a file, whole.

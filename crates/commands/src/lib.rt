@@ -7,6 +7,7 @@ mod check;
 mod claimed;
 mod files;
 mod format;
+mod image_back;
 mod inputs;
 mod lines;
 mod migrate;

@@ -9,6 +9,7 @@ ghost use Rattle.commands.specs.Migrate.{DoesMigrate, EndsShort, IsUnmigratedDie
 
 use crate::claimed::{claim, driver_over};
 use crate::files::{FileFault, FileStore};
+use crate::image_back::{image_back, let_go};
 use crate::inputs::CacheAsked;
 use crate::lines::print;
 use crate::migrate_all::renew_and_flush;
@@ -47,7 +48,7 @@ fn start_over<'a>(
         Ok(accepted) => accepted,
         Err(refusal) => {
             // The die counted no fault, so no page read failed.
-            let _ = driver.into_bus();
+            let_go(driver);
             return Err(CommandFault::Check(refusal));
         }
     };
@@ -75,7 +76,7 @@ fn migrate_die<'a>(
 {
     let mut device = start_over(alloc, asked, driver, certificate)?;
     let came = renew_and_flush(&mut device, &asked.geometry);
-    device.into_nand().into_bus().die.image_into(image);
+    image_back(device.into_nand(), image);
     Ok(came)
 }
 

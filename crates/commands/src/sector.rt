@@ -5,7 +5,7 @@ ghost use Rattle.hex.specs.Hex.{encode_lower};
 ghost use Rattle.commands.specs.Sector.{DoesSector, IsPrintFault, IsReadable, IsUnprinted, TellsUnprinted};
 
 use crate::files::FileStore;
-use crate::inputs::{geometry_of, load, number_at, numbers_at};
+use crate::inputs::{load, numbered_by};
 use crate::text::CommandFault;
 use command_words::ImageWords;
 use image_check::{SectorFault, sector_in};
@@ -134,15 +134,13 @@ pub fn sector_command<'a, F: FileStore, W: Write>(
     ensures does { DoesSector (F.gives files.old) words.entry (W.contents out.old) (W.contents out.new) result }
     ensures stores { F.stores files.new ≡ F.stores files.old }
 {
-    let numbers = numbers_at(words.geometry)?;
-    let sector = number_at(words.number)?;
-    let geometry = geometry_of(&numbers)?;
+    let asked = numbered_by(words.geometry, words.number)?;
     let bytes = load(files, words.image)?;
-    let image = match ImageSlice::new(&geometry, &bytes) {
+    let image = match ImageSlice::new(&asked.geometry, &bytes) {
         Ok(image) => image,
         Err(_) => return Err(CommandFault::WrongLength),
     };
-    match print_sector(alloc, &image, sector, out) {
+    match print_sector(alloc, &image, asked.number, out) {
         Ok(()) => Ok(()),
         Err(fault) => Err(told(fault)),
     }

@@ -13,6 +13,7 @@ ghost use Rattle.commands.specs.Serve.{bad_in, stop_in, EndsServing, HasServed, 
 
 use crate::claimed::{claim, driver_over};
 use crate::files::{FileFault, FileStore};
+use crate::image_back::{image_back, let_go};
 use crate::inputs::CacheAsked;
 use crate::steady::SteadyDie;
 use crate::text::{CommandFault, ServeStop};
@@ -108,16 +109,16 @@ fn serve_die<'a, R: Read, W: Write>(
     let capacity = asked.capacity;
     match serve_checked(alloc, driver, geometry, capacity, certificate, input, out) {
         Ok((served, driver)) => {
-            driver.into_bus().die.image_into(image);
+            image_back(driver, image);
             Ok(stop_of(served))
         }
         Err(RunFault::Serve { fault, nand }) => {
-            nand.into_bus().die.image_into(image);
+            image_back(nand, image);
             Ok(Some(ServeStop::Fault(fault)))
         }
         Err(RunFault::Refused { refusal, nand }) => {
             // The die counted no fault, so no page read failed.
-            let _ = nand.into_bus();
+            let_go(nand);
             Err(CommandFault::Check(refusal))
         }
         Err(RunFault::Start { .. }) => Err(CommandFault::Start),

@@ -6,7 +6,7 @@ ghost use Rattle.commands.specs.Lines.{IsUnprinted};
 ghost use Rattle.commands.specs.Show.{DoesShow, IsUnshown, Shows, shown_line, shown_of};
 
 use crate::files::FileStore;
-use crate::inputs::{geometry_of, load, number_at, numbers_at};
+use crate::inputs::{load, numbered_by};
 use crate::lines::print;
 use crate::text::CommandFault;
 use command_words::ImageWords;
@@ -140,13 +140,11 @@ pub fn show_command<'a, F: FileStore, W: Write>(
     ensures does { DoesShow (F.gives files.old) words.entry (W.contents out.old) (W.contents out.new) result }
     ensures stores { F.stores files.new ≡ F.stores files.old }
 {
-    let numbers = numbers_at(words.geometry)?;
-    let row = number_at(words.number)?;
-    let geometry = geometry_of(&numbers)?;
+    let asked = numbered_by(words.geometry, words.number)?;
     let bytes = load(files, words.image)?;
-    let image = match ImageSlice::new(&geometry, &bytes) {
+    let image = match ImageSlice::new(&asked.geometry, &bytes) {
         Ok(image) => image,
         Err(_) => return Err(CommandFault::WrongLength),
     };
-    print_page(&image, row, out)
+    print_page(&image, asked.number, out)
 }

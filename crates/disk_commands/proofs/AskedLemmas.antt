@@ -7,6 +7,6 @@ use Rattle.disk_commands.specs.declared.words.CreateWords.{CreateWords}
 use Rattle.disk_commands.specs.Asked.{IsNoShapeAsked, IsNoShapeAt, IsShareAsked}
 
 -- once the share was read
-pub no_shape : (words : CreateWords) (share : ℕ) (r : Result DiskShape DiskCommandFault) → IsShareAsked words share → IfErr r (IsNoShapeAt words share) → IfErr r (IsNoShapeAsked words)
+pub no_shape : (words : CreateWords) (share : ℕ) (r : Result DiskShape DiskCommandFault) → IsShareAsked words.share words.make share → IfErr r (IsNoShapeAt words share) → IfErr r (IsNoShapeAsked words)
 no_shape words share (Ok shape) asked h = tt
 no_shape words share (Err told) asked h = inr (share, asked, h)

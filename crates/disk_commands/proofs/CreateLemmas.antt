@@ -1,6 +1,6 @@
 -- Why a die was not made.
-use Rattle.std.proofs.Common.{◌≡◌, ◌<◌, ◌⊎◌, inl, inr, ℕ, Bool, true, false, List, length, Option, refl, subst, sym}
-use Rattle.std.specs.Prelude.{Result, Ok, Err, IfErr, OnOk}
+use Rattle.std.proofs.Common.{◌≡◌, ◌<◌, ◌*◌, ◌⊎◌, ◌∙◌, ap, inl, inr, ℕ, Bool, true, false, List, length, Option, refl, subst, sym}
+use Rattle.std.specs.Prelude.{Result, Ok, Err, IfErr, OnErr, OnOk}
 use Rattle.std.specs.Borrow.{Bor}
 use Rattle.file_die.specs.Store.{Held, blank}
 use Rattle.disk_server.specs.declared.format.CreateFault.{CreateFault}
@@ -14,12 +14,13 @@ use Rattle.disk_commands.specs.declared.files.DiskFileFault.TheVariants as file
 use Rattle.disk_commands.specs.declared.text.DiskCommandFault.{DiskCommandFault}
 use Rattle.disk_commands.specs.declared.text.DiskCommandFault.TheVariants as fault
 use Rattle.page_layout.specs.Counter.{HasRisen}
+use Rattle.page_layout.specs.Geometry.{page_bytes, row_count}
 use Rattle.disk_commands.specs.Asked.{IsShapeAsked}
 use Rattle.disk_commands.specs.BadBlocks.{AreBadAsked, HasMarks, is_copied}
 use Rattle.disk_commands.specs.declared.files.DiskFileFault.{DiskFileFault}
-use Rattle.disk_commands.specs.Opening.{told_at}
-use Rattle.disk_commands.specs.Created.{HasCreated, IsDieAskedFor, IsUncreated, IsUnformatted, IsUnkept, unformatted}
-use Rattle.disk_commands.specs.Files.{DiskFileAnswers, FailsNoMore, Kept, with_kept}
+use Rattle.disk_commands.specs.Opening.{told_at, told_of_copy}
+use Rattle.disk_commands.specs.Created.{HasCreated, IsDieAskedFor, IsNoDump, IsUncreated, IsUnformatted, IsUnkept, unformatted}
+use Rattle.disk_commands.specs.Files.{DiskFileAnswers, FailsCopy, FailsNoMore, Kept, with_kept}
 
 -- erased pages were not formatted, for this
 pub not_formatted : {S : Type 0} (held : S → Held) (honest : S → Bool) (failed : S → ℕ) (a : DiskFileAnswers) (path : Bor (List ℕ)) (shape : DiskShape) (bad : List ℕ) (store given : S) (why : CreateFault)
@@ -43,6 +44,20 @@ not_blank held honest failed a path shape bad file.InUse is = (refl, is)
 not_blank held honest failed a path shape bad file.Exists is = (refl, is)
 not_blank held honest failed a path shape bad (file.Length found) is = (refl, refl, is)
 not_blank held honest failed a path shape bad file.OutOfMemory is = tt
+
+-- a dump was not copied, for this
+pub not_copied : {S : Type 0} (held : S → Held) (honest : S → Bool) (failed : S → ℕ) (a : DiskFileAnswers) (path dump : Bor (List ℕ)) (shape : DiskShape) (wanted : ℕ) (why : DiskFileFault) (told : DiskCommandFault) → FailsCopy a path.now dump.now why
+    → wanted ≡ row_count shape.geometry * page_bytes shape.geometry → told ≡ told_of_copy why path dump wanted → IsNoDump held honest failed a path.now dump.now shape told
+not_copied held honest failed a path dump shape wanted why told fails bytes is =
+    subst (IsNoDump held honest failed a path.now dump.now shape) (sym (is ∙ ap (told_of_copy why path dump) bytes)) (by why fails)
+  where
+    by : (f : DiskFileFault) → FailsCopy a path.now dump.now f → IsNoDump held honest failed a path.now dump.now shape (told_of_copy f path dump (row_count shape.geometry * page_bytes shape.geometry))
+    by file.Read h = inl (refl, h)
+    by file.Write h = inr (refl, h)
+    by file.InUse h = inr (refl, h)
+    by file.Exists h = inr (refl, h)
+    by (file.Length found) h = inl (refl, refl, h)
+    by file.OutOfMemory h = inr h
 
 -- they were not marked
 pub not_marked : {S : Type 0} (held : S → Held) (honest : S → Bool) (failed : S → ℕ) (a : DiskFileAnswers) (path : Bor (List ℕ)) (shape : DiskShape) (bad : List ℕ) (store left : S) (told : DiskCommandFault)
@@ -79,6 +94,10 @@ unkept_before a b path (fault.Exists word) no_more h = (h.0, no_more path file.E
 unkept_before a b path (fault.Length word found wanted) no_more h = (h.0, h.1, no_more path (file.Length found) h.2)
 unkept_before a b path fault.OutOfMemory no_more h = tt
 unkept_before a b path _ no_more h = absurd h
+
+pub kept_then : (result : Result (Unit {0}) DiskCommandFault) (after between before : Option (List Kept)) → OnErr result (after ≡ between) → between ≡ before → OnErr result (after ≡ before)
+kept_then (Ok done) after between before h same = tt
+kept_then (Err told) after between before h same = h ∙ same
 
 pub not_kept : {S : Type 0} (held : S → Held) (honest : S → Bool) (failed : S → ℕ) (a b : DiskFileAnswers) (words : CreateWords) (shape : DiskShape) (bad : List ℕ) (result : Result (Unit {0}) DiskCommandFault)
     → IsShapeAsked words shape → AreBadAsked (is_copied words.make) words.bad shape.geometry bad → a.says_there words.disk.now false → FailsNoMore a b → IfErr result (IsUnkept b words.disk.now) → IfErr result (IsUncreated held honest failed a words)

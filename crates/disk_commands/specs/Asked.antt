@@ -25,19 +25,12 @@ IsShareFrom word share =
     ((bytes : ℕ) × SpellsSize word bytes × IsNewShare (div_ceil bytes 4096) share)
     ⊎ (((bytes : ℕ) → ¬ SpellsSize word bytes) × (share ≡ 15))
 
--- where no share is named, the one for the size, or 15
-abbrev pub IsShareOf : MakeWords → (share : ℕ) → Type 0
-IsShareOf (make.Size word) share = IsShareFrom word.now share
-IsShareOf (make.Geometry word) share = share ≡ 15
-IsShareOf (make.Dump word from) share = share ≡ 15
-
-abbrev pub IsShareNamed : MakeWords → Option (Bor (List ℕ)) → (share : ℕ) → Type 0
-IsShareNamed make None share = IsShareOf make share
-IsShareNamed make (Some word) share = number_of word.now ≡ Some share
-
--- the share that is named, or that one
-abbrev pub IsShareAsked : CreateWords → (share : ℕ) → Type 0
-IsShareAsked words share = IsShareNamed words.make words.share share
+-- the share that is named; where none is, the one for the size, or 15
+abbrev pub IsShareAsked : (named : Option (Bor (List ℕ))) → MakeWords → (share : ℕ) → Type 0
+IsShareAsked (Some word) make share = number_of word.now ≡ Some share
+IsShareAsked None (make.Size word) share = IsShareFrom word.now share
+IsShareAsked None (make.Geometry word) share = share ≡ 15
+IsShareAsked None (make.Dump word from) share = share ≡ 15
 
 -- the geometry of the shape for the size that a word says
 abbrev pub IsGeometryFor : List ℕ → (share : ℕ) → Geometry → Type 0
@@ -60,7 +53,7 @@ IsCacheAsked (Some word) g share cache = IsCacheAt word.now cache
 
 -- THE SHAPE, of which the share is one that such a disk may have
 pub record IsShapeAsked (words : CreateWords) (s : DiskShape) : Type 0 where
-  pub share : IsShareAsked words s.share
+  pub share : IsShareAsked words.share words.make s.share
   pub geometry : IsGeometryAsked words.make s.share s.geometry
   pub cache : IsCacheAsked words.cache s.geometry s.share s.cache
   pub may_wait : IsShareFor s.geometry s.cache s.share
@@ -108,4 +101,4 @@ IsNoShapeAt words share told =
 abbrev pub IsNoShapeAsked : CreateWords → DiskCommandFault → Type 0
 IsNoShapeAsked words told =
     IsNoShareAsked words.share told
-    ⊎ ((share : ℕ) × IsShareAsked words share × IsNoShapeAt words share told)
+    ⊎ ((share : ℕ) × IsShareAsked words.share words.make share × IsNoShapeAt words share told)

@@ -1,9 +1,9 @@
 //! The shape that the words of `create` ask for.
-ghost use Rattle.std.specs.Prelude.{◌≡◌, IfOk, IfErr, Some};
+ghost use Rattle.std.specs.Prelude.{◌≡◌, IfOk, IfErr, None, Some};
 ghost use Rattle.disk_commands.specs.ShapeText.{IsWithin};
 ghost use Rattle.disk_commands.specs.ShapeWords.{SaysGeometry};
 ghost use Rattle.disk_commands.specs.Asked.{IsCacheAsked, IsCacheAt, IsGeometryAsked, IsGeometryFor, IsNoCacheAsked, IsNoGeometryAsked, IsNoGeometryAt, IsNoGeometryFor};
-ghost use Rattle.disk_commands.specs.Asked.{IsNoShapeAsked, IsNoShapeAt, IsNoShareAsked, IsShapeAsked, IsShareAsked, IsShareFrom, IsShareOf};
+ghost use Rattle.disk_commands.specs.Asked.{IsNoShapeAsked, IsNoShapeAt, IsNoShareAsked, IsShapeAsked, IsShareAsked, IsShareFrom};
 
 use crate::shape_words::{GeometryWordFault, geometry_from};
 use crate::shapes::{
@@ -27,7 +27,7 @@ fn share_from(word: &str) -> u32
 
 // The share of a disk that is made so, where none is named.
 fn share_of(make: MakeWords<'_>) -> u32
-    ensures { IsShareOf make.entry result }
+    ensures { IsShareAsked None make.entry result }
 {
     match make {
         MakeWords::Size(word) => share_from(word),
@@ -37,7 +37,7 @@ fn share_of(make: MakeWords<'_>) -> u32
 
 // The share that is asked for.
 fn share_asked<'a>(words: CreateWords<'a>) -> Result<u32, DiskCommandFault<'a>>
-    ensures ok { IfOk result (IsShareAsked words.entry) }
+    ensures ok { IfOk result (IsShareAsked words.entry.share words.entry.make) }
     ensures fault { IfErr result (IsNoShareAsked words.entry.share) }
 {
     let Some(word) = words.share else {
@@ -109,7 +109,7 @@ fn cache_asked<'a>(
 
 // The shape that the words ask for, of which the share was read.
 fn shape_at<'a>(words: CreateWords<'a>, share: u32) -> Result<DiskShape, DiskCommandFault<'a>>
-    requires { IsShareAsked words share }
+    requires { IsShareAsked words.share words.make share }
     ensures ok { IfOk result (IsShapeAsked words.entry) }
     ensures within { IfOk result (λ shape. IsWithin shape.cache) }
     ensures fault { IfErr result (IsNoShapeAt words.entry share) }

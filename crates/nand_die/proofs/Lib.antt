@@ -1,5 +1,9 @@
 pub mod PagesLemmas
 pub mod LeftLemmas
+pub mod ProgramLemmas
+pub mod PlaceLemmas
+pub mod FieldLemmas
+pub mod PutLemmas
 pub mod StepLemmas
 pub mod NextLemmas
 pub mod MakeLemmas
@@ -10,3 +14,4 @@ pub mod LeavesLemmas
 pub mod CallLemmas
 pub mod TapeLemmas
 pub mod BusLemmas
+pub mod RoundLemmas

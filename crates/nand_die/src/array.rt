@@ -1,5 +1,5 @@
 //! The pages of a die, one after another in an array of bytes.
-ghost use Rattle.std.specs.Prelude.{◌≡◌, ◌<◌, ◌*◌, List, length, slice_set, take, drop, replicate, get_or};
+ghost use Rattle.std.specs.Prelude.{◌≡◌, ◌<◌, ◌≤◌, ◌+◌, ◌*◌, List, length, slice_set, take, drop, replicate, get_or};
 ghost use Rattle.page_layout.specs.Geometry.{row_count, page_bytes};
 ghost use Rattle.page_layout.specs.Raw.{raw_image, IsRaw};
 ghost use Rattle.page_layout.specs.Change.{erased_page};
@@ -24,6 +24,33 @@ pub fn image_length(geometry: &Geometry) -> usize
     geometry.rows() as usize * page_length(geometry)
 }
 
+// Where a page begins in a raw image of so many bytes.
+fn page_start(count: usize, geometry: &Geometry, row: u32) -> usize
+    requires in_range { row < row_count geometry.now }
+    requires whole { count ≡ row_count geometry.now * page_bytes geometry.now }
+    ensures is { result ≡ row * page_bytes geometry.now }
+    ensures ends { result + page_bytes geometry.now ≤ count }
+{
+    row as usize * page_length(geometry)
+}
+
+// The bytes of a block.
+fn block_length(geometry: &Geometry) -> usize
+    ensures { result ≡ geometry.now.pages * page_bytes geometry.now }
+{
+    geometry.pages() as usize * page_length(geometry)
+}
+
+// Where a block begins in a raw image of so many bytes.
+fn block_start(count: usize, geometry: &Geometry, block: u32) -> usize
+    requires in_range { block < geometry.now.blocks }
+    requires whole { count ≡ row_count geometry.now * page_bytes geometry.now }
+    ensures is { result ≡ block * geometry.now.pages * page_bytes geometry.now }
+    ensures ends { result + geometry.now.pages * page_bytes geometry.now ≤ count }
+{
+    block as usize * block_length(geometry)
+}
+
 /// Writes a page into its place in a raw image: its data area and then its spare area.
 pub fn write_page(bytes: &mut [u8], geometry: &Geometry, row: u32, page: &[u8])
     requires in_range { row < row_count geometry.now }
@@ -33,7 +60,7 @@ pub fn write_page(bytes: &mut [u8], geometry: &Geometry, row: u32, page: &[u8])
     ensures image { raw_image geometry.now bytes.new ≡ slice_set (raw_image geometry.now bytes.old) row (page_of geometry.now page.now) }
 {
     let size = page_length(geometry);
-    let start = row as usize * size;
+    let start = page_start(bytes.len(), geometry, row);
     bytes[start..start + size].copy_from_slice(page);
 }
 
@@ -45,7 +72,7 @@ pub fn page_slice<'a>(bytes: &'a [u8], geometry: &Geometry, row: u32) -> &'a [u8
     ensures size { length result.now ≡ page_bytes geometry.now }
 {
     let size = page_length(geometry);
-    let start = row as usize * size;
+    let start = page_start(bytes.len(), geometry, row);
     &bytes[start..start + size]
 }
 
@@ -56,8 +83,8 @@ pub fn block_slice<'a>(bytes: &'a [u8], geometry: &Geometry, block: u32) -> &'a 
     ensures pages { take geometry.now.pages (drop (block * geometry.now.pages) (raw_image geometry.now bytes.now)) ≡ pages_of geometry.now geometry.now.pages result.now }
     ensures size { length result.now ≡ geometry.now.pages * page_bytes geometry.now }
 {
-    let size = geometry.pages() as usize * page_length(geometry);
-    let start = block as usize * size;
+    let size = block_length(geometry);
+    let start = block_start(bytes.len(), geometry, block);
     &bytes[start..start + size]
 }
 
@@ -68,7 +95,7 @@ pub fn mark_page(bytes: &mut [u8], geometry: &Geometry, row: u32)
     ensures { raw_image geometry.now bytes.new ≡ slice_set (raw_image geometry.now bytes.old) row (with_mark (get_or (raw_image geometry.now bytes.old) row no_page)) }
 {
     let size = page_length(geometry);
-    let start = row as usize * size;
+    let start = page_start(bytes.len(), geometry, row);
     let page = &mut bytes[start..start + size];
     page[geometry.data_bytes()] = 0;
 }
@@ -80,7 +107,7 @@ pub fn erase_pages(bytes: &mut [u8], geometry: &Geometry, block: u32)
     ensures raw { IsRaw geometry.now bytes.new }
     ensures image { raw_image geometry.now bytes.new ≡ with_block geometry.now.pages block (replicate geometry.now.pages (erased_page geometry.now)) (raw_image geometry.now bytes.old) }
 {
-    let size = geometry.pages() as usize * page_length(geometry);
-    let start = block as usize * size;
+    let size = block_length(geometry);
+    let start = block_start(bytes.len(), geometry, block);
     bytes[start..start + size].fill(0xFF);
 }

@@ -7,6 +7,7 @@ use device_fixtures::cases::Step::{Done, Over, Spread};
 use device_fixtures::cases::{Case, QUIET, Told, hold_cases};
 use device_fixtures::pages::{NO, PageAt};
 use device_fixtures::recorder::Operation::{Erase, Program, Programs, Read as ReadPage};
+use std::alloc::Global;
 use std::test::Fail;
 
 const BEFORE: &[u8] = &[10, 11, 12, NO, NO, NO, NO, 9];
@@ -138,7 +139,7 @@ fn blocks_are_collected(rt: HostRuntime) -> Result<(), Fail> {
     hold_cases(rt.alloc(), &COLLECTED_BLOCKS)
 }
 
-static CHOSEN: [Case; 4] = [
+static EMPTIED: [Case; 2] = [
     // Five live pages, as many as a block that is collected to make room may have: five copies and both
     // translation pages are seven programs, one fewer than a block has pages.
     Case {
@@ -279,6 +280,9 @@ static CHOSEN: [Case; 4] = [
         }),
         ..QUIET
     },
+];
+
+static CHOSEN: [Case; 2] = [
     // 270 writes of one sector: blocks 1 and 2 are erased, used again and full again, without a live page.
     // Blocks with higher numbers that were never erased are collected before them.
     Case {
@@ -361,9 +365,18 @@ static CHOSEN: [Case; 4] = [
     },
 ];
 
+fn hold_emptied(alloc: Global) -> Result<(), Fail> {
+    hold_cases(alloc, &EMPTIED)
+}
+
+fn hold_chosen(alloc: Global) -> Result<(), Fail> {
+    hold_cases(alloc, &CHOSEN)
+}
+
 #[test]
 fn blocks_are_chosen_and_emptied(rt: HostRuntime) -> Result<(), Fail> {
-    hold_cases(rt.alloc(), &CHOSEN)
+    hold_emptied(rt.alloc())?;
+    hold_chosen(rt.alloc())
 }
 
 // The third program fails and leaves bytes. Two turns bring the two sectors out of the bad block, by

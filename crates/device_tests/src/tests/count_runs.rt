@@ -2,7 +2,7 @@
 ghost use Rattle.std.specs.Prelude.{◌≡◌, IfOk};
 ghost use Rattle.ftl_device.specs.Device.{IsDevice};
 
-use device_fixtures::bench::{handed_on, marked_die, started};
+use device_fixtures::bench::{marked_die, started};
 use device_fixtures::calls::{Call, hold_call};
 use device_fixtures::hold::hold_same;
 use ftl_device::Device;
@@ -169,7 +169,6 @@ fn last_byte(run: &Run, sectors: u32, sector: u32) -> u8 {
 // Each sector is as the run left it.
 fn hold_sectors<N: Nand>(device: &mut Device<N>, run: &Run) -> Result<(), Fail>
     requires { IsDevice N.view.flash device.old }
-    ensures { IsDevice N.view.flash device.new }
 {
     let sectors = device.engine.geometry.sectors();
     for sector in 0..sectors {
@@ -207,7 +206,6 @@ fn die_of(
 // Makes the calls of a run before this one. After all of them each sector is as the run left it.
 fn hold_first<N: Nand>(device: &mut Device<N>, run: &Run, end: u32) -> Result<(), Fail>
     requires { IsDevice N.view.flash device.old }
-    ensures { IsDevice N.view.flash device.new }
 {
     hold_calls_before(device, run, end)?;
     if end == run.calls {
@@ -216,20 +214,21 @@ fn hold_first<N: Nand>(device: &mut Device<N>, run: &Run, end: u32) -> Result<()
     Ok(())
 }
 
-// The die after the calls of a run before this one, and its geometry.
+// The die after the calls of a run before this one.
 fn after_run<N: Nand + Drop>(
     alloc: Global,
     nand: N,
     geometry: &Geometry,
     run: &Run,
     end: u32,
-) -> Result<(N, Geometry), Fail>
+) -> Result<N, Fail>
     requires { (N.view.flash nand).geometry ≡ geometry.now }
-    ensures { IfOk result (λ pair. (N.view.flash pair.0).geometry ≡ pair.1) }
 {
     let mut device = started(alloc, nand, geometry, run.capacity)?;
     let came = hold_first(&mut device, run, end);
-    handed_on(device, came)
+    let nand = device.into_nand();
+    came?;
+    Ok(nand)
 }
 
 // What a run left: its programs and erases, those of the format left out, and its illegal ones.
@@ -245,7 +244,7 @@ fn counts_of(driver: Driver<Die>, geometry: &Geometry) -> Left {
 fn left_by(alloc: Global, run: &Run, end: u32, failing: &[u16]) -> Result<Left, Fail> {
     let geometry = geometry_of(run.sizes)?;
     let driver = die_of(alloc, run, geometry, failing)?;
-    let (driver, geometry) = after_run(alloc, driver, &geometry, run, end)?;
+    let driver = after_run(alloc, driver, &geometry, run, end)?;
     Ok(counts_of(driver, &geometry))
 }
 

@@ -3,7 +3,7 @@ ghost use Rattle.std.specs.Prelude.{◌≡◌};
 ghost use Rattle.ftl_device.specs.Device.{IsDevice};
 
 use device_fixtures::again::Mounted;
-use device_fixtures::bench::{formatted_die, given_up, small, started};
+use device_fixtures::bench::{formatted_die, small, started};
 use device_fixtures::calls::Call::{self, Flush, Read, Turn, Write};
 use device_fixtures::calls::hold_call;
 use device_fixtures::cases::Step::{self, Done, Spread};
@@ -96,7 +96,7 @@ const STARTED: Case = Case {
     ..QUIET
 };
 
-static UNCACHED: [Case; 10] = [
+static MOVED: [Case; 4] = [
     // The moved sector waits for its translation page, which the second turn writes.
     Case {
         name: "a sector is moved",
@@ -140,6 +140,9 @@ static UNCACHED: [Case; 10] = [
         operations: &[Program(161, 0xE0), Program(6, 0xE0), Erase(8, 0xE0)],
         ..STARTED
     },
+];
+
+static USED: [Case; 3] = [
     // A moved sector that is read is not cached. Once it is written it is, and the block is erased next: no
     // translation page has to be.
     Case {
@@ -171,6 +174,9 @@ static UNCACHED: [Case; 10] = [
         }),
         ..STARTED
     },
+];
+
+static ENDED: [Case; 3] = [
     // A flush writes the translation page of a moved sector too, and the block stays pinned. A restart
     // forgets the pin: the device that is started finds a victim without a live page, and erases it.
     Case {
@@ -215,9 +221,23 @@ static UNCACHED: [Case; 10] = [
     },
 ];
 
+fn hold_moved(alloc: Global) -> Result<(), Fail> {
+    hold_cases(alloc, &MOVED)
+}
+
+fn hold_used(alloc: Global) -> Result<(), Fail> {
+    hold_cases(alloc, &USED)
+}
+
+fn hold_ended(alloc: Global) -> Result<(), Fail> {
+    hold_cases(alloc, &ENDED)
+}
+
 #[test]
 fn moved_sectors_wait_for_turns(rt: HostRuntime) -> Result<(), Fail> {
-    hold_cases(rt.alloc(), &UNCACHED)
+    hold_moved(rt.alloc())?;
+    hold_used(rt.alloc())?;
+    hold_ended(rt.alloc())
 }
 
 // Makes a write: whether it erased a block.
@@ -233,7 +253,6 @@ fn has_collected<N: Nand>(device: &mut Device<N>, sector: u32, byte: u8) -> Resu
 // Makes so many writes, with a turn after each where that is wanted: how many of them erased a block.
 fn collecting<N: Nand>(device: &mut Device<N>, count: u32, turns: bool) -> Result<u32, Fail>
     requires { IsDevice N.view.flash device.old }
-    ensures { IsDevice N.view.flash device.new }
 {
     let mut collecting = 0u32;
     for i in 0..count {
@@ -259,7 +278,7 @@ fn collecting_on<N: Nand + Drop>(
 {
     let mut device = started(alloc, nand, geometry, 4)?;
     let found = collecting(&mut device, count, turns);
-    given_up(device);
+    device.into_nand();
     found
 }
 

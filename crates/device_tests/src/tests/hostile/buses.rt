@@ -6,8 +6,9 @@ ghost use Rattle.ftl_device.specs.Device.{IsDevice};
 
 use super::calls::Call::{Flush, Read, Trim, Turn, Write};
 use super::calls::{Call, hold_call, make};
+use certificate::Certificate;
 use device_fixtures::bench::{
-    after_calls, checked, driver_on, formatted_die, given_up, mounted, small, start_on,
+    after_calls, checked, driver_on, formatted_die, mounted, small, start_on,
 };
 use device_fixtures::calls::Call as Done;
 use ftl_device::{Device, DeviceFault};
@@ -142,7 +143,6 @@ static ROWS: [Row; 8] = [
 // Each call has its answer.
 fn hold_steps<N: Nand>(rt: &impl Abort, device: &mut Device<N>, row: &Row)
     requires { IsDevice N.view.flash device.old }
-    ensures { IsDevice N.view.flash device.new }
 {
     for (call, held, answer) in row.steps {
         let found = make(rt, device, *call, *held);
@@ -162,7 +162,7 @@ fn hold_started<N: Nand + Drop>(
 {
     let mut device = start_on(alloc, nand, accepted)?;
     hold_steps(rt, &mut device, row);
-    given_up(device);
+    device.into_nand();
     Ok(())
 }
 
@@ -215,11 +215,25 @@ fn hold_round(
     }
 }
 
+// The same of a die that was mounted.
+fn hold_mounted(
+    rt: &impl Abort,
+    alloc: Global,
+    mut driver: Driver<Die>,
+    geometry: Geometry,
+    certificate: &Certificate,
+    row: &Row,
+) -> Result<(), Fail>
+    requires { driver.geometry ≡ geometry }
+{
+    let accepted = checked(alloc, &mut driver, &geometry, 4, certificate)?;
+    hold_round(rt, alloc, driver.into_bus(), geometry, accepted, row)
+}
+
 fn hold_row(rt: &impl Abort, alloc: Global, row: &Row) -> Result<(), Fail> {
     let (mut driver, geometry) = prepared(alloc, row)?;
     let certificate = mounted(alloc, &mut driver, &geometry, 4)?;
-    let accepted = checked(alloc, &mut driver, &geometry, 4, &certificate)?;
-    hold_round(rt, alloc, driver.into_bus(), geometry, accepted, row)
+    hold_mounted(rt, alloc, driver, geometry, &certificate, row)
 }
 
 #[test]

@@ -7,7 +7,7 @@ use super::calls::{Call, hold_call, make, write};
 use super::list::{List, SECTORS, hold_device, hold_sector, scanned};
 use super::noise::Noise;
 use certificate::Certificate;
-use device_fixtures::bench::{fresh, given_up, small, started};
+use device_fixtures::bench::{fresh, small, started};
 use device_fixtures::dies::{certified_image, loaded};
 use device_fixtures::hold::hold_same;
 use ftl_device::{Device, DeviceFault};
@@ -240,7 +240,6 @@ fn hold_write<N: Nand>(rt: &impl Abort, device: &mut Device<N>, list: &mut List,
 // A device's sectors are the list's, and stay so.
 fn hold_changes<N: Nand>(rt: &impl Abort, device: &mut Device<N>, list: &mut List)
     requires { IsDevice N.view.flash device.old }
-    ensures { IsDevice N.view.flash device.new }
 {
     hold_device(rt, device, list, "started");
     hold_idle(rt, device, Call::Turn);
@@ -262,7 +261,7 @@ fn hold_started<N: Nand + Drop>(
 {
     let mut device = started(alloc, nand, geometry, 12)?;
     hold_changes(rt, &mut device, list);
-    given_up(device);
+    device.into_nand();
     Ok(())
 }
 

@@ -8,6 +8,7 @@ ghost use Rattle.ftl_device.specs.Device.{IsDevice};
 
 use super::calls::{Call, hold_call, make, read};
 use super::list::{SECTORS, hold_sector, scanned};
+use certificate::Certificate;
 use device_fixtures::bench::{
     checked, driver_on, formatted_die, given_up, mounted, small, start_on, started,
 };
@@ -175,7 +176,6 @@ fn device_on<B: Bus + Drop>(
 // Each sector is that of the list, or that of the command at which a device stopped.
 fn hold_went<N: Nand>(rt: &impl Abort, device: &mut Device<N>, went: &Went)
     requires { IsDevice N.view.flash device.old }
-    ensures { IsDevice N.view.flash device.new }
 {
     for sector in 0..SECTORS {
         let found = read(rt, device, sector).ok();
@@ -203,7 +203,7 @@ fn hold_started<N: Nand + Drop>(
 {
     let mut device = started(alloc, nand, geometry, 12)?;
     hold_went(rt, &mut device, went);
-    given_up(device);
+    device.into_nand();
     Ok(())
 }
 
@@ -290,13 +290,27 @@ fn stops_on(
     hold_left(rt, alloc, device_on(alloc, die, geometry, accepted)?)
 }
 
+// Whether the device stops on a die that was mounted.
+fn stops_mounted(
+    rt: &impl Abort,
+    alloc: Global,
+    mut driver: Driver<Die>,
+    geometry: Geometry,
+    certificate: &Certificate,
+    failing: Failing,
+) -> Result<bool, Fail>
+    requires { driver.geometry ≡ geometry }
+{
+    let accepted = checked(alloc, &mut driver, &geometry, 4, certificate)?;
+    stops_on(rt, alloc, driver.into_bus(), geometry, accepted, failing)
+}
+
 // Whether the device stops.
 fn stops(rt: &impl Abort, alloc: Global, failing: Failing) -> Result<bool, Fail> {
     let geometry = small()?;
     let mut driver = formatted_die(alloc, geometry, &[], 0)?;
     let certificate = mounted(alloc, &mut driver, &geometry, 4)?;
-    let accepted = checked(alloc, &mut driver, &geometry, 4, &certificate)?;
-    stops_on(rt, alloc, driver.into_bus(), geometry, accepted, failing)
+    stops_mounted(rt, alloc, driver, geometry, &certificate, failing)
 }
 
 #[test]

@@ -6,6 +6,7 @@ ghost use Rattle.ftl_device.specs.Device.{IsDevice};
 use super::bench::served;
 use super::streams::{Narrow, Pieces};
 use block_server::serve;
+use certificate::Certificate;
 use device_fixtures::bench::{checked, driver_on, formatted_die, mounted_with, small, start_on};
 use ftl_device::Device;
 use image_check::Accepted;
@@ -27,6 +28,28 @@ const WRITE: &[u8] = b"\
 // A read of sector 5, a turn, and the read again.
 const READS: &[u8] =
     b"\x44\x46\x01\x00\x03\x00\x00\x00\x05\x00\x00\x00\x44\x46\x05\x00\x04\x00\x00\x00\x00\x00\x00\x00\x44\x46\x01\x00\x03\x00\x00\x00\x05\x00\x00\x00";
+
+// A read of sector 5, a turn, the read again, a flush, and the read once more.
+const LONG: &[u8] =
+    b"\x44\x46\x01\x00\x03\x00\x00\x00\x05\x00\x00\x00\x44\x46\x05\x00\x04\x00\x00\x00\x00\x00\x00\x00\x44\x46\x01\x00\x03\x00\x00\x00\x05\x00\x00\x00\x44\x46\x04\x00\x05\x00\x00\x00\x00\x00\x00\x00\x44\x46\x01\x00\x03\x00\x00\x00\x05\x00\x00\x00";
+
+// What a device is asked, by its bytes: a table that has them themselves has a copy in each row.
+#[derive(Clone, Copy)]
+enum Input {
+    Write,
+    Reads,
+    Long,
+}
+
+impl Input {
+    fn bytes(self) -> &'static [u8] {
+        match self {
+            Input::Write => WRITE,
+            Input::Reads => READS,
+            Input::Long => LONG,
+        }
+    }
+}
 
 static STATUSES: [(u8, &[u8]); 7] = [
     (0, b"df\x02\x00\x04\x03\x02\x01"),
@@ -64,45 +87,41 @@ enum Round {
     Fuse(u64),
 }
 
-// What a formatted die is served first, the bytes of the next sequence in the certificate where they are not those of the mount, what is
-// round the die then, and what a new device on it answers to a stream.
+// Whether a formatted die is served the write first, the bytes of the next sequence in the certificate where they are not those of the
+// mount, what is round the die then, and what a new device on it answers to a stream.
 struct Row {
     name: &'static str,
-    before: &'static [u8],
+    is_written: bool,
     next: Option<[u8; 8]>,
     round: Round,
-    input: &'static [u8],
+    input: Input,
     output: &'static [u8],
 }
-
-// A read of sector 5, a turn, the read again, a flush, and the read once more.
-const LONG: &[u8] =
-    b"\x44\x46\x01\x00\x03\x00\x00\x00\x05\x00\x00\x00\x44\x46\x05\x00\x04\x00\x00\x00\x00\x00\x00\x00\x44\x46\x01\x00\x03\x00\x00\x00\x05\x00\x00\x00\x44\x46\x04\x00\x05\x00\x00\x00\x00\x00\x00\x00\x44\x46\x01\x00\x03\x00\x00\x00\x05\x00\x00\x00";
 
 static ROWS: [Row; 6] = [
     Row {
         name: "the last sequence is spent",
-        before: &[],
+        is_written: false,
         next: Some([0xFF; 8]),
         round: Round::Failing(0),
-        input: WRITE,
+        input: Input::Write,
         output: b"df\x02\x03\x02\x00\x00\x00",
     },
     Row {
         name: "each program fails until one block is left",
-        before: &[],
+        is_written: false,
         next: None,
         round: Round::Failing(31),
-        input: WRITE,
+        input: Input::Write,
         output: b"df\x02\x02\x02\x00\x00\x00",
     },
     // The page that the first read asks for comes with a bit turned, and that of the second as it is.
     Row {
         name: "damage",
-        before: WRITE,
+        is_written: true,
         next: None,
         round: Round::Garble(1, 7, 0x10),
-        input: READS,
+        input: Input::Reads,
         output: b"\
             df\x01\x05\x03\x00\x00\x00df\x05\x00\x04\x00\x00\x00df\x01\x00\x03\x00\x00\x00\x11\x11\x11\x11\x11\x11\
             \x11\x11\x11\x11\x11\x11\x11\x11\x11\x11\x11\x11\x11\x11\x11\x11\x11\x11\x11\x11\x11\x11\x11\x11\x11\x11\
@@ -112,18 +131,18 @@ static ROWS: [Row; 6] = [
     // Before the fault each answer is the array's, and from it on each is the fault.
     Row {
         name: "a call fails in the first read",
-        before: WRITE,
+        is_written: true,
         next: None,
         round: Round::Fuse(5),
-        input: LONG,
+        input: Input::Long,
         output: b"df\x01\x06\x03\x00\x00\x00df\x05\x06\x04\x00\x00\x00df\x01\x06\x03\x00\x00\x00df\x04\x06\x05\x00\x00\x00df\x01\x06\x03\x00\x00\x00",
     },
     Row {
         name: "a call fails in the second read",
-        before: WRITE,
+        is_written: true,
         next: None,
         round: Round::Fuse(12),
-        input: LONG,
+        input: Input::Long,
         output: b"\
             df\x01\x00\x03\x00\x00\x00\x11\x11\x11\x11\x11\x11\x11\x11\x11\x11\x11\x11\x11\x11\x11\x11\x11\x11\x11\
             \x11\x11\x11\x11\x11\x11\x11\x11\x11\x11\x11\x11\x11\x11\x11\x11\x11\x11\x11\x11\x11\x11\x11\x11\x11\x11\
@@ -132,10 +151,10 @@ static ROWS: [Row; 6] = [
     },
     Row {
         name: "a call fails in the flush",
-        before: WRITE,
+        is_written: true,
         next: None,
         round: Round::Fuse(25),
-        input: LONG,
+        input: Input::Long,
         output: b"\
             df\x01\x00\x03\x00\x00\x00\x11\x11\x11\x11\x11\x11\x11\x11\x11\x11\x11\x11\x11\x11\x11\x11\x11\x11\x11\
             \x11\x11\x11\x11\x11\x11\x11\x11\x11\x11\x11\x11\x11\x11\x11\x11\x11\x11\x11\x11\x11\x11\x11\x11\x11\x11\
@@ -185,6 +204,11 @@ fn replies<B: Bus + Drop>(
     answers(alloc, start_on(alloc, driver, accepted)?, input)
 }
 
+// What the die of a row is served first.
+fn first_of(row: &Row) -> &'static [u8] {
+    if row.is_written { WRITE } else { b"" }
+}
+
 // A formatted die that was served.
 fn prepared(alloc: Global, geometry: &Geometry, before: &[u8]) -> Result<Driver<Die>, Fail>
     ensures { IfOk result (λ driver. driver.geometry ≡ geometry.now) }
@@ -225,29 +249,43 @@ fn came_of(
     requires same { die.state.flash.geometry ≡ geometry }
     requires asked { sizes_of geometry ≡ accepted.claim.sizes }
 {
+    let input = row.input.bytes();
     match row.round {
         Round::Failing(count) => {
             let die = failing(alloc, die, count)?;
-            replies(alloc, die, accepted, geometry, row.input)
+            replies(alloc, die, accepted, geometry, input)
         }
         Round::Garble(nth, byte, mask) => {
             let bus = Garble::new(die, nth, byte, mask);
-            replies(alloc, bus, accepted, geometry, row.input)
+            replies(alloc, bus, accepted, geometry, input)
         }
         Round::Fuse(passed) => {
             let bus = CycleFuse::new(die, passed, 1);
-            replies(alloc, bus, accepted, geometry, row.input)
+            replies(alloc, bus, accepted, geometry, input)
         }
     }
+}
+
+// The same of a die that was mounted.
+fn came_mounted(
+    alloc: Global,
+    mut driver: Driver<Die>,
+    geometry: Geometry,
+    certificate: &Certificate,
+    row: &Row,
+) -> Result<Vec<u8>, Fail>
+    requires { driver.geometry ≡ geometry }
+{
+    let accepted = checked(alloc, &mut driver, &geometry, 4, certificate)?;
+    came_of(alloc, driver.into_bus(), accepted, geometry, row)
 }
 
 // What comes of the stream of a row.
 fn came(alloc: Global, row: &Row) -> Result<Vec<u8>, Fail> {
     let geometry = small()?;
-    let mut driver = prepared(alloc, &geometry, row.before)?;
+    let mut driver = prepared(alloc, &geometry, first_of(row))?;
     let certificate = mounted_with(alloc, &mut driver, &geometry, 4, row.next)?;
-    let accepted = checked(alloc, &mut driver, &geometry, 4, &certificate)?;
-    came_of(alloc, driver.into_bus(), accepted, geometry, row)
+    came_mounted(alloc, driver, geometry, &certificate, row)
 }
 
 #[test]

@@ -1,41 +1,80 @@
 use Rattle.std.proofs.Common.{◌∙◌, Bool, List, ap, inl, inr, refl, subst, sym}
-use Rattle.disk_commands.specs.Damage.{IsListAt, IsLookedAt, IsNoListAt, IsUnlookedAt}
+use Rattle.disk_commands.specs.Damage.{IsListAt, IsLookedAt, IsNoListAt}
+use Rattle.disk_commands.specs.Files.{SaysNoMore}
 use Rattle.disk_commands.proofs.DamageLemmas.{kept_flags, looked_at, mark_fault, no_list_back}
-use Rattle.disk_server.proofs.FaultLemmas.{handed_on}
+use Rattle.disk_server.proofs.FaultLemmas.{is_handed_on}
 use Rattle.disk_commands.proofs.damage.look_at.Goals as goal
 
-pub returns-in_err-store-clause-fault : goal.returns-in_err-store-clause-fault
-returns-in_err-store-clause-fault g c =
-    handed_on (IsUnlookedAt g.F.Store.Store.held g.F.Store.Store.honest g.F.Store.Store.failed (g.F.DiskFiles.answers c.args.files.now) c.args.path.now) _ _ c.from_residual.ensures.1
-    (inl c.in_err-store.ensures.fault)
+pub returns-in_err-store : goal.returns-in_err-store
+returns-in_err-store g c =
+    rw (is_handed_on _ _ c.from_residual.ensures.1) (record {
+      ok = tt;
+      fault = inl c.in_err-store.ensures.fault;
+      opened = c.in_err-store.ensures.opened;
+      within = tt;
+      no_more = tt;
+      kept = c.in_err-store.ensures.kept;
+    })
 
-pub returns-in_err-found-clause-fault : goal.returns-in_err-found-clause-fault
-returns-in_err-found-clause-fault g c =
-    handed_on (IsUnlookedAt g.F.Store.Store.held g.F.Store.Store.honest g.F.Store.Store.failed (g.F.DiskFiles.answers c.args.files.now) c.args.path.now) _ _ c.from_residual-in_err-found.ensures.1
-    (inl (mark_fault (g.F.DiskFiles.answers c.args.files.now) (g.F.DiskFiles.answers c.open_at.new.files) c.args.path.now c.in_err-found.field-0.0 c.in_ok-store.ensures.no_more c.in_err-found.ensures.fault))
+pub returns-in_err-found : goal.returns-in_err-found
+returns-in_err-found g c =
+    let first = c.in_ok-store.ensures in
+    let same = c.in_err-found.ensures.same in
+    rw (is_handed_on _ _ c.from_residual-in_err-found.ensures.1) (record {
+      ok = tt;
+      fault = inl (mark_fault (g.F.DiskFiles.answers c.args.files.now) (g.F.DiskFiles.answers c.open_at.new.files) c.args.path.now c.in_err-found.field-0.0 first.no_more c.in_err-found.ensures.fault);
+      opened = ap g.F.DiskFiles.opened same ∙ first.opened;
+      within = tt;
+      no_more = tt;
+      kept = ap g.F.DiskFiles.kept same ∙ first.kept;
+    })
 
-pub returns-in_err-lost-clause-fault : goal.returns-in_err-lost-clause-fault
-returns-in_err-lost-clause-fault g c =
-    handed_on (IsUnlookedAt g.F.Store.Store.held g.F.Store.Store.honest g.F.Store.Store.failed (g.F.DiskFiles.answers c.args.files.now) c.args.path.now) _ _ c.from_residual-in_err-lost.ensures.1
-    (inr (inr (inl (
-      c.in_ok-store.told,
-      c.in_ok-store.ensures.ok.text,
-      no_list_back (g.F.DiskFiles.answers c.args.files.now) (g.F.DiskFiles.answers c.open_at.new.files) c.args.path.now c.in_ok-store.told c.in_err-lost.field-0.0 c.in_ok-store.ensures.no_more
-          (subst (λ x. IsNoListAt (g.F.DiskFiles.answers x) c.args.path.now c.in_ok-store.told c.in_err-lost.field-0.0) c.in_ok-found.ensures.same c.in_err-lost.ensures.fault),
-    ))))
+pub returns-in_err-lost : goal.returns-in_err-lost
+returns-in_err-lost g c =
+    let first = c.in_ok-store.ensures in
+    let told = c.in_ok-store.told in
+    let none = subst (λ x. IsNoListAt (g.F.DiskFiles.answers x) c.args.path.now told c.in_err-lost.field-0.0) c.in_ok-found.ensures.same c.in_err-lost.ensures.fault in
+    let same = c.in_err-lost.ensures.same ∙ c.in_ok-found.ensures.same in
+    rw (is_handed_on _ _ c.from_residual-in_err-lost.ensures.1) (record {
+      ok = tt;
+      fault = inr (inr (inl (told, first.ok.text, no_list_back (g.F.DiskFiles.answers c.args.files.now) (g.F.DiskFiles.answers c.open_at.new.files) c.args.path.now told c.in_err-lost.field-0.0 first.no_more none)));
+      opened = ap g.F.DiskFiles.opened same ∙ first.opened;
+      within = tt;
+      no_more = tt;
+      kept = ap g.F.DiskFiles.kept same ∙ first.kept;
+    })
 
-pub returns-in-Ok-clause-ok : goal.returns-in-Ok-clause-ok
-returns-in-Ok-clause-ok g c =
+pub returns-in-Ok : goal.returns-in-Ok
+returns-in-Ok g c =
+    let first = c.in_ok-store.ensures in
+    let answers = g.F.DiskFiles.answers in
     let list : List Bool = c.deref_mut.result.now in
     let new : List Bool = c.mount_and_find.new.lost in
     let whole = kept_flags c.in_ok-lost.lost.len new c.in_ok-lost.lost.items (c.mount_and_find.ensures.kept.size ∙ c.deref_mut.ensures.len) in
-    let listed : IsListAt (g.F.DiskFiles.answers c.mark_at.new.files) c.args.path.now c.in_ok-store.told list =
-    subst (λ (xs : List Bool). IsListAt (g.F.DiskFiles.answers c.mark_at.new.files) c.args.path.now c.in_ok-store.told xs) (sym c.deref_mut.ensures.value) c.in_ok-lost.ensures.ok in
-    subst (λ (xs : List Bool). IsLookedAt g.F.Store.Store.held g.F.Store.Store.honest (g.F.DiskFiles.answers c.args.files.now) c.args.path.now c.in_ok-store.told c.in_ok-found.found c.in-Ok.store c.in-Ok.certificate xs)
-    (sym whole)
-    (looked_at g.F.Store.Store.held g.F.Store.Store.honest (g.F.DiskFiles.answers c.args.files.now) (g.F.DiskFiles.answers c.open_at.new.files) (g.F.DiskFiles.answers c.mark_at.new.files) c.args.path.now c.in_ok-store.told c.in_ok-found.found
-    c.in_ok-store.store c.in-Ok.store c.in-Ok.certificate list new c.in_ok-store.ensures.no_more (ap g.F.DiskFiles.answers c.in_ok-found.ensures.same) c.in_ok-store.ensures.ok c.in_ok-found.ensures.ok
-    listed c.in-Ok.ensures.back c.in-Ok.ensures.mounted c.in-Ok.ensures.adds c.mount_and_find.ensures.kept)
+    let listed : IsListAt (answers c.mark_at.new.files) c.args.path.now c.in_ok-store.told list =
+    subst (λ (xs : List Bool). IsListAt (answers c.mark_at.new.files) c.args.path.now c.in_ok-store.told xs) (sym c.deref_mut.ensures.value) c.in_ok-lost.ensures.ok in
+    let same = c.in_ok-lost.ensures.same ∙ c.in_ok-found.ensures.same in
+    record {
+      ok = subst (λ (xs : List Bool). IsLookedAt g.F.Store.Store.held g.F.Store.Store.honest (answers c.args.files.now) c.args.path.now c.in_ok-store.told c.in_ok-found.found c.in-Ok.store c.in-Ok.certificate xs) (sym whole)
+          (looked_at g.F.Store.Store.held g.F.Store.Store.honest (answers c.args.files.now) (answers c.open_at.new.files) (answers c.mark_at.new.files) c.args.path.now c.in_ok-store.told c.in_ok-found.found
+          c.in_ok-store.store c.in-Ok.store c.in-Ok.certificate list new first.no_more (ap answers c.in_ok-found.ensures.same) first.ok c.in_ok-found.ensures.ok
+          listed c.in-Ok.ensures.back c.in-Ok.ensures.mounted c.in-Ok.ensures.adds c.mount_and_find.ensures.kept);
+      fault = tt;
+      opened = ap g.F.DiskFiles.opened same ∙ first.opened;
+      within = first.within;
+      no_more = subst (λ f. SaysNoMore (answers c.args.files.now) (answers f)) (sym same) first.no_more;
+      kept = ap g.F.DiskFiles.kept same ∙ first.kept;
+    }
 
-pub returns-clause-fault : goal.returns-clause-fault
-returns-clause-fault g c = inr (inr (inr (refl, (c.in_ok-store.told, c.in_ok-store.store, c.in_ok-store.ensures.ok, c.in-Err.ensures.fault))))
+pub returns : goal.returns
+returns g c =
+    let first = c.in_ok-store.ensures in
+    let same = c.in_ok-lost.ensures.same ∙ c.in_ok-found.ensures.same in
+    record {
+      ok = tt;
+      fault = inr (inr (inr (refl, (c.in_ok-store.told, c.in_ok-store.store, first.ok, c.in-Err.ensures.fault))));
+      opened = ap g.F.DiskFiles.opened same ∙ first.opened;
+      within = tt;
+      no_more = tt;
+      kept = ap g.F.DiskFiles.kept same ∙ first.kept;
+    }

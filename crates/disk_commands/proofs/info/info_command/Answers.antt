@@ -1,31 +1,41 @@
-use Rattle.std.proofs.Common.{◌≡◌, ◌∙◌, ap, inl}
+use Rattle.std.proofs.Common.{◌∙◌, ap, inl, inr}
 use Rattle.std.proofs.KnownBytes.{Keeps-refl}
 use Rattle.disk_commands.specs.Info.{info_text}
-use Rattle.disk_commands.specs.Told.{IsDiskUntold, form_of}
-use Rattle.disk_server.proofs.FaultLemmas.{handed_on}
+use Rattle.disk_commands.specs.Told.{form_of}
+use Rattle.disk_server.proofs.FaultLemmas.{is_handed_on}
 use Rattle.disk_commands.proofs.TellLemmas.{has_not_told, has_told}
 use Rattle.disk_commands.proofs.info.info_command.Goals as goal
 
-pub returns-in_err-info-clause-fault : goal.returns-in_err-info-clause-fault
-returns-in_err-info-clause-fault g c =
-    let out = g.W.Write.contents c.args.out.now in
-    handed_on (IsDiskUntold g.F.Store.Store.held g.F.Store.Store.honest g.F.Store.TellsMended.mended g.F.Store.Store.failed (g.F.DiskFiles.answers c.args.files.now) c.args.words out out) _ _
-    c.from_residual.ensures.1 (inl (c.in_err-info.ensures.fault, Keeps-refl out))
+pub returns-in_err-info : goal.returns-in_err-info
+returns-in_err-info g c =
+    rw (is_handed_on _ _ c.from_residual.ensures.1) (record {
+      ok = tt;
+      fault = inl (c.in_err-info.ensures.fault, Keeps-refl (g.W.Write.contents c.args.out.now));
+      kept = c.in_err-info.ensures.kept;
+      opened = c.in_err-info.ensures.opened;
+    })
 
-pub returns-clause-ok : goal.returns-clause-ok
-returns-clause-ok g c =
+pub returns-in_default : goal.returns-in_default
+returns-in_default g c = record {
+  ok = tt;
+  fault = inl (inr (inl tt), Keeps-refl (g.W.Write.contents c.args.out.now));
+  kept = c.in_ok-info.ensures.kept;
+  opened = c.in_ok-info.ensures.opened;
+}
+
+pub returns : goal.returns
+returns g c =
+    let store = g.F.Store.Store in
+    let answers = g.F.DiskFiles.answers c.args.files.now in
     let info = c.in_ok-info.info in
     let lost = c.in_ok-info.lost.items in
-    let is : c.as_str.result.now ≡ info_text (form_of c.args.words.json) info lost =
-    c.as_str.ensures.value ∙ c.in-Ok.ensures ∙ ap (λ f. info_text f info c.deref.result.now) c.form_of.ensures ∙ ap (info_text (form_of c.args.words.json) info) c.deref.ensures.value in
-    has_told g.F.Store.Store.held g.F.Store.Store.honest g.F.Store.TellsMended.mended (g.F.DiskFiles.answers c.args.files.now) c.args.words (g.W.Write.contents c.args.out.now) (g.W.Write.contents c.print_text.new.out)
-    info lost c.as_str.result.now c.print_text.result c.in_ok-info.ensures.ok is c.print_text.ensures.printed
-
-pub returns-clause-fault : goal.returns-clause-fault
-returns-clause-fault g c =
-    let info = c.in_ok-info.info in
-    let lost = c.in_ok-info.lost.items in
-    let is : c.as_str.result.now ≡ info_text (form_of c.args.words.json) info lost =
-    c.as_str.ensures.value ∙ c.in-Ok.ensures ∙ ap (λ f. info_text f info c.deref.result.now) c.form_of.ensures ∙ ap (info_text (form_of c.args.words.json) info) c.deref.ensures.value in
-    has_not_told g.F.Store.Store.held g.F.Store.Store.honest g.F.Store.TellsMended.mended g.F.Store.Store.failed (g.F.DiskFiles.answers c.args.files.now) c.args.words (g.W.Write.contents c.args.out.now)
-    (g.W.Write.contents c.print_text.new.out) info lost c.as_str.result.now c.print_text.result c.in_ok-info.ensures.ok is c.print_text.ensures.fault
+    let before = g.W.Write.contents c.args.out.now in
+    let after = g.W.Write.contents c.print_text.new.out in
+    let at = c.in_ok-info.ensures.ok in
+    let is = c.as_str.ensures.value ∙ c.in-Ok.ensures ∙ ap (λ f. info_text f info c.deref.result.now) c.form_of.ensures ∙ ap (info_text (form_of c.args.words.json) info) c.deref.ensures.value in
+    record {
+      ok = has_told store.held store.honest g.F.Store.TellsMended.mended answers c.args.words before after info lost c.as_str.result.now c.print_text.result at is c.print_text.ensures.printed;
+      fault = has_not_told store.held store.honest g.F.Store.TellsMended.mended store.failed answers c.args.words before after info lost c.as_str.result.now c.print_text.result at is c.print_text.ensures.fault;
+      kept = c.in_ok-info.ensures.kept;
+      opened = c.in_ok-info.ensures.opened;
+    }

@@ -1,83 +1,86 @@
-use Rattle.std.proofs.Common.{◌∙◌, ap, false, inl, inr, subst, sym}
+use Rattle.std.proofs.Common.{◌∙◌, ap, false, inl, inr, refl, subst, sym}
 use Rattle.disk_server.specs.Synced.{after_sync}
-use Rattle.disk_commands.specs.Ready.{IsNoneOf, IsUnkeptBy, IsUnreadyAt, KeepsBy}
-use Rattle.disk_server.proofs.FaultLemmas.{handed_on}
-use Rattle.disk_commands.proofs.ReadyLemmas.{looked_same, marks_then, unkept_by, unlisted_back}
+use Rattle.disk_commands.specs.Ready.{IsNoneOf, IsUnkeptBy, KeepsBy}
+use Rattle.disk_server.proofs.FaultLemmas.{is_handed_on}
+use Rattle.disk_commands.proofs.ReadyLemmas.{looked_same, marks_then, no_memory_told, not_opened, opens_alone, unkept_by, unlisted_back}
 use Rattle.disk_commands.proofs.ready.ready.Goals as goal
 
-pub returns-in_err-looked-clause-fault : goal.returns-in_err-looked-clause-fault
-returns-in_err-looked-clause-fault g c =
-    handed_on (IsUnreadyAt g.F.Store.Store.held g.F.Store.Store.honest g.F.Store.Store.failed g.F.Syncs.Syncs.failed g.F.Lists.KeepsLost.kept g.F.Lists.KeepsLost.failed
-    (g.F.DiskFiles.answers c.args.files.now) c.args.words.now.disk.now c.args.words.now.read_only) _ _ c.from_residual.ensures.1
-    (inl c.in_err-looked.ensures.fault)
+pub returns-in_err-looked : goal.returns-in_err-looked
+returns-in_err-looked g c =
+    rw (is_handed_on _ _ c.from_residual.ensures.1) (record {
+      ok = tt;
+      named = tt;
+      fault = inl c.in_err-looked.ensures.fault;
+      unnamed = inl refl;
+      opened = opens_alone c.args.words.now c.access_of.result _ _ c.access_of.ensures c.in_err-looked.ensures.opened;
+      kept = c.in_err-looked.ensures.kept;
+    })
 
-pub returns-in_err-keeper-clause-fault : goal.returns-in_err-keeper-clause-fault
-returns-in_err-keeper-clause-fault g c =
-    handed_on (IsUnreadyAt g.F.Store.Store.held g.F.Store.Store.honest g.F.Store.Store.failed g.F.Syncs.Syncs.failed g.F.Lists.KeepsLost.kept g.F.Lists.KeepsLost.failed
-    (g.F.DiskFiles.answers c.args.files.now) c.args.words.now.disk.now c.args.words.now.read_only) _ _ c.from_residual-in_err-keeper.ensures.1
-    (inr (inl (unlisted_back (g.F.DiskFiles.answers c.args.files.now) (g.F.DiskFiles.answers c.look_at.new.files) c.args.words.now.disk.now c.in_err-keeper.field-0.0 c.in_ok-looked.ensures.no_more
-    c.in_err-keeper.ensures.fault)))
+pub returns-in_err-keeper : goal.returns-in_err-keeper
+returns-in_err-keeper g c =
+    let same = c.in_err-keeper.ensures.same in
+    let looked = c.in_ok-looked.ensures in
+    rw (is_handed_on _ _ c.from_residual-in_err-keeper.ensures.1) (record {
+      ok = tt;
+      named = tt;
+      fault = inr (inl (unlisted_back (g.F.DiskFiles.answers c.args.files.now) (g.F.DiskFiles.answers c.look_at.new.files) c.args.words.now.disk.now c.in_err-keeper.field-0.0 looked.no_more c.in_err-keeper.ensures.fault));
+      unnamed = inl refl;
+      opened = opens_alone c.args.words.now c.access_of.result _ _ c.access_of.ensures (ap g.F.DiskFiles.opened same ∙ looked.opened);
+      kept = ap g.F.DiskFiles.kept same ∙ looked.kept;
+    })
 
-pub returns-in_err-disk-clause-fault : goal.returns-in_err-disk-clause-fault
-returns-in_err-disk-clause-fault g c =
-    handed_on (IsUnreadyAt g.F.Store.Store.held g.F.Store.Store.honest g.F.Store.Store.failed g.F.Syncs.Syncs.failed g.F.Lists.KeepsLost.kept g.F.Lists.KeepsLost.failed
-    (g.F.DiskFiles.answers c.args.files.now) c.args.words.now.disk.now c.args.words.now.read_only) _ _ c.from_residual-in_err-disk.ensures.1
-    (inr (inr (inl (record {
-      told = c.in_ok-looked.looked.told;
-      found = c.in_ok-looked.looked.found;
-      store = c.in_ok-looked.looked.store;
-      certificate = _;
-      lost = c.in_ok-looked.looked.lost.items;
-      looked = c.in_ok-looked.ensures.ok;
-      place = c.in_ok-keeper.keeper;
-      none_kept = c.in_ok-keeper.ensures.none_kept;
-      left = c.disk_of.new.keeper;
-      unopened = inl (subst (λ l. IsNoneOf g.F.Store.Store.held g.F.Store.Store.honest g.F.Store.Store.failed g.F.Lists.KeepsLost.kept g.F.Lists.KeepsLost.failed c.args.words.now.disk.now c.args.words.now.read_only c.in_ok-looked.looked.told
-          c.in_ok-looked.looked.found c.in_ok-looked.looked.store l c.in_ok-keeper.keeper c.disk_of.new.keeper c.in_err-disk.field-0.0) c.deref.ensures.value c.in_err-disk.ensures.fault);
-    }))))
+pub returns-in_err-disk : goal.returns-in_err-disk
+returns-in_err-disk g c =
+    let store = g.F.Store.Store in
+    let words = c.args.words.now in
+    let same = c.in_ok-keeper.ensures.same in
+    let it = c.in_ok-looked in
+    let none = subst (λ l. IsNoneOf store.held store.honest store.failed g.F.Lists.KeepsLost.kept g.F.Lists.KeepsLost.failed words.disk.now words.read_only it.looked.told it.looked.found it.looked.store l c.in_ok-keeper.keeper
+    c.disk_of.new.keeper c.in_err-disk.field-0.0) c.deref.ensures.value c.in_err-disk.ensures.fault in
+    rw (is_handed_on _ _ c.from_residual-in_err-disk.ensures.1) (record {
+      ok = tt;
+      named = tt;
+      fault = not_opened store.held store.honest store.failed g.F.Syncs.Syncs.failed g.F.Lists.KeepsLost.kept g.F.Lists.KeepsLost.failed (g.F.DiskFiles.answers c.args.files.now) words.disk.now words.read_only _
+          it.looked.told it.looked.found it.looked.store _ it.looked.lost.items c.in_ok-keeper.keeper c.disk_of.new.keeper it.ensures.ok c.in_ok-keeper.ensures.none_kept (inl none);
+      unnamed = inl refl;
+      opened = opens_alone words c.access_of.result _ _ c.access_of.ensures (ap g.F.DiskFiles.opened same ∙ it.ensures.opened);
+      kept = ap g.F.DiskFiles.kept same ∙ it.ensures.kept;
+    })
 
-pub returns-in_err-syncs-clause-fault : goal.returns-in_err-syncs-clause-fault
-returns-in_err-syncs-clause-fault g c =
-    handed_on (IsUnreadyAt g.F.Store.Store.held g.F.Store.Store.honest g.F.Store.Store.failed g.F.Syncs.Syncs.failed g.F.Lists.KeepsLost.kept g.F.Lists.KeepsLost.failed
-    (g.F.DiskFiles.answers c.args.files.now) c.args.words.now.disk.now c.args.words.now.read_only) _ _ c.from_residual-in_err-syncs.ensures.1
-    (inr (inr (inl (record {
-      told = c.in_ok-looked.looked.told;
-      found = c.in_ok-looked.looked.found;
-      store = c.in_ok-looked.looked.store;
-      certificate = _;
-      lost = c.in_ok-looked.looked.lost.items;
-      looked = c.in_ok-looked.ensures.ok;
-      place = c.in_ok-keeper.keeper;
-      none_kept = c.in_ok-keeper.ensures.none_kept;
-      left = c.disk_of.new.keeper;
-      unopened = inr (unkept_by c.args.words.now.read_only g.F.Syncs.Syncs.failed (g.F.DiskFiles.answers c.args.files.now) (g.F.DiskFiles.answers c.look_at.new.files) c.args.words.now.disk.now c.in_err-syncs.field-0.0
-          c.in_ok-looked.ensures.no_more (subst (λ x. IsUnkeptBy c.args.words.now.read_only g.F.Syncs.Syncs.failed (g.F.DiskFiles.answers x) c.args.words.now.disk.now c.in_err-syncs.field-0.0) c.in_ok-keeper.ensures.same
-          c.in_err-syncs.ensures.fault));
-    }))))
+pub returns-in_err-syncs : goal.returns-in_err-syncs
+returns-in_err-syncs g c =
+    let store = g.F.Store.Store in
+    let words = c.args.words.now in
+    let same = c.in_ok-keeper.ensures.same in
+    let it = c.in_ok-looked in
+    let answers = g.F.DiskFiles.answers in
+    let here = subst (λ x. IsUnkeptBy words.read_only g.F.Syncs.Syncs.failed (answers x) words.disk.now c.in_err-syncs.field-0.0) same c.in_err-syncs.ensures.fault in
+    let unkept = unkept_by words.read_only g.F.Syncs.Syncs.failed (answers c.args.files.now) (answers c.look_at.new.files) words.disk.now c.in_err-syncs.field-0.0 it.ensures.no_more here in
+    rw (is_handed_on _ _ c.from_residual-in_err-syncs.ensures.1) (record {
+      ok = tt;
+      named = tt;
+      fault = not_opened store.held store.honest store.failed g.F.Syncs.Syncs.failed g.F.Lists.KeepsLost.kept g.F.Lists.KeepsLost.failed (answers c.args.files.now) words.disk.now words.read_only _
+          it.looked.told it.looked.found it.looked.store _ it.looked.lost.items c.in_ok-keeper.keeper c.disk_of.new.keeper it.ensures.ok c.in_ok-keeper.ensures.none_kept (inr unkept);
+      unnamed = inl refl;
+      opened = marks_then words c.access_of.result _ (g.F.DiskFiles.opened c.keeper_at.new.files) _ c.access_of.ensures (ap g.F.DiskFiles.opened same ∙ it.ensures.opened) c.in_err-syncs.ensures.opened;
+      kept = c.in_err-syncs.ensures.kept ∙ (ap g.F.DiskFiles.kept same ∙ it.ensures.kept);
+    })
 
-pub returns-in_err-name_all-clause-fault : goal.returns-in_err-name_all-clause-fault
-returns-in_err-name_all-clause-fault g c =
-    handed_on (IsUnreadyAt g.F.Store.Store.held g.F.Store.Store.honest g.F.Store.Store.failed g.F.Syncs.Syncs.failed g.F.Lists.KeepsLost.kept g.F.Lists.KeepsLost.failed
-    (g.F.DiskFiles.answers c.args.files.now) c.args.words.now.disk.now c.args.words.now.read_only) _ _ c.from_residual-in_err-name_all.ensures.1
-    (inr (inr (inr c.in_err-name_all.ensures.fault)))
-
-pub returns-in_err-syncs-clause-opened : goal.returns-in_err-syncs-clause-opened
-returns-in_err-syncs-clause-opened g c =
-    marks_then c.args.words.now c.access_of.result (g.F.DiskFiles.opened c.args.files.now) (g.F.DiskFiles.opened c.keeper_at.new.files) (g.F.DiskFiles.opened c.keep_mark_of.new.files) c.access_of.ensures
-    (ap g.F.DiskFiles.opened c.in_ok-keeper.ensures.same ∙ c.in_ok-looked.ensures.opened) c.in_err-syncs.ensures.opened
-
-pub returns-in_err-name_all-clause-opened : goal.returns-in_err-name_all-clause-opened
-returns-in_err-name_all-clause-opened g c =
-    marks_then c.args.words.now c.access_of.result (g.F.DiskFiles.opened c.args.files.now) (g.F.DiskFiles.opened c.keeper_at.new.files) (g.F.DiskFiles.opened c.keep_mark_of.new.files) c.access_of.ensures
-    (ap g.F.DiskFiles.opened c.in_ok-keeper.ensures.same ∙ c.in_ok-looked.ensures.opened) c.in_ok-syncs.ensures.opened
+pub returns-in_err-name_all : goal.returns-in_err-name_all
+returns-in_err-name_all g c =
+    let same = c.in_ok-keeper.ensures.same in
+    let looked = c.in_ok-looked.ensures in
+    rw (is_handed_on _ _ c.from_residual-in_err-name_all.ensures.1) (record {
+      ok = tt;
+      named = tt;
+      fault = inr (inr (inr c.in_err-name_all.ensures.fault));
+      unnamed = inr c.in_err-name_all.ensures.fault;
+      opened = marks_then c.args.words.now c.access_of.result _ (g.F.DiskFiles.opened c.keeper_at.new.files) _ c.access_of.ensures (ap g.F.DiskFiles.opened same ∙ looked.opened) c.in_ok-syncs.ensures.opened;
+      kept = c.in_ok-syncs.ensures.kept ∙ (ap g.F.DiskFiles.kept same ∙ looked.kept);
+    })
 
 pub returns-in-Ok-clause-opened : goal.returns-in-Ok-clause-opened
 returns-in-Ok-clause-opened g c =
-    marks_then c.args.words.now c.access_of.result (g.F.DiskFiles.opened c.args.files.now) (g.F.DiskFiles.opened c.keeper_at.new.files) (g.F.DiskFiles.opened c.keep_mark_of.new.files) c.access_of.ensures
-    (ap g.F.DiskFiles.opened c.in_ok-keeper.ensures.same ∙ c.in_ok-looked.ensures.opened) c.in_ok-syncs.ensures.opened
-
-pub returns-clause-opened : goal.returns-clause-opened
-returns-clause-opened g c =
     marks_then c.args.words.now c.access_of.result (g.F.DiskFiles.opened c.args.files.now) (g.F.DiskFiles.opened c.keeper_at.new.files) (g.F.DiskFiles.opened c.keep_mark_of.new.files) c.access_of.ensures
     (ap g.F.DiskFiles.opened c.in_ok-keeper.ensures.same ∙ c.in_ok-looked.ensures.opened) c.in_ok-syncs.ensures.opened
 
@@ -109,3 +112,16 @@ returns-in-Ok-clause-ok g c = record {
       (subst (λ k. KeepsBy c.args.words.now.read_only g.F.Lists.KeepsLost.kept c.in_ok-looked.looked.lost.items c.in_ok-keeper.keeper k) (sym c.in-Ok.ensures.keeper)
       (subst (λ l. KeepsBy c.args.words.now.read_only g.F.Lists.KeepsLost.kept l c.in_ok-keeper.keeper c.disk_of.new.keeper) c.deref.ensures.value c.in_ok-disk.ensures.listed));
 }
+
+pub returns : goal.returns
+returns g c =
+    let same = c.in_ok-keeper.ensures.same in
+    let looked = c.in_ok-looked.ensures in
+    record {
+      ok = tt;
+      named = tt;
+      fault = inr (inr (inr (no_memory_told _ c.in-Err.ensures.fault)));
+      unnamed = inr (no_memory_told _ c.in-Err.ensures.fault);
+      opened = marks_then c.args.words.now c.access_of.result _ (g.F.DiskFiles.opened c.keeper_at.new.files) _ c.access_of.ensures (ap g.F.DiskFiles.opened same ∙ looked.opened) c.in_ok-syncs.ensures.opened;
+      kept = c.in_ok-syncs.ensures.kept ∙ (ap g.F.DiskFiles.kept same ∙ looked.kept);
+    }

@@ -7,6 +7,15 @@ use Rattle.nand_die.specs.Turns.{flash_of, left_page}
 use Rattle.nand_die.proofs.StepLemmas.{programs_so, may_here, block_in}
 use Rattle.nand_die.proofs.change.program_into.Goals as goal
 
+pub slice_copy_out-turn : goal.slice_copy_out-turn
+slice_copy_out-turn c = block_in c.args.geometry.now c.args.row c.pages.result (length c.args.turns.now) c.pages.ensures c.requires.blocks c.requires.in_range
+
+pub bounds-turns-block : goal.bounds-turns-block
+bounds-turns-block c = block_in c.args.geometry.now c.args.row c.pages.result (length c.args.turns.now) c.pages.ensures c.requires.blocks c.requires.in_range
+
+pub leave_page-requires : goal.leave_page-requires
+leave_page-requires c = record { in_range = c.requires.in_range; whole = c.requires.whole; page = c.requires.page; left = c.requires.left }
+
 pub returns-clause-legal : goal.returns-clause-legal
 returns-clause-legal c abuse =
     let block = c.args.row / c.pages.result in

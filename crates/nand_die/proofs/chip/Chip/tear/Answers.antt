@@ -52,3 +52,18 @@ returns-else-program_is_due c =
     let due = c.in-Programs.ensures.due i.register.items in
     let is = ap (λ b. if b then slice_set d.state.flash.image c.in-Programs.row left else d.state.flash.image) may ∙ ap (λ u. torn_image u d.state.flash left) due in
     rw (← c.self.view_is) (ap (λ image. with_image image d) is)
+
+pub returns-in-Moves : goal.returns-in-Moves
+returns-in-Moves c =
+    let d : ChipValue = the_view c.self.inside in
+    rw (← c.self.view_is) (ap (λ u. with_image (torn_image u d.state.flash (page_of d.state.flash.geometry c.args.page.now)) d) (c.in-Moves.ensures.due c.self.inside.register.items))
+
+pub returns-in-Resets : goal.returns-in-Resets
+returns-in-Resets c =
+    let d : ChipValue = the_view c.self.inside in
+    rw (← c.self.view_is) (ap (λ u. with_image (torn_image u d.state.flash (page_of d.state.flash.geometry c.args.page.now)) d) (c.in-Resets.ensures.due c.self.inside.register.items))
+
+pub returns-in-Refuses : goal.returns-in-Refuses
+returns-in-Refuses c =
+    let d : ChipValue = the_view c.self.inside in
+    rw (← c.self.view_is) (ap (λ u. with_image (torn_image u d.state.flash (page_of d.state.flash.geometry c.args.page.now)) d) (c.in-Refuses.ensures.due c.self.inside.register.items))
