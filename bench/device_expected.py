@@ -1,6 +1,6 @@
 #!/usr/bin/env python3
 """Prints what the tests of devices expect, by `bench/device_model.py`, and holds the stages of
-`crates/fault_tests/src/tests/script_rows.rt` against it.
+`crates/device_tests/src/tests/failing/script_rows.rt` against it.
 
     bench/device_expected.py
 """
@@ -10,7 +10,7 @@ from pathlib import Path
 
 from device_model import Device, Die, Geometry, Mounted, format_die, formatted, show
 
-TESTS = Path(__file__).resolve().parent.parent / "crates" / "fault_tests" / "src" / "tests"
+TESTS = Path(__file__).resolve().parent.parent / "crates" / "device_tests" / "src" / "tests" / "failing"
 FIRST = Geometry(64, 32, 8, 32, 32)
 LEAST = Geometry(64, 32, 4, 12, 1)
 

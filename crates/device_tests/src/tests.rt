@@ -1,6 +1,7 @@
 //! The devices of these tests, and their geometry, are those of `device_fixtures`.
 mod collection_rows;
 mod count_runs;
+mod failing;
 mod flush;
 mod hostile;
 mod lists;
@@ -10,4 +11,5 @@ mod restarts;
 mod rows;
 mod server;
 mod serving;
+mod slots;
 mod turn_rows;

@@ -1,5 +1,0 @@
-use Rattle.std.proofs.Common.{◌≡◌}
-use Rattle.code_tests.proofs.tests.bus_life.compare.Given as goal
-
-abbrev pub invariant-loop-i : goal.invariant-loop-i
-invariant-loop-i g l = (g.N.PageSource.view.flash l.nand).geometry ≡ l.geometry

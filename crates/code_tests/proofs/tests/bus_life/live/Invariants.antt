@@ -1,5 +1,0 @@
-use Rattle.std.proofs.Common.{◌≡◌}
-use Rattle.code_tests.proofs.tests.bus_life.live.Given as goal
-
-abbrev pub invariant-changes : goal.invariant-changes
-invariant-changes g l = (g.N.PageSource.view.flash l.nand).geometry ≡ l.geometry

@@ -1,0 +1,5 @@
+use Rattle.ftl_device.specs.Device.{IsDevice}
+use Rattle.device_tests.proofs.tests.failing.waiting.give_all.Given as goal
+
+abbrev pub invariant-loop-i : goal.invariant-loop-i
+invariant-loop-i g l = IsDevice g.N.PageSource.view.flash l.device

@@ -1,5 +1,0 @@
-use Rattle.std.proofs.Common.{◌≡◌}
-use Rattle.fault_tests.proofs.tests.script.give_row.Given as goal
-
-abbrev pub invariant-loop-its : goal.invariant-loop-its
-invariant-loop-its l = l.driver.geometry ≡ l.geometry

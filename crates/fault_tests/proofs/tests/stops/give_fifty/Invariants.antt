@@ -1,5 +1,0 @@
-use Rattle.ftl_device.specs.Device.{IsDevice}
-use Rattle.fault_tests.proofs.tests.stops.give_fifty.Given as goal
-
-abbrev pub invariant-loop-i : goal.invariant-loop-i
-invariant-loop-i g l = IsDevice g.N.PageSource.view.flash l.device
