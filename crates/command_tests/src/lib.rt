@@ -1,4 +1,4 @@
-//! Whole commands of the program, run over files in memory, as tests.
+//! Whole commands of the program, run over files in memory, and its files on the system, as tests.
 #![tactic(auto)]
 
 #[cfg(test)]

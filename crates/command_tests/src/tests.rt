@@ -1,4 +1,4 @@
-//! Runs of whole commands, with files in memory.
+//! Runs of whole commands, with files in memory; and the files of the system.
 mod check_rows;
 mod files;
 mod format_rows;
@@ -9,4 +9,5 @@ mod runs;
 mod sector_rows;
 mod serve_rows;
 mod show_rows;
+mod system_files;
 mod word_rows;

@@ -1,9 +1,6 @@
 //! `nandctl`: commands on raw images of one NAND die.
 #![tactic(auto)]
 
-#[cfg(test)]
-mod tests;
-
 use std::process::ExitCode;
 use system_program::run_over;
 
