@@ -5,12 +5,15 @@ pub mod ArrangedLemmas
 pub mod JsonLemmas
 pub mod TextLemmas
 pub mod UndoneLemmas
+pub mod BegunLemmas
+pub mod HandedLemmas
 pub mod ArrayLemmas
 pub mod RowLemmas
 pub mod CompareLemmas
 pub mod GeometryLemmas
 pub mod ArrangeLemmas
 pub mod MergeLemmas
+pub mod RepairLemmas
 pub mod NameLemmas
 pub mod NameLaws
 pub mod OriginLemmas

@@ -45,6 +45,12 @@ pub record MadeArray (a : StoreAnswers) (words : UntilWords) (g : Geometry) (las
   pub allowed : AreAllowed a words.array
   pub made : IsArrayMade a words.array.dump.now g last words.damaged pieces held left
 
+-- of this geometry and as of this sequence it was made and put in the place of OUT
+pub record HasPutSectors (a : StoreAnswers) (words : ArrayWords) (before after : Option Store) (g : Geometry) (last : Option ℕ) (damaged : Bool) (held : List Held) (left : Unsettled) : Type 0 where
+  pub pieces : Option (List (List ℕ))
+  pub made : IsArrayMade a words.dump.now g last damaged pieces held left
+  pub put : after ≡ with_kept before words.out.now pieces words.force
+
 -- the files once a map was put in the place of FILE, where one is wanted
 abbrev pub with_map : Option Store → ArrayWords → List ℕ → Option Store
 with_map kept words text = option_map_or (λ file. with_kept kept file.now (Some (text ∷ [])) words.force) words.map kept

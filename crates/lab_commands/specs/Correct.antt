@@ -40,6 +40,12 @@ pub record MadeCorrected (a : StoreAnswers) (words : ArrayWords) (g : Geometry) 
   pub allowed : AreAllowed a words
   pub made : IsPutRight a words.dump.now g chip pieces c
 
+-- of these geometries it was made and put in the place of OUT
+pub record HasPutRight (a : StoreAnswers) (words : ArrayWords) (before after : Option Store) (g chip : Geometry) (c : Counts) : Type 0 where
+  pub pieces : Option (List (List ℕ))
+  pub made : IsPutRight a words.dump.now g chip pieces c
+  pub put : after ≡ with_kept before words.out.now pieces words.force
+
 -- it was put in the place of OUT
 pub record PlacedCorrected (a : StoreAnswers) (words : ArrayWords) (before after : Option Store) (g : Geometry) (c : Counts) : Type 0 where
   pub pieces : Option (List (List ℕ))

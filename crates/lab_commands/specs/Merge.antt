@@ -70,6 +70,12 @@ pub record IsJoined (a : StoreAnswers) (paths : List (List ℕ)) (g : Geometry) 
   pub merged : (files : List (List ℕ)) → Tell known files → IsMerged g files conflicts unsound tried tally pieces
   pub own : IsOwnMerge g conflicts unsound tried pieces
 
+-- the one dump of this geometry was made and put in the place of OUT
+pub record HasPutJoined (a : StoreAnswers) (words : MergeWords) (before after : Option Store) (g : Geometry) (conflicts unsound : List ℕ) (tried : List TriedRow) (tally : RowTally) : Type 0 where
+  pub pieces : Option (List (List ℕ))
+  pub made : IsJoined a (dumps_of words) g pieces conflicts unsound tried tally
+  pub put : after ≡ with_kept before words.out.now pieces words.force
+
 -- the one dump was put in the place of OUT
 pub record PutMerge (a : StoreAnswers) (words : MergeWords) (before after : Option Store) (conflicts unsound : List ℕ) (tried : List TriedRow) (tally : RowTally) : Type 0 where
   pub g : Geometry
@@ -125,12 +131,15 @@ TellsFault _ paths out _ = ⊥
 abbrev pub IsUnjoined : StoreAnswers → List (List ℕ) → Geometry → List ℕ → LabFault → Type 0
 IsUnjoined a paths g out told = IsSomeUnread a paths told ⊎ IsUnwritten a out told ⊎ IsUnmergedTo a paths g out told
 
+-- memory was refused, or no dump was made, or it did not get its name
+abbrev pub IsUnput : StoreAnswers → MergeWords → Geometry → (opens opened : Option ℕ) → LabFault → Type 0
+IsUnput a words g opens opened told = IsUnroomed opens opened told ⊎ IsUnjoined a (dumps_of words) g words.out.now told ⊎ IsUnplaced a words.out.now words.force told
+
 -- The first of this order: the geometry; whether OUT may be written; memory; the dumps and OUT.
 abbrev pub IsUnmergedBy : StoreAnswers → MergeWords → (opens opened : Option ℕ) → LabFault → Type 0
 IsUnmergedBy a words opens opened told =
     IsNoGeometry words.geometry.now told
-    ⊎ ((g : Geometry) × IsGeometryAt words.geometry.now g × (MayNotMerge a words told
-    ⊎ (MayMerge a words × (IsUnroomed opens opened told ⊎ IsUnjoined a (dumps_of words) g words.out.now told ⊎ IsUnplaced a words.out.now words.force told))))
+    ⊎ ((g : Geometry) × IsGeometryAt words.geometry.now g × (MayNotMerge a words told ⊎ (MayMerge a words × IsUnput a words g opens opened told)))
 
 -- No dump was put in place and nothing printed, for one of these reasons; or it was put in place, and a beginning of the list printed.
 abbrev pub IsMergeFault : StoreAnswers → MergeWords → Option Store → Option Store → (opens opened : Option ℕ) → (broke : Bool) → Option (List ℕ) → Option (List ℕ) → LabFault → Type 0

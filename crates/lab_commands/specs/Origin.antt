@@ -53,6 +53,11 @@ pub record IsFollowed (a : StoreAnswers) (words : OriginWords) (g : Geometry) (l
   pub each_opened : AreOpened a (readings_of words) readings
   pub traced : (all : List ℕ) (files : List (List ℕ)) → known ≡ Some all → Tell readings files → IsTraced g last all files marks
 
+-- the marks were followed, and their map was put in the place of OUT
+pub record HasPutMarks (a : StoreAnswers) (words : OriginWords) (before after : Option Store) (g : Geometry) (last : Option ℕ) (marks : List MapMark) : Type 0 where
+  pub followed : IsFollowed a words g last marks
+  pub put : after ≡ with_kept before words.out.now (Some (map_text remark.Readings g marks ∷ [])) words.force
+
 -- the map of these marks was put in the place of OUT
 pub record PutOrigin (a : StoreAnswers) (words : OriginWords) (before after : Option Store) (g : Geometry) (last : Option ℕ) (marks : List MapMark) : Type 0 where
   pub geometry_is : IsGeometryAt words.geometry.now g

@@ -34,6 +34,19 @@ told_tries bits g mends = if nat_le 2 bits then turn_tries (8 * page_bytes g) me
 abbrev pub asked_of : Option Rows → ℕ → RepairAsked
 asked_of rows bits = record { rows = rows; bits = bits }
 
+-- the words say this geometry, and ask this of it
+pub record AreAsked (words : RepairWords) (g : Geometry) (asked : RepairAsked) : Type 0 where
+  pub geometry_is : IsGeometryAt words.geometry.now g
+  pub rows_are : AreRowsAt words.rows g asked.rows
+  pub bits_are : AreBitsAt words.bits g asked.bits
+
+-- so asked, the mended dump was put in the place of OUT, and so many pages are told to have been tried
+pub record HasPutMends (a : StoreAnswers) (words : RepairWords) (before after : Option Store) (g : Geometry) (asked : RepairAsked) (tries : ℕ) (mends : List Mend) : Type 0 where
+  pub pieces : Option (List (List ℕ))
+  pub made : IsMended a words.dump.now g asked pieces mends
+  pub put : after ≡ with_kept before words.out.now pieces words.force
+  pub tried : tries ≡ told_tries asked.bits g mends
+
 -- the mended dump was put in the place of OUT
 pub record PutRepair (a : StoreAnswers) (words : RepairWords) (before after : Option Store) (mends : List Mend) : Type 0 where
   pub g : Geometry
@@ -60,6 +73,16 @@ pub record WroteRepair (a : StoreAnswers) (words : RepairWords) (before after : 
 
 -- ---- not done
 
+-- The first of this order: the geometry; the rows; how many bits.
+abbrev pub AreUnasked : RepairWords → LabFault → Type 0
+AreUnasked words told =
+    IsNoGeometry words.geometry.now told
+    ⊎ ((g : Geometry) × IsGeometryAt words.geometry.now g × (AreNoRows words.rows g told ⊎ ((rows : Option Rows) × AreRowsAt words.rows g rows × AreNoBits words.bits g told)))
+
+-- memory was refused, or no dump was made, or it did not get its name
+abbrev pub IsUnput : StoreAnswers → RepairWords → Geometry → (opens opened : Option ℕ) → LabFault → Type 0
+IsUnput a words g opens opened told = IsUnroomed opens opened told ⊎ IsFileUnmade a g words.dump.now words.out.now told ⊎ IsUnplaced a words.out.now words.force told
+
 -- The first of this order: the geometry; the rows; how many bits; whether OUT may be written; memory; the dump and OUT.
 abbrev pub IsUnrepairedBy : StoreAnswers → RepairWords → (opens opened : Option ℕ) → LabFault → Type 0
 IsUnrepairedBy a words opens opened told =
@@ -67,7 +90,7 @@ IsUnrepairedBy a words opens opened told =
     ⊎ ((g : Geometry) × IsGeometryAt words.geometry.now g × (AreNoRows words.rows g told
     ⊎ ((rows : Option Rows) × AreRowsAt words.rows g rows × (AreNoBits words.bits g told
     ⊎ ((bits : ℕ) × AreBitsAt words.bits g bits × (MayNotWrite a words.dump.now words.out.now words.force told
-    ⊎ (MayWrite a words.dump.now words.out.now words.force × (IsUnroomed opens opened told ⊎ IsFileUnmade a g words.dump.now words.out.now told ⊎ IsUnplaced a words.out.now words.force told))))))))
+    ⊎ (MayWrite a words.dump.now words.out.now words.force × IsUnput a words g opens opened told)))))))
 
 -- No dump was put in place and nothing printed, for one of these reasons; or it was put in place, and a beginning of the list printed.
 abbrev pub IsRepairFault : StoreAnswers → RepairWords → Option Store → Option Store → (opens opened : Option ℕ) → (broke : Bool) → Option (List ℕ) → Option (List ℕ) → LabFault → Type 0

@@ -3,7 +3,7 @@ ghost use Rattle.std.specs.Prelude.{◌≡◌, OnOk, OnErr, IfOk, IfErr};
 ghost use Rattle.lab_arrange.specs.Place.{IsFitting};
 ghost use Rattle.lab_arrange.specs.Rooms.{IsArrangeRoom};
 ghost use Rattle.lab_commands.specs.Files.{AnswersNoMore, without_part};
-ghost use Rattle.lab_commands.specs.Arrange.{AreSaid, AreUnsaid, IsArrangeFault, IsInOrder, IsSaid, IsUnarrangedBy, IsUnordered, IsUnsaid, PutArranged, WroteArranged, unordered_as};
+ghost use Rattle.lab_commands.specs.Arrange.{AreSaid, AreUnsaid, HasPutInOrder, IsArrangeFault, IsInOrder, IsSaid, IsUnarrangedBy, IsUnordered, IsUnput, IsUnsaid, PutArranged, WroteArranged, unordered_as};
 
 use crate::arrange_words::ArrangeWords;
 use crate::files::LabFiles;
@@ -84,7 +84,25 @@ fn put_in_order<'a, F: LabFiles>(
     }
 }
 
-// Puts the dump in order in the place of OUT. Its geometry is told.
+// Makes the dump in order and puts it in the place of OUT.
+fn place_in_order<'a, F: LabFiles>(
+    alloc: Global,
+    words: &ArrangeWords<'a>,
+    geometry: &Geometry,
+    arrangement: &Arrangement,
+    files: &mut F,
+) -> Result<(), LabFault<'a>>
+    requires { IsFitting geometry.now arrangement.now }
+    ensures put { OnOk result (HasPutInOrder (F.answers files.old) words.now (F.kept files.old) (F.kept files.new) geometry.now arrangement.now) }
+    ensures fault { IfErr result (IsUnput (F.answers files.old) words.now geometry.now arrangement.now (F.opened files.old) (F.opened files.new)) }
+    ensures kept { OnErr result (F.kept files.new ≡ F.kept files.old) }
+{
+    let room = ArrangeRoom::new(alloc, geometry)?;
+    let target = put_in_order(room, words, geometry, arrangement, files)?;
+    keep(files, words.out, target, words.force)
+}
+
+// Puts the dump in order in the place of OUT, where that is allowed. Its geometry is told.
 fn place<'a, F: LabFiles>(
     alloc: Global,
     words: &ArrangeWords<'a>,
@@ -96,9 +114,7 @@ fn place<'a, F: LabFiles>(
 {
     let said = shape_of(words)?;
     allow(files, words.dump, words.out, words.force)?;
-    let room = ArrangeRoom::new(alloc, &said.0)?;
-    let target = put_in_order(room, words, &said.0, &said.1, files)?;
-    keep(files, words.out, target, words.force)?;
+    place_in_order(alloc, words, &said.0, &said.1, files)?;
     Ok(said.0)
 }
 

@@ -20,7 +20,7 @@ fn put_tail<W: Output>(out: &mut W, tail: Option<u32>) -> Result<(), OutputFault
     ensures { Prints (W.failed out.new) (W.contents out.old) (W.contents out.new) (around_words None tail) result }
 {
     match tail {
-        Some(bytes) => put_pieces(out, &[Words("tail="), Number(u64::from(bytes))]),
+        Some(bytes) => put_pieces(out, &[Words("tail="), Number(bytes as u64)]),
         None => Ok(()),
     }
 }
@@ -34,7 +34,7 @@ fn put_around<W: Output>(
     ensures { Prints (W.failed out.new) (W.contents out.old) (W.contents out.new) (around_words header tail) result }
 {
     match header {
-        Some(bytes) => put_pieces(out, &[Words("header="), Number(u64::from(bytes))]),
+        Some(bytes) => put_pieces(out, &[Words("header="), Number(bytes as u64)]),
         None => put_tail(out, tail),
     }
 }
@@ -44,8 +44,8 @@ fn put_cut<W: Output>(out: &mut W, before: bool, cut: Option<u32>) -> Result<(),
     ensures { Prints (W.failed out.new) (W.contents out.old) (W.contents out.new) (cut_words before cut) result }
 {
     match (before, cut) {
-        (false, Some(bytes)) => put_pieces(out, &[Words("cut="), Number(u64::from(bytes))]),
-        (true, Some(bytes)) => put_pieces(out, &[Words(",cut="), Number(u64::from(bytes))]),
+        (false, Some(bytes)) => put_pieces(out, &[Words("cut="), Number(bytes as u64)]),
+        (true, Some(bytes)) => put_pieces(out, &[Words(",cut="), Number(bytes as u64)]),
         (_, None) => Ok(()),
     }
 }

@@ -9,14 +9,13 @@ ghost use Rattle.lab_dump.specs.Unmade as made;
 ghost use Rattle.lab_dump.specs.Written.{IsWritten};
 ghost use Rattle.lab_commands.specs.Files.{AnswersNoMore, without_part};
 ghost use Rattle.lab_commands.specs.Undone.{IsFileUnmade, MayWrite};
-ghost use Rattle.lab_commands.specs.Array.{AreAllowed, AreNotAllowed, IsArrayFault, IsArrayMade, IsMapNotAllowed, IsUndone, IsUnmapped, PlacedArray, WroteArray, as_map, with_map};
+ghost use Rattle.lab_commands.specs.Array.{AreAllowed, AreNotAllowed, HasPutSectors, IsArrayFault, IsArrayMade, IsMapNotAllowed, IsUndone, IsUnmapped, IsUnput, PlacedArray, WroteArray, as_map, with_map};
 
 use crate::files::{LabFiles, Standing};
 use crate::maps::ArrayMap;
 use crate::numbers::last_at;
 use crate::opening::{
-    allow, create_beside, geometry_at, is_dump, is_out, keep, may_replace, open_file, progress_of,
-    standing, store_map, unmade,
+    allow, begin_file, geometry_at, is_dump, is_out, keep, may_replace, standing, store_map, unmade,
 };
 use crate::output::Output;
 use crate::printing::{ended, printer};
@@ -140,12 +139,50 @@ fn make<'a, F: LabFiles>(
     ensures beside { OnOk result (without_part (F.kept files.new) ≡ F.kept files.old) }
     ensures kept { OnErr result (F.kept files.new ≡ F.kept files.old) }
 {
-    let mut dump = open_file(files, words.dump, progress_of(words.showing))?;
-    let target = create_beside(files, words.out, geometry.sectors(), geometry.data_bytes())?;
+    let begun = begin_file(
+        files,
+        words.dump,
+        words.out,
+        words.showing,
+        geometry.sectors(),
+        geometry.data_bytes(),
+    )?;
+    let (mut dump, target) = begun;
     match write_sectors(room, &mut dump, geometry, last, damaged, target) {
         Ok(written) => Ok(written),
         Err(unwritten) => Err(unmade(files, unwritten, words.dump, words.out)),
     }
+}
+
+// The states of the sectors of an array that stands in its place, and what is left open.
+#[derive(Drop)]
+struct SectorsPut {
+    held: Vec<Held>,
+    left: Unsettled,
+}
+
+// Makes the array and puts it in the place of OUT.
+fn put_sectors<'a, F: LabFiles>(
+    alloc: Global,
+    words: &ArrayWords<'a>,
+    geometry: &Geometry,
+    last: Option<u64>,
+    damaged: bool,
+    files: &mut F,
+) -> Result<SectorsPut, LabFault<'a>>
+    ensures put { IfOk result (λ put. HasPutSectors (F.answers files.old) words.now (F.kept files.old) (F.kept files.new) geometry.now last damaged put.held.items put.left) }
+    ensures sized { IfOk result (λ put. length put.held.items ≡ geometry.now.sectors) }
+    ensures fault { IfErr result (IsUnput (F.answers files.old) geometry.now words.now (F.opened files.old) (F.opened files.new)) }
+    ensures no_more { OnOk result (AnswersNoMore (F.answers files.old) (F.answers files.new)) }
+    ensures kept { OnErr result (F.kept files.new ≡ F.kept files.old) }
+{
+    let room = ArrayRoom::new(alloc, geometry)?;
+    let written = make(room, words, geometry, last, damaged, files)?;
+    keep(files, words.out, written.target, words.force)?;
+    Ok(SectorsPut {
+        held: written.held,
+        left: written.left,
+    })
 }
 
 // An array that stands in its place, and what is told of it.
@@ -157,7 +194,7 @@ struct ArrayPlaced {
     left: Unsettled,
 }
 
-// Puts the array in the place of OUT.
+// Puts the array in the place of OUT, where that is allowed.
 fn place<'a, F: LabFiles>(
     alloc: Global,
     words: UntilWords<'a>,
@@ -177,14 +214,12 @@ fn place<'a, F: LabFiles>(
     let geometry = geometry_at(words.geometry)?;
     let last = last_at(until)?;
     allow_both(files, &words)?;
-    let room = ArrayRoom::new(alloc, &geometry)?;
-    let written = make(room, &words, &geometry, last, damaged, files)?;
-    keep(files, words.out, written.target, words.force)?;
+    let put = put_sectors(alloc, &words, &geometry, last, damaged, files)?;
     Ok(ArrayPlaced {
         geometry,
         last,
-        held: written.held,
-        left: written.left,
+        held: put.held,
+        left: put.left,
     })
 }
 

@@ -5,8 +5,8 @@ ghost use Rattle.lab_correct.specs.Map.{loss_map_text};
 ghost use Rattle.lab_correct.specs.Rooms.{IsCorrectRoom};
 ghost use Rattle.lab_commands.specs.Files.{AnswersNoMore, without_part};
 ghost use Rattle.lab_commands.specs.Undone.{IsFileUnmade};
-ghost use Rattle.lab_commands.specs.Array.{IsUnmapped, with_map};
-ghost use Rattle.lab_commands.specs.Correct.{IsCorrectFault, IsNoChip, IsPutRight, IsUncorrectedBy, PlacedCorrected, WroteCorrected};
+ghost use Rattle.lab_commands.specs.Array.{IsUnmapped, IsUnput, with_map};
+ghost use Rattle.lab_commands.specs.Correct.{HasPutRight, IsCorrectFault, IsNoChip, IsPutRight, IsUncorrectedBy, PlacedCorrected, WroteCorrected};
 
 use crate::array::allow_both;
 use crate::files::LabFiles;
@@ -74,6 +74,38 @@ fn put_right<'a, F: LabFiles>(
     }
 }
 
+// What is counted of a dump without codes that stands in its place.
+#[derive(Drop)]
+struct CorrectedPut {
+    turned: u64,
+    touched: u32,
+    losses: Vec<Loss>,
+}
+
+// Makes the dump without codes and puts it in the place of OUT.
+fn put_corrected<'a, F: LabFiles>(
+    alloc: Global,
+    words: &ArrayWords<'a>,
+    geometry: &Geometry,
+    chip: &ChipGeometry,
+    files: &mut F,
+) -> Result<CorrectedPut, LabFault<'a>>
+    requires { IsChipOf geometry.now chip.now.raw }
+    ensures put { IfOk result (λ put. HasPutRight (F.answers files.old) words.now (F.kept files.old) (F.kept files.new) geometry.now chip.now.raw (record { turned = put.turned; touched = put.touched; losses = put.losses.items })) }
+    ensures fault { IfErr result (IsUnput (F.answers files.old) chip.now.raw words.now (F.opened files.old) (F.opened files.new)) }
+    ensures no_more { OnOk result (AnswersNoMore (F.answers files.old) (F.answers files.new)) }
+    ensures kept { OnErr result (F.kept files.new ≡ F.kept files.old) }
+{
+    let room = CorrectRoom::new(alloc, geometry, chip)?;
+    let told = put_right(room, words, geometry, chip, files)?;
+    keep(files, words.out, told.target, words.force)?;
+    Ok(CorrectedPut {
+        turned: told.turned,
+        touched: told.touched,
+        losses: told.losses,
+    })
+}
+
 // A dump without codes that stands in its place, and what is told of it.
 #[derive(Drop)]
 struct CorrectedPlaced {
@@ -83,7 +115,7 @@ struct CorrectedPlaced {
     losses: Vec<Loss>,
 }
 
-// Puts the dump without codes in the place of OUT.
+// Puts the dump without codes in the place of OUT, where that is allowed.
 fn place<'a, F: LabFiles>(
     alloc: Global,
     words: &ArrayWords<'a>,
@@ -97,14 +129,12 @@ fn place<'a, F: LabFiles>(
     let geometry = geometry_at(words.geometry)?;
     let chip = chip_of(&geometry)?;
     allow_both(files, words)?;
-    let room = CorrectRoom::new(alloc, &geometry, &chip)?;
-    let told = put_right(room, words, &geometry, &chip, files)?;
-    keep(files, words.out, told.target, words.force)?;
+    let put = put_corrected(alloc, words, &geometry, &chip, files)?;
     Ok(CorrectedPlaced {
         geometry,
-        turned: told.turned,
-        touched: told.touched,
-        losses: told.losses,
+        turned: put.turned,
+        touched: put.touched,
+        losses: put.losses,
     })
 }
 

@@ -247,9 +247,9 @@ fn put_two<'x, W: Output>(
         out,
         &[
             Words(words),
-            Number(u64::from(first)),
+            Number(first as u64),
             Words(others),
-            Number(u64::from(second)),
+            Number(second as u64),
         ],
     )
 }
@@ -265,12 +265,7 @@ fn put_named<'x, W: Output>(
 {
     put_pieces(
         out,
-        &[
-            Words(words),
-            Words(name),
-            Words(" "),
-            Number(u64::from(number)),
-        ],
+        &[Words(words), Words(name), Words(" "), Number(number as u64)],
     )
 }
 
@@ -287,15 +282,15 @@ pub(crate) fn put_shaped<'x, W: Output>(
         out,
         &[
             Words(before),
-            Number(u64::from(fit.data_bytes)),
+            Number(fit.data_bytes as u64),
             Words(","),
-            Number(u64::from(fit.spare_bytes)),
+            Number(fit.spare_bytes as u64),
             Words(","),
-            Number(u64::from(fit.pages)),
+            Number(fit.pages as u64),
             Words(","),
-            Number(u64::from(fit.blocks)),
+            Number(fit.blocks as u64),
             Words(","),
-            Number(u64::from(fit.sectors)),
+            Number(fit.sectors as u64),
             Words(behind),
         ],
     )
@@ -308,11 +303,11 @@ fn put_counted<W: Output>(out: &mut W, fit: Fit) -> Result<(), OutputFault>
     put_pieces(
         out,
         &[
-            Number(u64::from(fit.looked)),
+            Number(fit.looked as u64),
             Words(" sound "),
-            Number(u64::from(fit.sound.0)),
+            Number(fit.sound.0 as u64),
             Words(" unsound "),
-            Number(u64::from(fit.unsound)),
+            Number(fit.unsound as u64),
             Words(" table "),
             Words(says_text(fit.table)),
             Words(" blocks "),
@@ -368,7 +363,7 @@ fn put_block<W: Output>(
         out,
         &[
             Words("block "),
-            Number(u64::from(block)),
+            Number(block as u64),
             Words(" class "),
             Words(class_text(state.class)),
             Words(" pointer "),
@@ -376,9 +371,9 @@ fn put_block<W: Output>(
             Words(" live "),
             Number(u64::from(state.live)),
             Words(" wear "),
-            Number(u64::from(state.wear)),
+            Number(state.wear as u64),
             Words(" unsound "),
-            Number(u64::from(unsound)),
+            Number(unsound as u64),
         ],
     )
 }
@@ -391,17 +386,17 @@ fn put_tally<W: Output>(out: &mut W, differ: u64, tally: RowTally) -> Result<(),
         out,
         &[
             Words("sound "),
-            Number(u64::from(tally.sound)),
+            Number(tally.sound as u64),
             Words(" differ "),
             Number(differ),
             Words(" majority "),
-            Number(u64::from(tally.majority)),
+            Number(tally.majority as u64),
             Words(" turned "),
-            Number(u64::from(tally.turned)),
+            Number(tally.turned as u64),
             Words(" erased "),
-            Number(u64::from(tally.erased)),
+            Number(tally.erased as u64),
             Words(" unsound "),
-            Number(u64::from(tally.unsound)),
+            Number(tally.unsound as u64),
         ],
     )
 }
@@ -420,11 +415,11 @@ fn put_turned<'x, W: Output>(
         out,
         &[
             Words(words),
-            Number(u64::from(row)),
+            Number(row as u64),
             Words(" bits "),
-            Number(u64::from(turned)),
+            Number(turned as u64),
             Words(" of "),
-            Number(u64::from(differing)),
+            Number(differing as u64),
         ],
     )
 }
@@ -533,9 +528,9 @@ fn put_page<W: Output>(out: &mut W, page: SectorPage, block: u32) -> Result<(), 
         out,
         &[
             Words("page row "),
-            Number(u64::from(page.row)),
+            Number(page.row as u64),
             Words(" block "),
-            Number(u64::from(block)),
+            Number(block as u64),
             Words(" sequence "),
             Number(page.sequence.0),
             Words(" version "),
@@ -568,11 +563,11 @@ fn put_says<W: Output>(out: &mut W, page: SaidPage) -> Result<(), OutputFault>
         out,
         &[
             Words("unsound row "),
-            Number(u64::from(page.row)),
+            Number(page.row as u64),
             Words(" says "),
             Words(kind_text(page.says.kind)),
             Words(" "),
-            Number(u64::from(page.says.number)),
+            Number(page.says.number as u64),
             Words(" sequence "),
             Number(page.says.sequence),
             Words(newer_text(page.newer)),
@@ -628,7 +623,7 @@ fn put_corrected<W: Output>(out: &mut W, bits: u64, rows: u32, lost: u64) -> Res
             Words("turned "),
             Number(bits),
             Words(" rows "),
-            Number(u64::from(rows)),
+            Number(rows as u64),
             Words(" lost "),
             Number(lost),
         ],

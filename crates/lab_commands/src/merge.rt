@@ -4,7 +4,7 @@ ghost use Rattle.lab_mend.specs.Merged.{IsOfReading};
 ghost use Rattle.lab_mend.specs.Rooms.{IsMergeRoom};
 ghost use Rattle.program_words.specs.Met.{texts};
 ghost use Rattle.lab_commands.specs.Files.{AnswersNoMore, without_part};
-ghost use Rattle.lab_commands.specs.Merge.{AreOpened, HasSame, IsJoined, IsMergeFault, IsSomeUnread, IsUnjoined, IsUnmergedBy, MayMerge, MayNotMerge, PutMerge, TellsFault, WroteMerge};
+ghost use Rattle.lab_commands.specs.Merge.{AreOpened, HasPutJoined, HasSame, IsJoined, IsMergeFault, IsSomeUnread, IsUnjoined, IsUnmergedBy, IsUnput, MayMerge, MayNotMerge, PutMerge, TellsFault, WroteMerge};
 ghost use Rattle.lab_commands.specs.Merge.{dumps_of};
 
 use crate::files::{LabFiles, Progress, Standing};
@@ -177,7 +177,30 @@ struct MergePlaced {
     tally: RowTally,
 }
 
-// Puts the one dump in the place of OUT.
+// Makes the one dump and puts it in the place of OUT.
+fn put_joined<'a, F: LabFiles>(
+    alloc: Global,
+    words: &MergeWords<'a>,
+    geometry: &Geometry,
+    files: &mut F,
+) -> Result<MergePlaced, LabFault<'a>>
+    requires { 0 < length words.now.dumps.items }
+    ensures put { IfOk result (λ told. HasPutJoined (F.answers files.old) words.now (F.kept files.old) (F.kept files.new) geometry.now told.conflicts.items told.unsound.items told.tried.items told.tally) }
+    ensures fault { IfErr result (IsUnput (F.answers files.old) words.now geometry.now (F.opened files.old) (F.opened files.new)) }
+    ensures kept { OnErr result (F.kept files.new ≡ F.kept files.old) }
+{
+    let room = take_room(alloc, geometry, words.dumps.len())?;
+    let merged = join(room, words, geometry, files)?;
+    keep(files, words.out, merged.target, words.force)?;
+    Ok(MergePlaced {
+        conflicts: merged.conflicts,
+        unsound: merged.unsound,
+        tried: merged.tried,
+        tally: merged.tally,
+    })
+}
+
+// Puts the one dump in the place of OUT, where that is allowed.
 fn place<'a, F: LabFiles>(
     alloc: Global,
     words: &MergeWords<'a>,
@@ -190,15 +213,7 @@ fn place<'a, F: LabFiles>(
 {
     let geometry = geometry_at(words.geometry)?;
     allow_merge(files, words)?;
-    let room = take_room(alloc, &geometry, words.dumps.len())?;
-    let merged = join(room, words, &geometry, files)?;
-    keep(files, words.out, merged.target, words.force)?;
-    Ok(MergePlaced {
-        conflicts: merged.conflicts,
-        unsound: merged.unsound,
-        tried: merged.tried,
-        tally: merged.tally,
-    })
+    put_joined(alloc, words, &geometry, files)
 }
 
 /// The command `merge`: writes one dump of the dumps DUMP, each a reading of one die of the geometry GEOM, to the file OUT, row by row, and prints

@@ -212,7 +212,30 @@ pub(crate) fn create_beside<'a, F: LabFiles>(
     }
 }
 
-/// A reader of a dump, and a file beside that of a path with as many pages as a die of a geometry has.
+/// A reader of a dump, and a file of so many pieces of so many zeros beside that of a path.
+pub(crate) fn begin_file<'a, F: LabFiles>(
+    files: &mut F,
+    dump: &'a str,
+    path: &'a str,
+    showing: Showing,
+    count: u32,
+    size: usize,
+) -> Result<(F::Reader, F::Target), LabFault<'a>>
+    ensures bytes { IfOk result (λ begun. IsFileOpened (F.answers files.old) dump.now (F.Reader.remaining begun.0)) }
+    ensures reads { OnOk result ((reader : F.Reader) → F.Reader.failed reader ≡ true → (F.answers files.old).reads_fail) }
+    ensures blank { IfOk result (λ begun. IfSome (F.Target.pieces begun.1) (λ ps. ps ≡ replicate count (replicate size 0))) }
+    ensures writes { OnOk result ((target : F.Target) → F.Target.failed target ≡ true → (F.answers files.old).writes_fail) }
+    ensures fault { IfErr result (IsUnbegun (F.answers files.old) dump.now path.now) }
+    ensures no_more { AnswersNoMore (F.answers files.old) (F.answers files.new) }
+    ensures made { OnOk result (without_part (F.kept files.new) ≡ F.kept files.old) }
+    ensures kept { OnErr result (F.kept files.new ≡ F.kept files.old) }
+{
+    let reader = open_file(files, dump, progress_of(showing))?;
+    let target = create_beside(files, path, count, size)?;
+    Ok((reader, target))
+}
+
+/// The same with as many pages as a die of a geometry has.
 pub(crate) fn begin_pages<'a, F: LabFiles>(
     files: &mut F,
     dump: &'a str,
@@ -229,10 +252,8 @@ pub(crate) fn begin_pages<'a, F: LabFiles>(
     ensures made { OnOk result (without_part (F.kept files.new) ≡ F.kept files.old) }
     ensures kept { OnErr result (F.kept files.new ≡ F.kept files.old) }
 {
-    let reader = open_file(files, dump, progress_of(showing))?;
     let size = geometry.data_bytes() + geometry.spare_bytes();
-    let target = create_beside(files, path, geometry.rows(), size)?;
-    Ok((reader, target))
+    begin_file(files, dump, path, showing, geometry.rows(), size)
 }
 
 /// Puts a file that was made in the place of a path. Where that fails it is removed.

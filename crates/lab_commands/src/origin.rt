@@ -8,7 +8,7 @@ ghost use Rattle.lab_origin.specs.Tracing.{IsOriginRoom};
 ghost use Rattle.lab_commands.specs.Files.{AnswersNoMore, with_kept};
 ghost use Rattle.lab_commands.specs.Merge.{AreOpened, IsSomeUnread};
 ghost use Rattle.lab_commands.specs.Undone.{IsUnplaced};
-ghost use Rattle.lab_commands.specs.Origin.{IsFollowed, HasPutOrigin, IsOriginFault, IsUndone, IsUnfollowed, MayMap, MayNotMap, TellsOrigin, TellsReading, WroteOrigin};
+ghost use Rattle.lab_commands.specs.Origin.{HasPutMarks, HasPutOrigin, IsFollowed, IsOriginFault, IsUndone, IsUnfollowed, IsUnput, MayMap, MayNotMap, TellsOrigin, TellsReading, WroteOrigin};
 
 use crate::files::{LabFiles, Progress, Standing};
 use crate::maps::OriginMap;
@@ -178,7 +178,25 @@ fn put_origin<'a, F: LabFiles>(
     }
 }
 
-// Puts the map in the place of OUT. How each sector is marked is told.
+// Follows the pages, and puts the map in the place of OUT. How each sector is marked is told.
+fn put_marks<'a, F: LabFiles>(
+    alloc: Global,
+    words: &OriginWords<'a>,
+    geometry: &Geometry,
+    last: Option<u64>,
+    files: &mut F,
+) -> Result<Vec<MapMark>, LabFault<'a>>
+    ensures put { IfOk result (λ marks. HasPutMarks (F.answers files.old) words.now (F.kept files.old) (F.kept files.new) geometry.now last marks.items) }
+    ensures fault { IfErr result (IsUnput (F.answers files.old) words.now geometry.now (F.opened files.old) (F.opened files.new)) }
+    ensures kept { OnErr result (F.kept files.new ≡ F.kept files.old) }
+{
+    let room = take_room(alloc, geometry, words.readings.len())?;
+    let marks = follow(room, words, geometry, last, files)?;
+    put_origin(words, geometry, &marks, files)?;
+    Ok(marks)
+}
+
+// The same where the words say what is to be followed, and it is allowed.
 fn place<'a, F: LabFiles>(
     alloc: Global,
     words: &OriginWords<'a>,
@@ -191,10 +209,7 @@ fn place<'a, F: LabFiles>(
     let geometry = geometry_at(words.geometry)?;
     let last = last_at(words.until)?;
     allow_origin(files, words)?;
-    let room = take_room(alloc, &geometry, words.readings.len())?;
-    let marks = follow(room, words, &geometry, last, files)?;
-    put_origin(words, &geometry, &marks, files)?;
-    Ok(marks)
+    put_marks(alloc, words, &geometry, last, files)
 }
 
 /// The command `origin`: writes the map of the array of the dump DUMP, of the geometry GEOM, to the file OUT, in which each sector has a mark of its own that is shown of a page that none

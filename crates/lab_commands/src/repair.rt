@@ -3,7 +3,7 @@ ghost use Rattle.std.specs.Prelude.{◌≡◌, OnOk, OnErr, IfOk, IfErr};
 ghost use Rattle.lab_mend.specs.Rooms.{IsRepairRoom};
 ghost use Rattle.lab_commands.specs.Files.{AnswersNoMore, without_part};
 ghost use Rattle.lab_commands.specs.Undone.{IsFileUnmade};
-ghost use Rattle.lab_commands.specs.Repair.{HasPutRepair, IsMended, IsRepairFault, IsUnrepairedBy, WroteRepair, told_tries};
+ghost use Rattle.lab_commands.specs.Repair.{AreAsked, AreUnasked, HasPutMends, HasPutRepair, IsMended, IsRepairFault, IsUnput, IsUnrepairedBy, WroteRepair, told_tries};
 
 use crate::bits::bits_at;
 use crate::files::LabFiles;
@@ -60,7 +60,40 @@ struct MendsTold {
     mends: Vec<Mend>,
 }
 
-// Puts the mended dump in the place of OUT.
+// The geometry that the words say, and what they ask of it.
+fn asked_at<'a>(words: &RepairWords<'a>) -> Result<(Geometry, RepairAsked), LabFault<'a>>
+    ensures ok { IfOk result (λ said. AreAsked words.now said.0 said.1) }
+    ensures fault { IfErr result (AreUnasked words.now) }
+{
+    let geometry = geometry_at(words.geometry)?;
+    let rows = rows_at(words.rows, &geometry)?;
+    let bits = bits_at(words.bits, &geometry)?;
+    Ok((geometry, RepairAsked { rows, bits }))
+}
+
+// Mends the dump so, and puts it in the place of OUT.
+fn put_mends<'a, F: LabFiles>(
+    alloc: Global,
+    words: &RepairWords<'a>,
+    geometry: &Geometry,
+    asked: RepairAsked,
+    files: &mut F,
+) -> Result<MendsTold, LabFault<'a>>
+    ensures put { IfOk result (λ told. HasPutMends (F.answers files.old) words.now (F.kept files.old) (F.kept files.new) geometry.now asked told.tries told.mends.items) }
+    ensures fault { IfErr result (IsUnput (F.answers files.old) words.now geometry.now (F.opened files.old) (F.opened files.new)) }
+    ensures kept { OnErr result (F.kept files.new ≡ F.kept files.old) }
+{
+    let room = RepairRoom::new(alloc, geometry)?;
+    let repaired = mend(room, words, geometry, asked, files)?;
+    keep(files, words.out, repaired.target, words.force)?;
+    let tries = tries_told(geometry, asked.bits, &repaired.mends);
+    Ok(MendsTold {
+        tries,
+        mends: repaired.mends,
+    })
+}
+
+// Puts the mended dump in the place of OUT, where the words say what is asked and it is allowed.
 fn put_mended<'a, F: LabFiles>(
     alloc: Global,
     words: &RepairWords<'a>,
@@ -70,19 +103,9 @@ fn put_mended<'a, F: LabFiles>(
     ensures fault { IfErr result (IsUnrepairedBy (F.answers files.old) words.now (F.opened files.old) (F.opened files.new)) }
     ensures kept { OnErr result (F.kept files.new ≡ F.kept files.old) }
 {
-    let geometry = geometry_at(words.geometry)?;
-    let rows = rows_at(words.rows, &geometry)?;
-    let bits = bits_at(words.bits, &geometry)?;
+    let said = asked_at(words)?;
     allow(files, words.dump, words.out, words.force)?;
-    let room = RepairRoom::new(alloc, &geometry)?;
-    let asked = RepairAsked { rows, bits };
-    let repaired = mend(room, words, &geometry, asked, files)?;
-    keep(files, words.out, repaired.target, words.force)?;
-    let tries = tries_told(&geometry, bits, &repaired.mends);
-    Ok(MendsTold {
-        tries,
-        mends: repaired.mends,
-    })
+    put_mends(alloc, words, &said.0, said.1, files)
 }
 
 /// The command `repair`: writes the dump DUMP, of the geometry GEOM, to the file OUT, with each page mended that is neither erased nor sound and

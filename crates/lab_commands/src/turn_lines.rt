@@ -21,9 +21,9 @@ fn put_mended<W: Output>(out: &mut W, made: Made, row: u32, bit: u32) -> Result<
         &[
             Words(made_text(made)),
             Words(" row "),
-            Number(u64::from(row)),
+            Number(row as u64),
             Words(" bit "),
-            Number(u64::from(bit)),
+            Number(bit as u64),
         ],
     )
 }
@@ -36,11 +36,11 @@ fn put_pair<W: Output>(out: &mut W, row: u32, pair: BitPair) -> Result<(), Outpu
         out,
         &[
             Words("mended row "),
-            Number(u64::from(row)),
+            Number(row as u64),
             Words(" bits "),
-            Number(u64::from(pair.low)),
+            Number(pair.low as u64),
             Words(" "),
-            Number(u64::from(pair.high)),
+            Number(pair.high as u64),
         ],
     )
 }
@@ -49,7 +49,7 @@ fn put_pair<W: Output>(out: &mut W, row: u32, pair: BitPair) -> Result<(), Outpu
 fn put_row<W: Output>(out: &mut W, words: &str, row: u32) -> Result<(), OutputFault>
     ensures { Prints (W.failed out.new) (W.contents out.old) (W.contents out.new) (words.now ++ decimal row) result }
 {
-    put_pieces(out, &[Words(words), Number(u64::from(row))])
+    put_pieces(out, &[Words(words), Number(row as u64)])
 }
 
 /// Prints what came of the page of a row as plain text, without its line feed.
@@ -78,11 +78,11 @@ fn put_mended_data<W: Output>(
         out,
         &[
             Words("{\"bit\":"),
-            Number(u64::from(bit)),
+            Number(bit as u64),
             Words(",\"line\":\""),
             Words(made_text(made)),
             Words("\",\"row\":"),
-            Number(u64::from(row)),
+            Number(row as u64),
             Words("}"),
         ],
     )
@@ -97,11 +97,11 @@ fn put_pair_data<W: Output>(out: &mut W, row: u32, pair: BitPair) -> Result<(), 
         out,
         &[
             Words("{\"bits\":["),
-            Number(u64::from(pair.low)),
+            Number(pair.low as u64),
             Words(","),
-            Number(u64::from(pair.high)),
+            Number(pair.high as u64),
             Words("],\"line\":\"mended\",\"row\":"),
-            Number(u64::from(row)),
+            Number(row as u64),
             Words("}"),
         ],
     )

@@ -31,7 +31,7 @@ fn put_pages<W: Output>(out: &mut W, sort: Sort, pages: u32) -> Result<(), Outpu
         out,
         &[
             Words("{\"count\":"),
-            Number(u64::from(pages)),
+            Number(pages as u64),
             Words(",\"line\":\"pages\",\"sort\":\""),
             Words(sort.text()),
             Words("\"}"),
@@ -112,7 +112,7 @@ fn put_tied<W: Output>(out: &mut W, of: Label, number: u32) -> Result<(), Output
             Words("{\"key\":\""),
             Words(of.text()),
             Words("\",\"line\":\"tied\",\"number\":"),
-            Number(u64::from(number)),
+            Number(number as u64),
             Words("}"),
         ],
     )
@@ -129,7 +129,7 @@ fn put_missing<W: Output>(out: &mut W, of: Label, number: u32) -> Result<(), Out
             Words("{\"key\":\""),
             Words(of.text()),
             Words("\",\"line\":\"missing\",\"number\":"),
-            Number(u64::from(number)),
+            Number(number as u64),
             Words("}"),
         ],
     )
@@ -137,7 +137,7 @@ fn put_missing<W: Output>(out: &mut W, of: Label, number: u32) -> Result<(), Out
 
 // A block with its state.
 #[tactic(auto, unfolding(json::specs::Print::escape_byte))]
-fn put_block<W: Output>(
+fn put_block_data<W: Output>(
     out: &mut W,
     block: u32,
     state: BlockState,
@@ -149,7 +149,7 @@ fn put_block<W: Output>(
         out,
         &[
             Words("{\"block\":"),
-            Number(u64::from(block)),
+            Number(block as u64),
             Words(",\"class\":\""),
             Words(class_text(state.class)),
             Words("\",\"line\":\"block\",\"live\":"),
@@ -157,9 +157,9 @@ fn put_block<W: Output>(
             Words(",\"pointer\":"),
             Number(u64::from(state.pointer)),
             Words(",\"unsound\":"),
-            Number(u64::from(unsound)),
+            Number(unsound as u64),
             Words(",\"wear\":"),
-            Number(u64::from(state.wear)),
+            Number(state.wear as u64),
             Words("}"),
         ],
     )
@@ -200,15 +200,15 @@ fn put_counts<W: Output>(out: &mut W, fit: Fit) -> Result<(), OutputFault>
     put_pieces(
         out,
         &[
-            Number(u64::from(fit.looked)),
+            Number(fit.looked as u64),
             Words(",\"sectors_told\":"),
             Number(fit.sectors_told),
             Words(",\"sound\":"),
-            Number(u64::from(fit.sound.0)),
+            Number(fit.sound.0 as u64),
             Words(",\"table\":\""),
             Words(says_text(fit.table)),
             Words("\",\"unsound\":"),
-            Number(u64::from(fit.unsound)),
+            Number(fit.unsound as u64),
             Words("}"),
         ],
     )
@@ -274,7 +274,7 @@ fn put_corrected<W: Output>(out: &mut W, bits: u64, rows: u32, lost: u64) -> Res
             Words("{\"line\":\"corrected\",\"lost\":"),
             Number(lost),
             Words(",\"rows\":"),
-            Number(u64::from(rows)),
+            Number(rows as u64),
             Words(",\"turned\":"),
             Number(bits),
             Words("}"),
@@ -314,15 +314,15 @@ fn put_merged<W: Output>(out: &mut W, differ: u64, tally: RowTally) -> Result<()
             Words("{\"differ\":"),
             Number(differ),
             Words(",\"erased\":"),
-            Number(u64::from(tally.erased)),
+            Number(tally.erased as u64),
             Words(",\"line\":\"merged\",\"majority\":"),
-            Number(u64::from(tally.majority)),
+            Number(tally.majority as u64),
             Words(",\"sound\":"),
-            Number(u64::from(tally.sound)),
+            Number(tally.sound as u64),
             Words(",\"turned\":"),
-            Number(u64::from(tally.turned)),
+            Number(tally.turned as u64),
             Words(",\"unsound\":"),
-            Number(u64::from(tally.unsound)),
+            Number(tally.unsound as u64),
             Words("}"),
         ],
     )
@@ -342,11 +342,11 @@ fn put_turned<W: Output>(
         out,
         &[
             Words("{\"bits\":"),
-            Number(u64::from(differing)),
+            Number(differing as u64),
             Words(",\"line\":\"turned\",\"row\":"),
-            Number(u64::from(row)),
+            Number(row as u64),
             Words(",\"turned\":"),
-            Number(u64::from(turned)),
+            Number(turned as u64),
             Words("}"),
         ],
     )
@@ -366,11 +366,11 @@ fn put_tied_row<W: Output>(
         out,
         &[
             Words("{\"bits\":"),
-            Number(u64::from(differing)),
+            Number(differing as u64),
             Words(",\"line\":\"tied_row\",\"row\":"),
-            Number(u64::from(row)),
+            Number(row as u64),
             Words(",\"turned\":"),
-            Number(u64::from(turned)),
+            Number(turned as u64),
             Words("}"),
         ],
     )
@@ -445,18 +445,18 @@ fn put_until<W: Output>(out: &mut W, last: u64, unsound: u32) -> Result<(), Outp
 
 // A sound page of a sector.
 #[tactic(auto, unfolding(json::specs::Print::escape_byte))]
-fn put_page<W: Output>(out: &mut W, page: SectorPage, block: u32) -> Result<(), OutputFault>
+fn put_page_data<W: Output>(out: &mut W, page: SectorPage, block: u32) -> Result<(), OutputFault>
     ensures { Prints (W.failed out.new) (W.contents out.old) (W.contents out.new) (compact_text (page_data page block)) result }
 {
     put_pieces(
         out,
         &[
             Words("{\"block\":"),
-            Number(u64::from(block)),
+            Number(block as u64),
             Words(",\"kind\":\""),
             Words(wrote_text(page.wrote)),
             Words("\",\"line\":\"page\",\"row\":"),
-            Number(u64::from(page.row)),
+            Number(page.row as u64),
             Words(",\"sequence\":"),
             Number(page.sequence.0),
             Words(",\"version\":"),
@@ -500,9 +500,9 @@ fn put_says<W: Output>(out: &mut W, page: SaidPage) -> Result<(), OutputFault>
             Words("\",\"line\":\"says\",\"newer\":"),
             Words(truth_text(page.newer)),
             Words(",\"number\":"),
-            Number(u64::from(page.says.number)),
+            Number(page.says.number as u64),
             Words(",\"row\":"),
-            Number(u64::from(page.row)),
+            Number(page.row as u64),
             Words(",\"sequence\":"),
             Number(page.says.sequence),
             Words("}"),
@@ -594,7 +594,7 @@ pub(crate) fn put_object<W: Output>(out: &mut W, line: Line) -> Result<(), Outpu
         Line::LastSequence(pages) => put_last_sequence(out, pages),
         Line::Tied(of, number) => put_tied(out, of, number),
         Line::Missing(of, number) => put_missing(out, of, number),
-        Line::Block(block, state, unsound) => put_block(out, block, state, unsound),
+        Line::Block(block, state, unsound) => put_block_data(out, block, state, unsound),
         Line::PlainBlock(block, unsound) => put_plain_block(out, block, unsound),
         Line::Lost(sector) => put_lost(out, sector),
         Line::Fit(found) => put_fit(out, found),
@@ -611,7 +611,7 @@ pub(crate) fn put_object<W: Output>(out: &mut W, line: Line) -> Result<(), Outpu
         Line::Tries(tries) => put_tries(out, tries),
         Line::Age(doubts) => put_age(out, doubts),
         Line::AgeUntil(last, unsound) => put_until(out, last, unsound),
-        Line::Page(page, block) => put_page(out, page, block),
+        Line::Page(page, block) => put_page_data(out, page, block),
         Line::History(pages, unsound) => put_history(out, pages, unsound),
         Line::AgeOfRows(unsound) => put_age_of_rows(out, unsound),
         Line::OfRows(rows) => put_rows(out, rows),

@@ -1,55 +1,34 @@
-use Rattle.std.proofs.Common.{inl, inr, sym, subst, ◌∙◌}
-use Rattle.lab_commands.specs.Undone.{IsFileUnmade}
-use Rattle.lab_commands.proofs.UndoneLemmas.{unwritten_before, no_more_then, unmade, handed}
+use Rattle.std.proofs.Common.{◌∙◌}
+use Rattle.lab_commands.proofs.BegunLemmas.{told_unmade}
+use Rattle.lab_commands.proofs.UndoneLemmas.{handed, no_more_then, unbegun}
 use Rattle.lab_commands.proofs.array.make.Goals as goal
 
-pub returns-in_err-dump : goal.returns-in_err-dump
-returns-in_err-dump g c =
-    rw (handed c.from_residual.result _ c.from_residual.ensures.1) (record {
-      made = tt;
-      sized = tt;
-      fault = (inl c.in_err-dump.ensures.fault);
-      no_more = c.open_file.ensures.no_more;
-      beside = tt;
-      kept = c.open_file.ensures.kept;
-    })
-
-pub returns-in_err-target : goal.returns-in_err-target
-returns-in_err-target g c =
-    let a = g.F.LabFiles.answers c.args.files.now in
-    let b = g.F.LabFiles.answers c.open_file.new.files in
-    rw (handed c.from_residual-in_err-target.result _ c.from_residual-in_err-target.ensures.1) (record {
-      made = tt;
-      sized = tt;
-      fault = (inr (inr (inl (unwritten_before a b c.args.words.now.out.now _ c.in_ok-dump.ensures.no_more c.in_err-target.ensures.fault))));
-      no_more = no_more_then _ _ _ c.open_file.ensures.no_more c.create_beside.ensures.no_more;
-      beside = tt;
-      kept = c.in_err-target.ensures.kept ∙ c.open_file.ensures.kept;
-    })
-
-pub returns-in-Ok-clause-no_more : goal.returns-in-Ok-clause-no_more
-returns-in-Ok-clause-no_more g c = no_more_then _ _ _ c.open_file.ensures.no_more c.create_beside.ensures.no_more
-
-pub returns-in-Ok-clause-beside : goal.returns-in-Ok-clause-beside
-returns-in-Ok-clause-beside g c = c.in_ok-target.ensures.made ∙ c.open_file.ensures.kept
-
-pub returns-clause-no_more : goal.returns-clause-no_more
-returns-clause-no_more g c = no_more_then _ _ _ (no_more_then _ _ _ c.open_file.ensures.no_more c.create_beside.ensures.no_more) c.unmade.ensures.no_more
-
-pub returns-clause-kept : goal.returns-clause-kept
-returns-clause-kept g c = c.unmade.ensures.kept ∙ (c.in_ok-target.ensures.made ∙ c.open_file.ensures.kept)
+pub returns-in_err-begun : goal.returns-in_err-begun
+returns-in_err-begun g c =
+    let why = unbegun (g.F.LabFiles.answers c.args.files.now) c.args.geometry.now c.args.words.now.dump.now c.args.words.now.out.now c.in_err-begun.field-0.0 c.in_err-begun.ensures.fault in
+    rw (handed c.from_residual.result _ c.from_residual.ensures.1) (record { made = tt; sized = tt; fault = why; no_more = c.begin_file.ensures.no_more; beside = tt; kept = c.in_err-begun.ensures.kept })
 
 pub returns-in-Ok-clause-made : goal.returns-in-Ok-clause-made
-returns-in-Ok-clause-made g c = record { known = g.F.Reader.DumpReader.remaining c.in_ok-dump.dump; opened = c.in_ok-dump.ensures.bytes; made = c.in-Ok.ensures.ok }
+returns-in-Ok-clause-made g c = record { known = g.F.Reader.DumpReader.remaining c.in_ok-begun.begun.0; opened = c.in_ok-begun.ensures.bytes; made = c.in-Ok.ensures.ok }
 
 pub returns-in-Ok-clause-sized : goal.returns-in-Ok-clause-sized
 returns-in-Ok-clause-sized g c = c.in-Ok.ensures.sized
 
+pub returns-in-Ok-clause-no_more : goal.returns-in-Ok-clause-no_more
+returns-in-Ok-clause-no_more g c = c.begin_file.ensures.no_more
+
+pub returns-in-Ok-clause-beside : goal.returns-in-Ok-clause-beside
+returns-in-Ok-clause-beside g c = c.in_ok-begun.ensures.made
+
 pub returns-clause-fault : goal.returns-clause-fault
 returns-clause-fault g c =
-    let a = g.F.LabFiles.answers c.args.files.now in
-    let words = c.args.words.now in
+    let begun = c.in_ok-begun.ensures in
     let err = c.in-Err in
-    subst (λ told. IsFileUnmade a c.args.geometry.now words.dump.now words.out.now told) (sym c.unmade.ensures.told)
-    (unmade a words.dump words.out c.args.geometry.now _ err.unwritten.fault c.in_ok-dump.ensures.bytes err.ensures.err (λ is. c.open_file.ensures.fails c.write_sectors.new.dump (err.ensures.source is))
-    (λ is. c.open_file.ensures.no_more.writes_same (c.create_beside.ensures.fails err.unwritten.target (err.ensures.target is))))
+    told_unmade _ c.args.words.now.dump c.args.words.now.out c.args.geometry.now _ err.unwritten.fault c.unmade.result c.unmade.ensures.told begun.bytes err.ensures.err
+    (λ is. begun.reads c.write_sectors.new.dump (err.ensures.source is)) (λ is. begun.writes err.unwritten.target (err.ensures.target is))
+
+pub returns-clause-no_more : goal.returns-clause-no_more
+returns-clause-no_more g c = no_more_then _ _ _ c.begin_file.ensures.no_more c.unmade.ensures.no_more
+
+pub returns-clause-kept : goal.returns-clause-kept
+returns-clause-kept g c = c.unmade.ensures.kept ∙ c.in_ok-begun.ensures.made

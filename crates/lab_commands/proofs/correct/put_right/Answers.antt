@@ -1,6 +1,6 @@
-use Rattle.std.proofs.Common.{sym, subst, ◌∙◌}
-use Rattle.lab_commands.specs.Undone.{IsFileUnmade}
-use Rattle.lab_commands.proofs.UndoneLemmas.{handed, no_more_then, unbegun, unmade}
+use Rattle.std.proofs.Common.{◌∙◌}
+use Rattle.lab_commands.proofs.BegunLemmas.{told_unmade}
+use Rattle.lab_commands.proofs.UndoneLemmas.{handed, no_more_then, unbegun}
 use Rattle.lab_commands.proofs.correct.put_right.Goals as goal
 
 pub returns-in_err-begun : goal.returns-in_err-begun
@@ -22,9 +22,7 @@ returns-clause-kept g c = c.unmade.ensures.kept ∙ c.in_ok-begun.ensures.made
 
 pub returns-clause-fault : goal.returns-clause-fault
 returns-clause-fault g c =
-    let a = g.F.LabFiles.answers c.args.files.now in
-    let words = c.args.words.now in
+    let begun = c.in_ok-begun.ensures in
     let err = c.in-Err in
-    subst (λ told. IsFileUnmade a c.args.chip.now.raw words.dump.now words.out.now told) (sym c.unmade.ensures.told)
-    (unmade a words.dump words.out c.args.chip.now.raw _ err.unwritten.fault c.in_ok-begun.ensures.bytes err.ensures.err
-    (λ is. c.in_ok-begun.ensures.reads c.correct_dump.new.reader (err.ensures.source is)) (λ is. c.in_ok-begun.ensures.writes err.unwritten.target (err.ensures.target is)))
+    told_unmade _ c.args.words.now.dump c.args.words.now.out c.args.chip.now.raw _ err.unwritten.fault c.unmade.result c.unmade.ensures.told begun.bytes err.ensures.err
+    (λ is. begun.reads c.correct_dump.new.reader (err.ensures.source is)) (λ is. begun.writes err.unwritten.target (err.ensures.target is))

@@ -14,4 +14,4 @@ said_pieces page row number kind newer er ek en ew = rw (er, ek, en, ew) refl
 pub returns : goal.returns
 returns g c =
     subst (λ (t : List ℕ). Prints (g.W.Output.failed c.put_pieces.new.out) (g.W.Output.contents c.args.out.now) (g.W.Output.contents c.put_pieces.new.out) t c.put_pieces.result)
-    (said_pieces c.args.page c.from.result c.from-2.result c.kind_text.result.now c.newer_text.result.now c.from.ensures c.kind_text.ensures c.from-2.ensures c.newer_text.ensures) c.put_pieces.ensures
+    (said_pieces c.args.page _ _ c.kind_text.result.now c.newer_text.result.now refl c.kind_text.ensures refl c.newer_text.ensures) c.put_pieces.ensures

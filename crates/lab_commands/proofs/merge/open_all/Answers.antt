@@ -1,6 +1,6 @@
-use Rattle.std.proofs.Common.{arith, ◌∙◌}
+use Rattle.std.proofs.Common.{arith, ◌∙◌, refl, rules}
 use Rattle.lab_commands.proofs.MergeLemmas.{opened_next, unopened_at}
-use Rattle.lab_commands.proofs.UndoneLemmas.{no_more_then, handed}
+use Rattle.lab_commands.proofs.UndoneLemmas.{no_more_first, no_more_then, handed}
 use Rattle.lab_commands.proofs.merge.open_all.Goals as goal
 
 pub returns-in_err-reader : goal.returns-in_err-reader
@@ -19,3 +19,6 @@ loop-place-preserved g c = record {
       c.loop-place.invariant.so_far c.in_ok-reader.ensures.no_more c.in_ok-reader.ensures.kept c.in_ok-reader.ensures.bytes c.push_reserved.ensures.items c.push_reserved.ensures.capacity;
   fails = λ some reader failed. c.loop-place.invariant.so_far.no_more.reads_same (c.in_ok-reader.ensures.fails reader failed);
 }
+
+pub loop-place-init : goal.loop-place-init
+loop-place-init g c = record { so_far = record { no_more = no_more_first _; kept = refl; opened = search rules; places = refl }; fails = λ some. absurd (omega arith) }

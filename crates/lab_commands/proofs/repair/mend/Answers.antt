@@ -1,6 +1,5 @@
-use Rattle.std.proofs.Common.{subst, sym}
-use Rattle.lab_commands.specs.Undone.{IsFileUnmade}
-use Rattle.lab_commands.proofs.UndoneLemmas.{handed, no_more_then, unbegun, unmade}
+use Rattle.lab_commands.proofs.BegunLemmas.{told_unmade}
+use Rattle.lab_commands.proofs.UndoneLemmas.{handed, no_more_then, unbegun}
 use Rattle.lab_commands.proofs.repair.mend.Goals as goal
 
 pub returns-in_err-begun : goal.returns-in_err-begun
@@ -16,9 +15,7 @@ returns-clause-no_more g c = no_more_then _ _ _ (no_more_then _ _ _ c.begin_page
 
 pub returns-clause-fault : goal.returns-clause-fault
 returns-clause-fault g c =
-    let a = g.F.LabFiles.answers c.args.files.now in
-    let asked = c.args.words.now in
-    let unwritten = c.in-Err.unwritten in
-    subst (λ told. IsFileUnmade a c.args.geometry.now asked.dump.now asked.out.now told) (sym c.unmade.ensures.told)
-    (unmade a asked.dump asked.out c.args.geometry.now _ unwritten.fault c.in_ok-begun.ensures.bytes c.in-Err.ensures.err
-    (λ is. c.in_ok-begun.ensures.reads c.repair_dump.new.reader (c.in-Err.ensures.source is)) (λ is. c.in_ok-begun.ensures.writes unwritten.target (c.in-Err.ensures.target is)))
+    let begun = c.in_ok-begun.ensures in
+    let err = c.in-Err in
+    told_unmade _ c.args.words.now.dump c.args.words.now.out c.args.geometry.now _ err.unwritten.fault c.unmade.result c.unmade.ensures.told begun.bytes err.ensures.err
+    (λ is. begun.reads c.repair_dump.new.reader (err.ensures.source is)) (λ is. begun.writes err.unwritten.target (err.ensures.target is))

@@ -1,4 +1,4 @@
-use Rattle.std.proofs.Common.{List, ℕ, subst}
+use Rattle.std.proofs.Common.{List, ℕ, refl, subst}
 use Rattle.lab_commands.specs.Document.{Prints}
 use Rattle.lab_commands.proofs.JsonLemmas.{merged_json}
 use Rattle.lab_commands.proofs.values.put_merged.Goals as goal
@@ -8,5 +8,5 @@ returns g c =
     subst
     (λ (t : List ℕ). Prints (g.W.Output.failed c.put_pieces.new.out) (g.W.Output.contents c.args.out.now)
     (g.W.Output.contents c.put_pieces.new.out) t c.put_pieces.result)
-    (merged_json c.args.differ c.args.tally c.from.result c.from-2.result c.from-3.result c.from-4.result c.from-5.result c.from.ensures
-    c.from-2.ensures c.from-3.ensures c.from-4.ensures c.from-5.ensures) c.put_pieces.ensures
+    (merged_json c.args.differ c.args.tally _ _ _ _ _ refl
+    refl refl refl refl) c.put_pieces.ensures

@@ -49,7 +49,7 @@ returns-in-Missing g c = subst (λ l. Prints (g.W.Output.failed c.put_missing.ne
 
 pub returns-in-Block : goal.returns-in-Block
 unfolding line_data
-returns-in-Block g c = subst (λ l. Prints (g.W.Output.failed c.put_block.new.out) (g.W.Output.contents c.args.out.now) (g.W.Output.contents c.put_block.new.out) (compact_text (line_data l)) c.put_block.result) (sym c.in-Block.is) c.put_block.ensures
+returns-in-Block g c = subst (λ l. Prints (g.W.Output.failed c.put_block_data.new.out) (g.W.Output.contents c.args.out.now) (g.W.Output.contents c.put_block_data.new.out) (compact_text (line_data l)) c.put_block_data.result) (sym c.in-Block.is) c.put_block_data.ensures
 
 pub returns-in-PlainBlock : goal.returns-in-PlainBlock
 unfolding line_data
@@ -135,7 +135,7 @@ returns-in-AgeUntil g c = subst (λ l. Prints (g.W.Output.failed c.put_until.new
 
 pub returns-in-Page : goal.returns-in-Page
 unfolding line_data
-returns-in-Page g c = subst (λ l. Prints (g.W.Output.failed c.put_page.new.out) (g.W.Output.contents c.args.out.now) (g.W.Output.contents c.put_page.new.out) (compact_text (line_data l)) c.put_page.result) (sym c.in-Page.is) c.put_page.ensures
+returns-in-Page g c = subst (λ l. Prints (g.W.Output.failed c.put_page_data.new.out) (g.W.Output.contents c.args.out.now) (g.W.Output.contents c.put_page_data.new.out) (compact_text (line_data l)) c.put_page_data.result) (sym c.in-Page.is) c.put_page_data.ensures
 
 pub returns-in-History : goal.returns-in-History
 unfolding line_data

@@ -1,0 +1,4 @@
+use Rattle.lab_commands.proofs.lines.put_named.Goals as goal
+
+pub returns : goal.returns
+returns g c = c.put_pieces.ensures
