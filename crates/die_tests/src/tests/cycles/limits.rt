@@ -2,7 +2,7 @@
 use super::hold;
 use nand_die::{Die, Mark};
 use page_layout::geometry::Geometry;
-use std::alloc::Global;
+use std::alloc::{AllocError, Global};
 use std::process::Abort;
 
 // A die with spare areas of 32 bytes, and how many bytes its image has.
@@ -56,11 +56,8 @@ fn marks_of(rt: &impl Abort, alloc: Global, blocks: u32) -> Vec<Mark> {
 }
 
 fn numbers(rt: &impl Abort, alloc: Global, blocks: u32) -> Vec<u32> {
-    let mut names = Vec::new(alloc);
-    for block in 0..blocks {
-        names.push(block).expect(rt, "a list");
-    }
-    names
+    let names: Result<Vec<u32>, AllocError> = (0..blocks).collect(alloc);
+    names.expect(rt, "a list")
 }
 
 fn make_marked(rt: &impl Abort, alloc: Global, limit: &Limit) {

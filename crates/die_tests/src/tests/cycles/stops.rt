@@ -227,6 +227,18 @@ fn set_stops(rt: &impl Abort, alloc: Global, die: &mut Die, row: &Row)
     }
 }
 
+// Whether a row of an image holds this page.
+fn has_page(image: &[u8], row: u8, page: Page) -> bool {
+    let start = row as usize * 96;
+    image.get(start..start + 96) == Some(bytes_of(page).as_slice())
+}
+
+fn hold_pages(rt: &impl Abort, image: &[u8], row: &Row) {
+    for (at, page) in row.holds {
+        assert!(rt; has_page(image, *at, *page), "row {at}, {}", row.name);
+    }
+}
+
 // The pages that a die holds, which has stopped or not.
 fn expect_pages(rt: &impl Abort, alloc: Global, die: &Die, row: &Row)
     requires rows { row_count die.now.state.flash.geometry ≡ 256 }
@@ -234,24 +246,28 @@ fn expect_pages(rt: &impl Abort, alloc: Global, die: &Die, row: &Row)
     requires spare_bytes { die.now.state.flash.geometry.spare_bytes ≡ 32 }
 {
     let image = image_of(rt, alloc, die);
-    for (at, page) in row.holds {
-        let start = *at as usize * 96;
-        let held = image.as_slice().get(start..start + 96);
-        assert!(rt;
-            held == Some(bytes_of(*page).as_slice()),
-            "row {at}, {}",
-            row.name
-        );
-    }
+    hold_pages(rt, image.as_slice(), row);
 }
 
-fn walk_stops(rt: &impl Abort, alloc: Global, row: &Row) {
+// A die after its stops were set, and it was asked.
+fn stopped(rt: &impl Abort, alloc: Global, row: &Row) -> Die
+    ensures rows { row_count result.state.flash.geometry ≡ 256 }
+    ensures data_bytes { result.state.flash.geometry.data_bytes ≡ 64 }
+    ensures spare_bytes { result.state.flash.geometry.spare_bytes ≡ 32 }
+{
     let geometry = small(rt);
     let mut die = new_die(rt, alloc, geometry, &[]);
     set_stops(rt, alloc, &mut die, row);
-    let die = after(rt, die, geometry, row.name, row.operations);
-    let counts = (die.changes(), die.abuse());
-    hold(rt, counts == (row.changes, row.abuse), row.name);
+    after(rt, die, geometry, row.name, row.operations)
+}
+
+fn has_counted(die: &Die, row: &Row) -> bool {
+    die.changes() == row.changes && die.abuse() == row.abuse
+}
+
+fn walk_stops(rt: &impl Abort, alloc: Global, row: &Row) {
+    let die = stopped(rt, alloc, row);
+    hold(rt, has_counted(&die, row), row.name);
     expect_pages(rt, alloc, &die, row);
 }
 
@@ -313,12 +329,27 @@ static RECORDS: [Records; 4] = [
     },
 ];
 
+// Whether a record begins so.
+fn begins(die: &mut Die, alloc: Global, room: u32, want: Result<(), DieFault>) -> bool
+    ensures { die.new.state.flash.geometry ≡ die.old.state.flash.geometry }
+{
+    record(die, alloc, room) == want
+}
+
+// The records of a row begin so.
+fn begin_each(rt: &impl Abort, die: &mut Die, alloc: Global, row: &Records) {
+    for (room, want) in row.begun {
+        assert!(rt;
+            begins(die, alloc, *room, *want),
+            "room for {room}, {}",
+            row.name
+        );
+    }
+}
+
 fn walk_records(rt: &impl Abort, alloc: Global, geometry: Geometry, row: &Records) {
     let mut die = new_die(rt, alloc, geometry, &[]);
-    for (room, want) in row.begun {
-        let begun = record(&mut die, alloc, *room);
-        assert!(rt; begun == *want, "room for {room}, {}", row.name);
-    }
+    begin_each(rt, &mut die, alloc, row);
     walk(rt, alloc, &mut die, row.name, row.steps);
     hold(rt, die.changes() == 2, row.name);
 }
@@ -331,14 +362,19 @@ fn records_on_large_pages(rt: HostRuntime) {
     }
 }
 
+// Holds what is said of a record with room for so many operations.
+fn hold_room(rt: &impl Abort, holds: bool, room: u32) {
+    assert!(rt; holds, "room for {room}");
+}
+
 // A record with room for so many operations, and another; then two operations.
 fn walk_recorded(rt: &impl Abort, alloc: Global, room: u32) {
     let geometry = small(rt);
     let mut die = new_die(rt, alloc, geometry, &[]);
-    let begun = (record(&mut die, alloc, room), record(&mut die, alloc, room));
-    assert!(rt; begun == (SET, SET), "room for {room}");
+    hold_room(rt, begins(&mut die, alloc, room, SET), room);
+    hold_room(rt, begins(&mut die, alloc, room, SET), room);
     let die = after(rt, die, geometry, "recorded", ROOM_FOR_ONE);
-    assert!(rt; die.changes() == 2, "room for {room}");
+    hold_room(rt, die.changes() == 2, room);
 }
 
 #[test]

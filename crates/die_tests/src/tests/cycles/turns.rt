@@ -299,13 +299,10 @@ fn check_codes(rt: &impl Abort, alloc: Global, die: &mut Die, phase: &Phase) {
 
 fn check_data(rt: &impl Abort, alloc: Global, die: &mut Die, phase: &Phase) {
     let (name, steps, due) = *phase;
-    for (cycle, is_due) in [
-        (Cycle::Address(0), due.address),
-        (Cycle::In(&[0x5A]), due.data_in),
-        (Cycle::Out(1), due.data_out),
-    ] {
-        check(rt, alloc, die, name, steps, cycle, in_turn(is_due));
-    }
+    let (address, put_in, put_out) = (Cycle::Address(0), Cycle::In(&[0x5A]), Cycle::Out(1));
+    check(rt, alloc, die, name, steps, address, in_turn(due.address));
+    check(rt, alloc, die, name, steps, put_in, in_turn(due.data_in));
+    check(rt, alloc, die, name, steps, put_out, in_turn(due.data_out));
 }
 
 fn check_phases(rt: &impl Abort, alloc: Global, phases: &[Phase]) {
@@ -548,12 +545,18 @@ static DATA_AT_THE_END: [SecondCycle; 13] = [
     ),
 ];
 
+// Both cycles on a new die.
+fn expect_second(rt: &impl Abort, alloc: Global, row: &SecondCycle) {
+    let (name, steps, first, second, want) = *row;
+    let mut die = new_die(rt, alloc, small(rt), &[]);
+    walk(rt, alloc, &mut die, name, steps);
+    expect(rt, &mut die, first, Ok(()), name);
+    expect(rt, &mut die, second, want, name);
+}
+
 #[test]
 fn data_at_the_end(rt: HostRuntime) {
-    for (name, steps, first, second, want) in &DATA_AT_THE_END {
-        let mut die = new_die(&rt, rt.alloc(), small(&rt), &[]);
-        walk(&rt, rt.alloc(), &mut die, name, steps);
-        expect(&rt, &mut die, *first, Ok(()), name);
-        expect(&rt, &mut die, *second, *want, name);
+    for row in &DATA_AT_THE_END {
+        expect_second(&rt, rt.alloc(), row);
     }
 }
