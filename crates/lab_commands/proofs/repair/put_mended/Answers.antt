@@ -8,7 +8,7 @@ use Rattle.lab_commands.proofs.repair.put_mended.Goals as goal
 
 pub returns-in_err-said : goal.returns-in_err-said
 returns-in_err-said g c =
-    rw (handed c.from_residual.result _ c.from_residual.ensures.1) (record { put = tt; fault = unasked _ _ _ _ _ c.in_err-said.ensures.fault; kept = refl })
+    rw (handed c.from_residual.result _ c.from_residual.ensures.1) (record { put = tt; fault = unasked _ c.args.words.now _ _ _ c.in_err-said.ensures.fault; kept = refl })
 
 pub returns-in_err-allow : goal.returns-in_err-allow
 returns-in_err-allow g c =
