@@ -162,11 +162,6 @@ pub done_noted : (d e : DieValue) (due : Due) (left : ℕ) (r : Result (Unit {0}
 done_noted d e due left (Ok x) is = λ h. subst (λ (v : DieValue). Notes due d.recorded v.state v.recorded) (sym is) (after_noted due (answered due (chip_of d)) d.room d.recorded)
 done_noted d e due left (Err fault) is = tt
 
--- the same of one that was first counted towards the stop
-pub run_noted : (d x e : DieValue) (code left : ℕ) (r : Result (Unit {0}) BusFault) → x ≡ die_of (chip_of d) d.stop left d.stopped d.failures d.recorded d.room
-    → e ≡ done_as x (due_now x (Command code)) x.left → OnOk r (true ≡ true → Notes (due_now d (Command code)) d.recorded e.state e.recorded)
-run_noted d x e code left r is does = subst (λ (y : DieValue). OnOk r (true ≡ true → Notes (due_now y (Command code)) y.recorded e.state e.recorded)) is (done_noted x e (due_now x (Command code)) x.left r does)
-
 -- ---- laws
 
 pub calm_law : CalmLaw

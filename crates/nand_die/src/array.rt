@@ -24,12 +24,11 @@ pub fn image_length(geometry: &Geometry) -> usize
     geometry.rows() as usize * page_length(geometry)
 }
 
-// Where a page begins in a raw image of so many bytes.
-fn page_start(count: usize, geometry: &Geometry, row: u32) -> usize
+// Where a page begins in a raw image.
+fn page_start(geometry: &Geometry, row: u32) -> usize
     requires in_range { row < row_count geometry.now }
-    requires whole { count ≡ row_count geometry.now * page_bytes geometry.now }
     ensures is { result ≡ row * page_bytes geometry.now }
-    ensures ends { result + page_bytes geometry.now ≤ count }
+    ensures ends { result + page_bytes geometry.now ≤ row_count geometry.now * page_bytes geometry.now }
 {
     row as usize * page_length(geometry)
 }
@@ -41,12 +40,11 @@ fn block_length(geometry: &Geometry) -> usize
     geometry.pages() as usize * page_length(geometry)
 }
 
-// Where a block begins in a raw image of so many bytes.
-fn block_start(count: usize, geometry: &Geometry, block: u32) -> usize
+// Where a block begins in a raw image.
+fn block_start(geometry: &Geometry, block: u32) -> usize
     requires in_range { block < geometry.now.blocks }
-    requires whole { count ≡ row_count geometry.now * page_bytes geometry.now }
     ensures is { result ≡ block * geometry.now.pages * page_bytes geometry.now }
-    ensures ends { result + geometry.now.pages * page_bytes geometry.now ≤ count }
+    ensures ends { result + geometry.now.pages * page_bytes geometry.now ≤ row_count geometry.now * page_bytes geometry.now }
 {
     block as usize * block_length(geometry)
 }
@@ -60,7 +58,7 @@ pub fn write_page(bytes: &mut [u8], geometry: &Geometry, row: u32, page: &[u8])
     ensures image { raw_image geometry.now bytes.new ≡ slice_set (raw_image geometry.now bytes.old) row (page_of geometry.now page.now) }
 {
     let size = page_length(geometry);
-    let start = page_start(bytes.len(), geometry, row);
+    let start = page_start(geometry, row);
     bytes[start..start + size].copy_from_slice(page);
 }
 
@@ -72,7 +70,7 @@ pub fn page_slice<'a>(bytes: &'a [u8], geometry: &Geometry, row: u32) -> &'a [u8
     ensures size { length result.now ≡ page_bytes geometry.now }
 {
     let size = page_length(geometry);
-    let start = page_start(bytes.len(), geometry, row);
+    let start = page_start(geometry, row);
     &bytes[start..start + size]
 }
 
@@ -84,7 +82,7 @@ pub fn block_slice<'a>(bytes: &'a [u8], geometry: &Geometry, block: u32) -> &'a 
     ensures size { length result.now ≡ geometry.now.pages * page_bytes geometry.now }
 {
     let size = block_length(geometry);
-    let start = block_start(bytes.len(), geometry, block);
+    let start = block_start(geometry, block);
     &bytes[start..start + size]
 }
 
@@ -95,7 +93,7 @@ pub fn mark_page(bytes: &mut [u8], geometry: &Geometry, row: u32)
     ensures { raw_image geometry.now bytes.new ≡ slice_set (raw_image geometry.now bytes.old) row (with_mark (get_or (raw_image geometry.now bytes.old) row no_page)) }
 {
     let size = page_length(geometry);
-    let start = page_start(bytes.len(), geometry, row);
+    let start = page_start(geometry, row);
     let page = &mut bytes[start..start + size];
     page[geometry.data_bytes()] = 0;
 }
@@ -108,6 +106,6 @@ pub fn erase_pages(bytes: &mut [u8], geometry: &Geometry, block: u32)
     ensures image { raw_image geometry.now bytes.new ≡ with_block geometry.now.pages block (replicate geometry.now.pages (erased_page geometry.now)) (raw_image geometry.now bytes.old) }
 {
     let size = block_length(geometry);
-    let start = block_start(bytes.len(), geometry, block);
+    let start = block_start(geometry, block);
     bytes[start..start + size].fill(0xFF);
 }
