@@ -1,5 +1,5 @@
 //! Ranges of bytes, sector by sector.
-ghost use Rattle.std.specs.Prelude.{◌≡◌, ◌≤◌, ◌+◌, false, [], length};
+ghost use Rattle.std.specs.Prelude.{◌≡◌, ◌<◌, ◌≤◌, ◌+◌, ◌*◌, ◌^◌, false, [], length};
 ghost use Rattle.nbd_stream.specs.Disk.{PerformsTask, answer_from};
 ghost use Rattle.nbd_stream.specs.Through.{Through};
 ghost use Rattle.disk_server.specs.Asked.{AsksCall, SparesZeros};
@@ -7,6 +7,17 @@ ghost use Rattle.disk_server.specs.Asked.{AsksCall, SparesZeros};
 use crate::pieces::{clear_piece, piece_length, read_piece, write_piece};
 use crate::sectors::Sectors;
 use nbd_stream::{DiskFault, Task};
+
+// The bytes of a sector. How many sectors there are is asked for the clauses alone: their bytes are all that there is.
+fn sector_length<S: Sectors>(sectors: &S) -> usize
+    ensures size { result ≡ S.size sectors.now }
+    ensures some { 0 < result }
+    ensures whole { length (S.contents sectors.now).bytes ≡ S.count sectors.now * S.size sectors.now }
+    ensures bounded { S.count sectors.now * S.size sectors.now < 2 ^ 64 }
+{
+    let _count = sectors.sector_count();
+    sectors.sector_bytes()
+}
 
 // Gives the bytes of a range.
 pub(crate) fn read_range<S: Sectors>(
@@ -21,8 +32,7 @@ pub(crate) fn read_range<S: Sectors>(
     ensures performs { PerformsTask S.contents S.honest S.calm (Task.Read offset (length out.old)) [] sectors.old (answer_from result out.new) sectors.new }
     ensures reads { Through S.reads sectors.old sectors.new }
 {
-    let size = sectors.sector_bytes();
-    let _count = sectors.sector_count();
+    let size = sector_length(sectors);
     let mut done = 0;
     while done < out.len() {
         let place = offset + done as u64;
@@ -46,8 +56,7 @@ fn write_pieces<S: Sectors>(
     ensures performs { PerformsTask S.contents S.honest S.calm (Task.Write offset (length bytes.now) false) bytes.now sectors.old (answer_from result []) sectors.new }
     ensures asks { Through (AsksCall S.reads S.changes S.flushes) sectors.old sectors.new }
 {
-    let size = sectors.sector_bytes();
-    let _count = sectors.sector_count();
+    let size = sector_length(sectors);
     let mut done = 0;
     while done < bytes.len() {
         let place = offset + done as u64;
@@ -72,8 +81,7 @@ fn clear_pieces<S: Sectors>(
     ensures spares { SparesZeros S.contents S.honest (Through S.reads) offset count sectors.old sectors.new }
     ensures asks { Through (AsksCall S.reads S.changes S.flushes) sectors.old sectors.new }
 {
-    let size = sectors.sector_bytes();
-    let _count = sectors.sector_count();
+    let size = sector_length(sectors);
     let mut done = 0;
     while done < count {
         let place = offset + done as u64;

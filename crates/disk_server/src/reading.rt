@@ -87,6 +87,7 @@ impl<S: Sectors> Disk for ReadOnlyDisk<S> {
         ensures leaves { Through S.reads self.old self.new }
         ensures does { (result ≡ Ok tt) × (self.new ≡ self.old) }
     {
+        // (looked at for the proof alone, which opens the disk by it)
         let _disk = &self.disk;
         Ok(())
     }

@@ -109,9 +109,10 @@ impl<S: Store + TellsFull + Drop> ReopenedDevice<S> {
         ensures same { result ≡ false → self.new ≡ self.old }
     {
         if device.sector_bytes() != self.size || device.sector_count() != self.count {
+            drop(device);
             return false;
         }
-        self.device = Some(device);
+        drop(self.device.replace(device));
         self.reopened = true;
         true
     }
@@ -151,8 +152,11 @@ impl<S: Store + TellsFull + Drop> ReopenedDevice<S> {
         requires none { self.old.device ≡ None }
         requires sized { device.engine.geometry.data_bytes ≡ self.old.size }
         requires counted { device.engine.geometry.sectors ≡ self.old.count }
-        ensures { SettlesCall S.held S.honest S.full S.failed told (terms_of self.old) self.old.reopened self.old.next device answer result self.new }
+        ensures long { length (contents_of (view_in S.held S.honest S.failed) device).bytes ≡ self.old.count * self.old.size }
+        ensures settles { SettlesCall S.held S.honest S.full S.failed told (terms_of self.old) self.old.reopened self.old.next device answer result self.new }
     {
+        // (asked for the clause `long` alone)
+        let _count = device.sector_count();
         match answer {
             Err(DiskFault::Failed) => {
                 if self.reopen(device) {
@@ -162,7 +166,7 @@ impl<S: Store + TellsFull + Drop> ReopenedDevice<S> {
                 }
             }
             Ok(()) | Err(DiskFault::ReadOnly | DiskFault::NoSpace) => {
-                self.device = Some(device);
+                drop(self.device.replace(device));
                 answer
             }
         }
@@ -220,9 +224,8 @@ impl<S: Store + TellsFull + Drop> Sectors for ReopenedDevice<S> {
         let Some(mut device) = self.device.take() else {
             return Err(DiskFault::Failed);
         };
-        let _count = device.sector_count();
         let answer = device.read_sector(sector, buffer);
-        self.device = Some(device);
+        drop(self.device.replace(device));
         answer
     }
 
@@ -243,7 +246,6 @@ impl<S: Store + TellsFull + Drop> Sectors for ReopenedDevice<S> {
         let Some(mut device) = self.device.take() else {
             return Err(DiskFault::Failed);
         };
-        let _count = device.sector_count();
         let answer = device.write_sector(sector, bytes);
         self.settle(device, answer, DiskFault::NoSpace)
     }
@@ -264,7 +266,6 @@ impl<S: Store + TellsFull + Drop> Sectors for ReopenedDevice<S> {
         let Some(mut device) = self.device.take() else {
             return Err(DiskFault::Failed);
         };
-        let _count = device.sector_count();
         let answer = device.trim_sector(sector);
         self.settle(device, answer, DiskFault::NoSpace)
     }
@@ -287,7 +288,6 @@ impl<S: Store + TellsFull + Drop> Sectors for ReopenedDevice<S> {
         let Some(mut device) = self.device.take() else {
             return Err(DiskFault::Failed);
         };
-        let _count = device.sector_count();
         let answer = device.clear_sector(sector, buffer);
         self.settle(device, answer, DiskFault::NoSpace)
     }
@@ -301,7 +301,6 @@ impl<S: Store + TellsFull + Drop> Sectors for ReopenedDevice<S> {
         let Some(mut device) = self.device.take() else {
             return Err(DiskFault::Failed);
         };
-        let _count = device.sector_count();
         let answer = device.flush();
         self.settle(device, answer, DiskFault::Failed)
     }
@@ -315,7 +314,6 @@ impl<S: Store + TellsFull + Drop> Sectors for ReopenedDevice<S> {
         let Some(mut device) = self.device.take() else {
             return Err(DiskFault::Failed);
         };
-        let _count = device.sector_count();
         let answer = device.rest();
         self.settle(device, answer, DiskFault::Failed)
     }

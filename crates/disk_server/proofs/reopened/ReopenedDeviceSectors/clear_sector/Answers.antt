@@ -5,7 +5,7 @@ use Rattle.nbd_stream.specs.Disk.{PerformsTask, answer_from}
 use Rattle.disk_server.specs.Asked.{SparesZeros}
 use Rattle.disk_server.specs.Reopened.{reads_of}
 use Rattle.disk_server.proofs.ChangeLemmas.{clears_in}
-use Rattle.disk_server.proofs.ReopenedLemmas.{at, going, long_before, performs, settled_terms, spared}
+use Rattle.disk_server.proofs.ReopenedLemmas.{at, going, performs, settled_terms, spared}
 use Rattle.disk_server.proofs.reopened.ReopenedDeviceSectors.clear_sector.Goals as goal
 
 pub returns-clause-performs : goal.returns-clause-performs
@@ -15,12 +15,12 @@ returns-clause-performs g c =
     let asked = subst (λ k. PerformsTask (at g.S.Store.held g.S.Store.honest g.S.Store.failed) (going g.S.Store.held g.S.Store.honest g.S.Store.failed) (λ x. false) (Trim (c.args.sector * k) k false) [] c.in-Some.device (answer_from c.clear_sector-answer.result []) c.clear_sector-answer.new.self)
     sized c.clear_sector-answer.ensures.performs in
     rw (← c.self.view_is) (performs g.S.Store.held g.S.Store.honest g.S.Store.failed g.S.TellsFull.full _ c.settle.new.self c.in-Some.device c.clear_sector-answer.new.self was
-    (long_before _ _ _ _ _ sized (c.self.invariant.counted _ was) c.sector_count-count.ensures.whole) fault.NoSpace _ [] c.clear_sector-answer.result c.settle.result (inr (inr refl)) (inl refl) asked c.settle.ensures)
+    (sym c.clear_sector-answer.ensures.performs.sized ∙ c.settle.ensures.long) fault.NoSpace _ [] c.clear_sector-answer.result c.settle.result (inr (inr refl)) (inl refl) asked c.settle.ensures.settles)
 
 pub returns-clause-asked : goal.returns-clause-asked
 returns-clause-asked g c =
     let was = sym c.in-Some.ensures.value in
-    rw (← c.self.view_is) (inr (record { device = c.in-Some.device; was = was; left = c.clear_sector-answer.new.self; answer = c.clear_sector-answer.result; asked = c.clear_sector-answer.ensures.asked; settles = c.settle.ensures }))
+    rw (← c.self.view_is) (inr (record { device = c.in-Some.device; was = was; left = c.clear_sector-answer.new.self; answer = c.clear_sector-answer.result; asked = c.clear_sector-answer.ensures.asked; settles = c.settle.ensures.settles }))
 
 pub returns-clause-spares : goal.returns-clause-spares
 returns-clause-spares g c =
@@ -29,13 +29,13 @@ returns-clause-spares g c =
     let spares = subst (λ k. SparesZeros (at g.S.Store.held g.S.Store.honest g.S.Store.failed) (going g.S.Store.held g.S.Store.honest g.S.Store.failed) (reads_of g.S.Store.held g.S.Store.honest g.S.Store.failed)
     (c.args.sector * k) k c.in-Some.device c.clear_sector-answer.new.self) sized c.clear_sector-answer.ensures.spares in
     rw (← c.self.view_is) (spared g.S.Store.held g.S.Store.honest g.S.Store.failed g.S.TellsFull.full _ c.settle.new.self c.in-Some.device c.clear_sector-answer.new.self was
-    (long_before _ _ _ _ _ sized (c.self.invariant.counted _ was) c.sector_count-count.ensures.whole) fault.NoSpace _ _ c.clear_sector-answer.result c.settle.result spares c.settle.ensures)
+    (sym c.clear_sector-answer.ensures.performs.sized ∙ c.settle.ensures.long) fault.NoSpace _ _ c.clear_sector-answer.result c.settle.result spares c.settle.ensures.settles)
 
 pub returns-clause-size : goal.returns-clause-size
-returns-clause-size g c = rw (← c.self.view_is) (ap (λ t. t.size) (settled_terms g.S.Store.held g.S.Store.honest g.S.TellsFull.full g.S.Store.failed _ _ _ _ _ c.clear_sector-answer.result c.settle.result c.settle.new.self c.settle.ensures))
+returns-clause-size g c = rw (← c.self.view_is) (ap (λ t. t.size) (settled_terms g.S.Store.held g.S.Store.honest g.S.TellsFull.full g.S.Store.failed _ _ _ _ _ c.clear_sector-answer.result c.settle.result c.settle.new.self c.settle.ensures.settles))
 
 pub returns-clause-count : goal.returns-clause-count
-returns-clause-count g c = rw (← c.self.view_is) (ap (λ t. t.count) (settled_terms g.S.Store.held g.S.Store.honest g.S.TellsFull.full g.S.Store.failed _ _ _ _ _ c.clear_sector-answer.result c.settle.result c.settle.new.self c.settle.ensures))
+returns-clause-count g c = rw (← c.self.view_is) (ap (λ t. t.count) (settled_terms g.S.Store.held g.S.Store.honest g.S.TellsFull.full g.S.Store.failed _ _ _ _ _ c.clear_sector-answer.result c.settle.result c.settle.new.self c.settle.ensures.settles))
 
 pub returns-clause-changes : goal.returns-clause-changes
 returns-clause-changes g c =
