@@ -184,10 +184,6 @@ module _ {S : Type 0} (held : S → Held) (honest : S → Bool) (failed : S → 
     spared told offset count (Err fault.Failed) result spares (inl s) = λ h zeros. absurd (never (holds_in honest new) (anew_no s.1) h)
     spared told offset count (Err fault.Failed) result spares (inr s) = λ h zeros. absurd (never (holds_in honest new) (gone_no s.1) h)
 
--- as many bytes as its sectors have
-pub long_before : (size count size' count' n : ℕ) → size' ≡ size → count' ≡ count → n ≡ count' * size' → n ≡ count * size
-long_before size count size' count' n sized counted long = long ∙ (ap (λ k. k * size') counted ∙ ap (λ k. count * k) sized)
-
 -- the store of a device that has stopped was full, and was opened
 pub reopens : {S : Type 0} (held : S → Held) (honest full : S → Bool) (failed : S → ℕ) (terms : Terms) (left : Device (DriverState (FileState S))) (new : Reopened S) (store : S) → store ≡ left.engine.nand.bus.store → full store ≡ true
     → (next : ℕ) → next ≡ left.engine.next
