@@ -15,7 +15,7 @@ from pathlib import Path
 TOP = Path(__file__).resolve().parent.parent
 DECLARES = re.compile(r"^(?:pub record|pub data|abbrev pub|unfoldable pub|opaque pub)\s+([A-Za-z_]\w*)", re.MULTILINE)
 TYPE = re.compile(r"^pub (?:struct|enum|trait|type) (\w+)", re.MULTILINE)
-PROGRAMS = {"test_images", "nandctl", "nandctl_serve", "nandlab", "nanddisk", "system_program", "firmware", "ftl_c"}
+PROGRAMS = {"test_images", "nandctl", "nandlab", "nanddisk", "system_program", "firmware", "ftl_c"}
 
 
 def having(pattern, files):

@@ -206,7 +206,7 @@ impl<N: Nand> Sectors for DeviceDisk<N> {
         ensures asked { AsksClear N.view sector self.old result self.new }
         ensures changes { ChangesOne N.view self.old self.new }
     {
-        // (asked for the clause `whole` alone: its bytes are those of its sectors)
+        // (asked for a clause of `sector_count` alone, `whole`: its bytes are those of its sectors)
         let _count = self.sector_count();
         match self.read_sector(sector, buffer) {
             Ok(()) => {

@@ -78,8 +78,9 @@ pub record WroteArray (a : StoreAnswers) (words : UntilWords) (before after : Op
 
 -- ---- not done
 
--- how it is told that what stands at FILE is not replaced
+-- how it is told that FILE may not be written
 abbrev pub as_map : LabFault → LabFault
+as_map fault.IsDump = fault.MapIsDump
 as_map fault.Exists = fault.MapExists
 as_map fault.NoFile = fault.MapNoFile
 as_map told = told

@@ -11,12 +11,10 @@ ghost use Rattle.lab_commands.specs.Files.{AnswersNoMore, without_part};
 ghost use Rattle.lab_commands.specs.Undone.{IsFileUnmade, MayWrite};
 ghost use Rattle.lab_commands.specs.Array.{AreAllowed, AreNotAllowed, HasPutSectors, IsArrayFault, IsArrayMade, IsMapNotAllowed, IsUndone, IsUnmapped, IsUnput, PlacedArray, WroteArray, as_map, with_map};
 
-use crate::files::{LabFiles, Standing};
+use crate::files::LabFiles;
 use crate::maps::ArrayMap;
 use crate::numbers::last_at;
-use crate::opening::{
-    allow, begin_file, geometry_at, is_dump, is_out, keep, may_replace, standing, store_map, unmade,
-};
+use crate::opening::{allow, begin_file, geometry_at, is_out, keep, store_map, unmade};
 use crate::output::Output;
 use crate::printing::{ended, printer};
 use crate::reports::print_array;
@@ -29,11 +27,12 @@ use lab_dump::{
 use page_layout::geometry::Geometry;
 use std::alloc::Global;
 
-// How it is told that what stands at FILE is not replaced.
+// How it is told that FILE may not be written: as of OUT, with a name of its own.
 fn as_map<'a>(fault: LabFault<'a>) -> LabFault<'a>
     ensures { result ≡ as_map fault.entry }
 {
     match fault {
+        LabFault::IsDump => LabFault::MapIsDump,
         LabFault::Exists => LabFault::MapExists,
         LabFault::NoFile => LabFault::MapNoFile,
         other => other,
@@ -54,14 +53,10 @@ fn allow_map<'a, F: LabFiles>(
     if is_out(files, words.out, file)? {
         return Err(LabFault::MapIsOut);
     }
-    let there = standing(files, file)?;
-    if there == Standing::Nothing {
-        return Ok(());
+    match allow(files, words.dump, file, words.force) {
+        Ok(()) => Ok(()),
+        Err(fault) => Err(as_map(fault)),
     }
-    if is_dump(files, words.dump, file)? {
-        return Err(LabFault::MapIsDump);
-    }
-    may_replace(there, words.force).map_err(as_map)
 }
 
 /// Whether OUT may be written, and FILE, where a map is wanted.

@@ -1,35 +1,28 @@
-use Rattle.std.proofs.Common.{subst, ◌∙◌}
-use Rattle.lab_commands.specs.Undone.{IsUnread, IsUnwritten}
-use Rattle.lab_commands.proofs.ArrayLemmas.{map_unasked_dump, map_unasked_file, map_unasked_out}
+use Rattle.std.proofs.Common.{sym, subst, ◌∙◌}
+use Rattle.lab_commands.specs.Array.{IsMapNotAllowed}
+use Rattle.lab_commands.specs.Undone.{MayNotWrite, MayWrite}
+use Rattle.lab_commands.proofs.ArrayLemmas.{map_not_allowed, map_unasked_out}
 use Rattle.lab_commands.proofs.UndoneLemmas.{handed}
 use Rattle.lab_commands.proofs.array.allow_map.Goals as goal
 
 pub returns-in_err-is_out : goal.returns-in_err-is_out
 returns-in_err-is_out g c =
     let a = g.F.LabFiles.answers c.args.files.now in
-    rw (handed c.from_residual.result _ c.from_residual.ensures.1) (record {
-      other = tt;
-      ok = tt;
-      fault = (map_unasked_out a c.args.words.now c.args.file.now _ c.in_err-is_out.ensures.fault);
-      same = c.is_out.ensures.same;
-    })
+    rw (handed c.from_residual.result _ c.from_residual.ensures.1) (record { other = tt; ok = tt; fault = map_unasked_out a c.args.words.now c.args.file.now _ c.in_err-is_out.ensures.fault; same = c.is_out.ensures.same })
 
-pub returns-in_err-there : goal.returns-in_err-there
-returns-in_err-there g c =
-    let a = g.F.LabFiles.answers c.args.files.now in
-    rw (handed c.from_residual-in_err-there.result _ c.from_residual-in_err-there.ensures.1) (record {
-      other = tt;
-      ok = tt;
-      fault = map_unasked_file a c.args.words.now c.args.file.now _ (subst (λ f. IsUnwritten (g.F.LabFiles.answers f) c.args.file.now c.in_err-there.field-0.0) c.is_out.ensures.same c.in_err-there.ensures.fault);
-      same = c.standing.ensures.same ∙ c.is_out.ensures.same;
-    })
+pub returns-in-Ok-clause-ok : goal.returns-in-Ok-clause-ok
+returns-in-Ok-clause-ok g c =
+    let words = c.args.words.now in
+    subst (λ f. MayWrite (g.F.LabFiles.answers f) words.dump.now c.args.file.now words.force) c.is_out.ensures.same c.in-Ok.ensures.ok
 
-pub returns-in_err-is_dump : goal.returns-in_err-is_dump
-returns-in_err-is_dump g c =
+pub returns-in-Ok-clause-same : goal.returns-in-Ok-clause-same
+returns-in-Ok-clause-same g c = c.allow.ensures.same ∙ c.is_out.ensures.same
+
+pub returns-in-Err : goal.returns-in-Err
+returns-in-Err g c =
     let a = g.F.LabFiles.answers c.args.files.now in
-    rw (handed c.from_residual-in_err-is_dump.result _ c.from_residual-in_err-is_dump.ensures.1) (record {
-      other = tt;
-      ok = tt;
-      fault = map_unasked_dump a c.args.words.now c.args.file.now _ (subst (λ f. IsUnread (g.F.LabFiles.answers f) c.args.words.now.dump.now c.in_err-is_dump.field-0.0) (c.standing.ensures.same ∙ c.is_out.ensures.same) c.in_err-is_dump.ensures.fault);
-      same = c.is_dump.ensures.same ∙ (c.standing.ensures.same ∙ c.is_out.ensures.same);
-    })
+    let words = c.args.words.now in
+    let file = c.args.file.now in
+    let told = c.in-Err.fault in
+    let why = map_not_allowed a words file told (subst (λ f. MayNotWrite (g.F.LabFiles.answers f) words.dump.now file words.force told) c.is_out.ensures.same c.in-Err.ensures.fault) in
+    record { other = tt; ok = tt; fault = subst (λ it. IsMapNotAllowed a words file it) (sym c.as_map.ensures) why; same = c.allow.ensures.same ∙ c.is_out.ensures.same }

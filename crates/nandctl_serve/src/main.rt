@@ -1,9 +1,0 @@
-//! `nandctl` once more, with the stored run of its server: a crate has one run alone.
-#![tactic(auto)]
-
-use std::process::ExitCode;
-use system_program::run_over;
-
-fn main(rt: HostRuntime) -> ExitCode {
-    run_over(&rt, &mut rt.stdin(), &mut rt.stdout(), &mut rt.stderr())
-}
