@@ -8,18 +8,18 @@ use Rattle.std.proofs.lemmas.List.Quantifiers.{position-Some}
 use Rattle.std.proofs.lemmas.Bool.{eqb-true, and_parts, ltb-true}
 use Rattle.page_layout.specs.declared.geometry.Geometry.{Geometry}
 use Rattle.bad_blocks.specs.declared.table.TableRow.{TableRow}
-use Rattle.bad_blocks.specs.Table.{is_good, is_good_class, is_good_at, no_table_row, IsCounted}
+use Rattle.bad_blocks.specs.Table.{is_good, is_good_class, is_good_at, no_table_row, HasFittingWear}
 use Rattle.certificate.specs.declared.block_state.BlockState.{BlockState}
 use Rattle.allocation.specs.declared.fill.Fill.{Fill}
 use Rattle.budget.specs.declared.stream.Stream.TheVariants.{Data, Meta}
-use Rattle.allocation.specs.State.{no_fill, fill_at, pointer_at, open_of, free_count, IsOpen, IsSafe}
+use Rattle.allocation.specs.State.{no_fill, fill_at, pointer_at, open_of, free_count, IsOpen, AreBlocksSafe}
 use Rattle.allocation.specs.Begun.{class_from, row_from, fill_from, begins_open, begun, unused}
 
 abbrev pub no_state : BlockState
 no_state = record { class = 0; pointer = 0; live = 0; wear = 0 }
 
-pub counted_rows : (states : List BlockState) → All IsCounted (map row_from states)
-counted_rows states = All-map IsCounted row_from states (λ k d lt. record { most = omega arith })
+pub counted_rows : (states : List BlockState) → All HasFittingWear (map row_from states)
+counted_rows states = All-map HasFittingWear row_from states (λ k d lt. record { most = omega arith })
 
 fill_is : (g : Geometry) (states : List BlockState) (b : ℕ) → b < length states → fill_at (begun g states) b ≡ fill_from g.pages (get_or states b no_state)
 fill_is g states b lt = get_or-map (fill_from g.pages) states b no_state no_fill lt
@@ -47,7 +47,7 @@ begun_open g states code b whole good is =
       class_is,
     )
 
-pub safe_begun : (free : ℕ) (g : Geometry) (states : List BlockState) → length states ≡ g.blocks → free ≡ free_count (begun g states) → IsSafe free (begun g states)
+pub safe_begun : (free : ℕ) (g : Geometry) (states : List BlockState) → length states ≡ g.blocks → free ≡ free_count (begun g states) → AreBlocksSafe free (begun g states)
 safe_begun free g states whole counted = record {
   table_whole = length-map states row_from ∙ whole;
   fills_whole = length-map states (fill_from g.pages) ∙ whole;
@@ -64,7 +64,7 @@ pub safe_begun_read : (free pages : ℕ) (g : Geometry) (states : List BlockStat
     (data_open meta_open : Option ℕ) → length states ≡ g.blocks → pages ≡ g.pages → table ≡ map row_from states
     → fills ≡ map (fill_from pages) states → free ≡ count_by (unused table fills) (range_with_len 0 (length fills))
     → data_open ≡ position (begins_open 1 pages) states → meta_open ≡ position (begins_open 2 pages) states
-    → IsSafe free (record { geometry = g; table = table; fills = fills; data_open = data_open; meta_open = meta_open })
+    → AreBlocksSafe free (record { geometry = g; table = table; fills = fills; data_open = data_open; meta_open = meta_open })
 safe_begun_read free pages g states table fills data_open meta_open whole p t f counted d m =
     let fs : fills ≡ map (fill_from g.pages) states = f ∙ ap (λ (x : ℕ). map (fill_from x) states) p in
     let ds : data_open ≡ position (begins_open 1 g.pages) states = d ∙ ap (λ (x : ℕ). position (begins_open 1 x) states) p in
@@ -73,8 +73,8 @@ safe_begun_read free pages g states table fills data_open meta_open whole p t f 
     let same : free ≡ free_count (begun g states) = counted ∙ ap (λ (x : ℕ). count_by (unused table fills) (range_with_len 0 x)) n ∙ ap
     (λ (x : List TableRow). count_by (unused x fills) (range_with_len 0 g.blocks)) t ∙ ap
     (λ (x : List Fill). count_by (unused (map row_from states) x) (range_with_len 0 g.blocks)) fs in
-    subst (λ (x : List TableRow). IsSafe free (record { geometry = g; table = x; fills = fills; data_open = data_open; meta_open = meta_open })) (sym t)
-    (subst (λ (x : List Fill). IsSafe free (record { geometry = g; table = map row_from states; fills = x; data_open = data_open; meta_open = meta_open })) (sym fs)
-    (subst (λ (x : Option ℕ). IsSafe free (record { geometry = g; table = map row_from states; fills = map (fill_from g.pages) states; data_open = x; meta_open = meta_open })) (sym ds)
-    (subst (λ (x : Option ℕ). IsSafe free (record { geometry = g; table = map row_from states; fills = map (fill_from g.pages) states; data_open = position (begins_open 1 g.pages) states; meta_open = x })) (sym ms)
+    subst (λ (x : List TableRow). AreBlocksSafe free (record { geometry = g; table = x; fills = fills; data_open = data_open; meta_open = meta_open })) (sym t)
+    (subst (λ (x : List Fill). AreBlocksSafe free (record { geometry = g; table = map row_from states; fills = x; data_open = data_open; meta_open = meta_open })) (sym fs)
+    (subst (λ (x : Option ℕ). AreBlocksSafe free (record { geometry = g; table = map row_from states; fills = map (fill_from g.pages) states; data_open = x; meta_open = meta_open })) (sym ds)
+    (subst (λ (x : Option ℕ). AreBlocksSafe free (record { geometry = g; table = map row_from states; fills = map (fill_from g.pages) states; data_open = position (begins_open 1 g.pages) states; meta_open = x })) (sym ms)
     (safe_begun free g states whole same))))

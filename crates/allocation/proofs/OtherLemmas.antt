@@ -11,10 +11,10 @@ use Rattle.bad_blocks.specs.Table.{is_good_at, good_count}
 use Rattle.budget.specs.Counts.{Counts}
 use Rattle.budget.specs.declared.stream.Stream.TheVariants.{Data, Meta}
 use Rattle.allocation.specs.declared.fill.Fill.{Fill}
-use Rattle.allocation.specs.State.{State, pointer_at, live_at, holds, is_free, free_count}
+use Rattle.allocation.specs.State.{State, pointer_at, live_at, is_open_block, is_free, free_count}
 use Rattle.allocation.specs.Step.{without, with_live, with_fill}
 use Rattle.allocation.specs.Counts.{left_in, LiveLaw, NoneLaw}
-use Rattle.allocation.specs.Laws.{NextLaw, LastPageLaw, BadLaw, BadStaysLaw, FailedOthersLaw, ErasedOthersLaw, TakenOthersLaw, LiveOthersLaw}
+use Rattle.allocation.specs.Laws.{NextLaw, LastPageLaw, BadLaw, TableKeepsBadLaw, FailedOthersLaw, ErasedOthersLaw, TakenOthersLaw, LiveOthersLaw}
 use Rattle.allocation.proofs.SafeLemmas.{fill_same, pointer_live, good_retired, good_retired_other, good_erased, not_of_other}
 use Rattle.allocation.proofs.TallyLemmas.{not_holding}
 
@@ -22,8 +22,8 @@ pub next_not_closed : NextLaw
 next_not_closed free s stream block safe next = grind (arith, common_steps)
 
 -- open after the next page, unless it is the last
-shut_then : (next pages b : ℕ) → next ≤ pages → not (holds (then_some (nat_lt next pages) b) b) ≡ (next == pages)
-shut_then next pages b le = elim (ltb next pages) as (λ v. ltb next pages ≡ v → not (holds (then_some v b) b) ≡ (next == pages)) [
+shut_then : (next pages b : ℕ) → next ≤ pages → not (is_open_block (then_some (nat_lt next pages) b) b) ≡ (next == pages)
+shut_then next pages b le = elim (ltb next pages) as (λ v. ltb next pages ≡ v → not (is_open_block (then_some v b) b) ≡ (next == pages)) [
   | true ↦ λ is. (let less : next < pages = ltb-true next pages is in ap not (eq-eqb b b refl) ∙ sym (ne_eqb next pages (λ e. omega arith)))
   | false ↦ λ is. (let more : pages ≤ next = ltb-false next pages is in sym (eq-eqb next pages (omega arith)))
 ] refl
@@ -40,19 +40,19 @@ last_page free s Data b safe next =
     let f : Fill = record { pointer = pointer_at s b + 1; live = live_at s b } in
     let now : pointer_at (with_fill b f s) b ≡ pointer_at s b + 1 = ap (λ (x : Fill). x.pointer) (fill_same s b f (omega (arith, safe.fills_whole, next.within))) in
     let ne : (c : ℕ) → s.meta_open ≡ Some c → c ≢ b = λ c e. not_of_other free s Data Meta b c safe next (λ d. safe.apart d) e in
-    closed_by_data (is_good_at s.table b) (pointer_at (with_fill b f s) b == 0) _ (holds s.meta_open b) next.good (ne_eqb (pointer_at (with_fill b f s) b) 0 (λ z. omega arith)) (not_holding s.meta_open b ne)
+    closed_by_data (is_good_at s.table b) (pointer_at (with_fill b f s) b == 0) _ (is_open_block s.meta_open b) next.good (ne_eqb (pointer_at (with_fill b f s) b) 0 (λ z. omega arith)) (not_holding s.meta_open b ne)
     ∙ shut_then (pointer_at s b + 1) s.geometry.pages b (omega (arith, next.room))
 last_page free s Meta b safe next =
     let f : Fill = record { pointer = pointer_at s b + 1; live = live_at s b } in
     let now : pointer_at (with_fill b f s) b ≡ pointer_at s b + 1 = ap (λ (x : Fill). x.pointer) (fill_same s b f (omega (arith, safe.fills_whole, next.within))) in
     let ne : (c : ℕ) → s.data_open ≡ Some c → c ≢ b = λ c e. not_of_other free s Meta Data b c safe next (λ d m o. safe.apart d o m) e in
-    closed_by_meta (is_good_at s.table b) (pointer_at (with_fill b f s) b == 0) (holds s.data_open b) _ next.good (ne_eqb (pointer_at (with_fill b f s) b) 0 (λ z. omega arith)) (not_holding s.data_open b ne)
+    closed_by_meta (is_good_at s.table b) (pointer_at (with_fill b f s) b == 0) (is_open_block s.data_open b) _ next.good (ne_eqb (pointer_at (with_fill b f s) b) 0 (λ z. omega arith)) (not_holding s.data_open b ne)
     ∙ shut_then (pointer_at s b + 1) s.geometry.pages b (omega (arith, next.room))
 
 pub bad : BadLaw
 bad free s b safe within = good_retired s.table b (omega (arith, safe.table_whole))
 
-pub bad_stays : BadStaysLaw
+pub bad_stays : TableKeepsBadLaw
 bad_stays free s c safe is = record {
   fails = λ b within. elim (cases_eq c b) [
     | inl same ↦ ap (λ x. is_good_at (without b s).table x) same ∙ good_retired s.table b (omega (arith, safe.table_whole))

@@ -15,8 +15,8 @@ use Rattle.bad_blocks.specs.Table.{is_good, is_good_class, is_good_at, class_at,
 use Rattle.allocation.specs.declared.fill.Fill.{Fill}
 use Rattle.budget.specs.declared.stream.Stream.{Stream}
 use Rattle.budget.specs.declared.stream.Stream.TheVariants.{Data, Meta}
-use Rattle.allocation.specs.State.{State, no_fill, fill_at, pointer_at, live_at, open_of, holds, is_open, is_free, is_closed, free_count, IsOpen, IsSafe}
-use Rattle.allocation.specs.Step.{with_open, with_fill, taken, without, erased, with_live, dropped, IsNextBlock, IsLeastWorn, HasNone}
+use Rattle.allocation.specs.State.{State, no_fill, fill_at, pointer_at, live_at, open_of, is_open_block, is_open, is_free, is_closed, free_count, IsOpen, AreBlocksSafe}
+use Rattle.allocation.specs.Step.{with_open, with_fill, taken, without, erased, with_live, open_without, IsNextBlock, IsLeastWorn, HasNone}
 use Rattle.allocation.proofs.CountLemmas.{count_moved, count_within, count_none_in}
 
 -- ---- one block's fill
@@ -34,7 +34,7 @@ pointer_live s b live c lt = elim (cases_eq c b) [
   | inr ne ↦ ap (λ f. f.pointer) (fill_other s b c (record { pointer = pointer_at s b; live = live }) ne)
 ]
 
-pub safe_live : (free : ℕ) (s : State) (b live : ℕ) → b < s.geometry.blocks → IsSafe free s → IsSafe free (with_live b live s)
+pub safe_live : (free : ℕ) (s : State) (b live : ℕ) → b < s.geometry.blocks → AreBlocksSafe free s → AreBlocksSafe free (with_live b live s)
 safe_live free s b live within safe =
     let lt : b < length s.fills = omega (arith, safe.fills_whole) in
     let same = λ (c : ℕ). pointer_live s b live c lt in
@@ -53,10 +53,10 @@ pub read_is : (s : State) (b : ℕ) (f : Fill) → b < s.geometry.blocks → len
 read_is s b f within whole is = get_or_read s.fills b f (omega arith) is no_fill
 
 -- the same where the fill was read
-pub safe_live_read : (free : ℕ) (s : State) (b live : ℕ) (f : Fill) → b < s.geometry.blocks → f ≡ get_or s.fills b f → IsSafe free s → IsSafe free (with_fill b (record { pointer = f.pointer; live = live }) s)
+pub safe_live_read : (free : ℕ) (s : State) (b live : ℕ) (f : Fill) → b < s.geometry.blocks → f ≡ get_or s.fills b f → AreBlocksSafe free s → AreBlocksSafe free (with_fill b (record { pointer = f.pointer; live = live }) s)
 safe_live_read free s b live f within is safe =
     let e : f ≡ fill_at s b = read_is s b f within safe.fills_whole is in
-    subst (λ (p : ℕ). IsSafe free (with_fill b (record { pointer = p; live = live }) s)) (sym (ap (λ (x : Fill). x.pointer) e)) (safe_live free s b live within safe)
+    subst (λ (p : ℕ). AreBlocksSafe free (with_fill b (record { pointer = p; live = live }) s)) (sym (ap (λ (x : Fill). x.pointer) e)) (safe_live free s b live within safe)
 
 -- ---- one block's entry
 
@@ -85,14 +85,14 @@ good_retired table b lt = ap is_good (get_or-set_same table b (record { class = 
 
 -- ---- tests
 
-pub not_held : (o : Option ℕ) (b c : ℕ) → holds o b ≡ false → o ≡ Some c → c ≢ b
-not_held o b c none is = λ same. false≢true (sym none ∙ ap (λ x. holds x b) is ∙ eq-eqb c b same)
+pub not_held : (o : Option ℕ) (b c : ℕ) → is_open_block o b ≡ false → o ≡ Some c → c ≢ b
+not_held o b c none is = λ same. false≢true (sym none ∙ ap (λ x. is_open_block x b) is ∙ eq-eqb c b same)
 
 pub record IsParted (s : State) (b : ℕ) : Type 0 where
   pub good : is_good_at s.table b ≡ true
   pub begun : pointer_at s b ≢ 0
-  pub not_data : holds s.data_open b ≡ false
-  pub not_meta : holds s.meta_open b ≡ false
+  pub not_data : is_open_block s.data_open b ≡ false
+  pub not_meta : is_open_block s.meta_open b ≡ false
 
 pub closed_parts : (s : State) (b : ℕ) → is_closed s b ≡ true → IsParted s b
 closed_parts s b is =
@@ -102,8 +102,8 @@ closed_parts s b is =
     record {
       good = inner.0;
       begun = λ zero. false≢true (sym (not_true (pointer_at s b == 0) inner.1) ∙ eq-eqb (pointer_at s b) 0 zero);
-      not_data = or_first (holds s.data_open b) (holds s.meta_open b) shut;
-      not_meta = or_second (holds s.data_open b) (holds s.meta_open b) shut;
+      not_data = or_first (is_open_block s.data_open b) (is_open_block s.meta_open b) shut;
+      not_meta = or_second (is_open_block s.data_open b) (is_open_block s.meta_open b) shut;
     }
   where
     not_true : (x : Bool) → not x ≡ true → x ≡ false
@@ -148,7 +148,7 @@ erased_free s b within whole table closed =
     let none : bit (is_free s b) ≡ 0 = ap bit was in
     omega arith
 
-pub safe_erased : (free : ℕ) (s : State) (b : ℕ) → b < s.geometry.blocks → is_closed s b ≡ true → IsSafe free s → IsSafe (free + 1) (erased b s)
+pub safe_erased : (free : ℕ) (s : State) (b : ℕ) → b < s.geometry.blocks → is_closed s b ≡ true → AreBlocksSafe free s → AreBlocksSafe (free + 1) (erased b s)
 safe_erased free s b within closed safe =
     let parts = closed_parts s b closed in
     let in_table : b < length s.table = omega (arith, safe.table_whole) in
@@ -177,8 +177,8 @@ safe_erased free s b within closed safe =
     }
 
 pub safe_erased_read : (free : ℕ) (s : State) (b : ℕ) (f : Fill) (table : List TableRow) → b < s.geometry.blocks → is_closed s b ≡ true
-    → f ≡ get_or s.fills b f → table ≡ erased_once s.table b → IsSafe free s
-    → IsSafe (free + 1)
+    → f ≡ get_or s.fills b f → table ≡ erased_once s.table b → AreBlocksSafe free s
+    → AreBlocksSafe (free + 1)
     (record {
       geometry = s.geometry;
       table = table;
@@ -188,10 +188,10 @@ pub safe_erased_read : (free : ℕ) (s : State) (b : ℕ) (f : Fill) (table : Li
     })
 safe_erased_read free s b f table within closed is counted safe =
     let e : live_at s b ≡ f.live = sym (ap (λ (x : Fill). x.live) (read_is s b f within safe.fills_whole is)) in
-    subst (λ (t : List TableRow). IsSafe (free + 1) (record { geometry = s.geometry; table = t; fills = set s.fills b (record { pointer = 0; live = f.live }); data_open = s.data_open; meta_open = s.meta_open })) (sym counted)
-    (subst (λ (l : ℕ). IsSafe (free + 1) (record { geometry = s.geometry; table = erased_once s.table b; fills = set s.fills b (record { pointer = 0; live = l }); data_open = s.data_open; meta_open = s.meta_open })) e (safe_erased free s b within closed safe))
+    subst (λ (t : List TableRow). AreBlocksSafe (free + 1) (record { geometry = s.geometry; table = t; fills = set s.fills b (record { pointer = 0; live = f.live }); data_open = s.data_open; meta_open = s.meta_open })) (sym counted)
+    (subst (λ (l : ℕ). AreBlocksSafe (free + 1) (record { geometry = s.geometry; table = erased_once s.table b; fills = set s.fills b (record { pointer = 0; live = l }); data_open = s.data_open; meta_open = s.meta_open })) e (safe_erased free s b within closed safe))
 
-pub free_fits : (free : ℕ) (s : State) → IsSafe free s → free ≤ s.geometry.blocks
+pub free_fits : (free : ℕ) (s : State) → AreBlocksSafe free s → free ≤ s.geometry.blocks
 free_fits free s safe = omega (arith, safe.free_is, count_within (is_free s) 0 s.geometry.blocks)
 
 -- ---- a block that failed
@@ -206,14 +206,14 @@ without_free s b within table =
     let moved = count_moved (is_free s) (is_free (without b s)) b 0 s.geometry.blocks (free_retired s b) (omega arith) (omega arith) in
     omega arith
 
-dropped_kept : (o : Option ℕ) (b c : ℕ) → dropped o b ≡ Some c → (o ≡ Some c) × (c ≢ b)
+dropped_kept : (o : Option ℕ) (b c : ℕ) → open_without o b ≡ Some c → (o ≡ Some c) × (c ≢ b)
 dropped_kept None b c e = cc
 dropped_kept (Some x) b c e = elim (eqb x b) as (λ v. eqb x b ≡ v → cond v None (Some x) ≡ Some c → (Some x ≡ Some c) × (c ≢ b)) [
   | true ↦ λ is f. cc
   | false ↦ λ is f. (f, λ same. (let xc : x ≡ c = cc in let t : eqb x b ≡ true = eq-eqb x b (xc ∙ same) in false≢true (sym is ∙ t)))
 ] refl e
 
-pub safe_without : (free : ℕ) (s : State) (b : ℕ) → b < s.geometry.blocks → IsSafe free s → IsSafe (free - bit (is_free s b)) (without b s)
+pub safe_without : (free : ℕ) (s : State) (b : ℕ) → b < s.geometry.blocks → AreBlocksSafe free s → AreBlocksSafe (free - bit (is_free s b)) (without b s)
 safe_without free s b within safe =
     let kept : (c : ℕ) → c ≢ b → IsOpen s c → IsOpen (without b s) c = λ c ne old. record {
       within = old.within;
@@ -234,16 +234,16 @@ safe_without free s b within safe =
     }
 
 pub safe_without_read : (free n : ℕ) (s : State) (b : ℕ) (table : List TableRow) (data_open meta_open : Option ℕ) → b < s.geometry.blocks
-    → n ≡ bit (is_free s b) → table ≡ retired s.table b → data_open ≡ dropped s.data_open b → meta_open ≡ dropped s.meta_open b → IsSafe free s
-    → IsSafe (free - n) (record { geometry = s.geometry; table = table; fills = s.fills; data_open = data_open; meta_open = meta_open })
+    → n ≡ bit (is_free s b) → table ≡ retired s.table b → data_open ≡ open_without s.data_open b → meta_open ≡ open_without s.meta_open b → AreBlocksSafe free s
+    → AreBlocksSafe (free - n) (record { geometry = s.geometry; table = table; fills = s.fills; data_open = data_open; meta_open = meta_open })
 safe_without_read free n s b table data_open meta_open within is counted d m safe =
-    subst (λ (x : ℕ). IsSafe (free - x) (record { geometry = s.geometry; table = table; fills = s.fills; data_open = data_open; meta_open = meta_open })) (sym is)
-    (subst (λ (x : List TableRow). IsSafe (free - bit (is_free s b)) (record { geometry = s.geometry; table = x; fills = s.fills; data_open = data_open; meta_open = meta_open })) (sym counted)
-    (subst (λ (x : Option ℕ). IsSafe (free - bit (is_free s b)) (record { geometry = s.geometry; table = retired s.table b; fills = s.fills; data_open = x; meta_open = meta_open })) (sym d)
-    (subst (λ (x : Option ℕ). IsSafe (free - bit (is_free s b)) (record { geometry = s.geometry; table = retired s.table b; fills = s.fills; data_open = dropped s.data_open b; meta_open = x })) (sym m)
+    subst (λ (x : ℕ). AreBlocksSafe (free - x) (record { geometry = s.geometry; table = table; fills = s.fills; data_open = data_open; meta_open = meta_open })) (sym is)
+    (subst (λ (x : List TableRow). AreBlocksSafe (free - bit (is_free s b)) (record { geometry = s.geometry; table = x; fills = s.fills; data_open = data_open; meta_open = meta_open })) (sym counted)
+    (subst (λ (x : Option ℕ). AreBlocksSafe (free - bit (is_free s b)) (record { geometry = s.geometry; table = retired s.table b; fills = s.fills; data_open = x; meta_open = meta_open })) (sym d)
+    (subst (λ (x : Option ℕ). AreBlocksSafe (free - bit (is_free s b)) (record { geometry = s.geometry; table = retired s.table b; fills = s.fills; data_open = open_without s.data_open b; meta_open = x })) (sym m)
     (safe_without free s b within safe))))
 
-pub free_has : (free : ℕ) (s : State) (b : ℕ) → b < s.geometry.blocks → IsSafe free s → bit (is_free s b) ≤ free
+pub free_has : (free : ℕ) (s : State) (b : ℕ) → b < s.geometry.blocks → AreBlocksSafe free s → bit (is_free s b) ≤ free
 free_has free s b within safe = omega (arith, safe.free_is, without_free s b within safe.table_whole)
 
 pub byte_is : (b : Bool) → bool_byte b ≡ bit b
@@ -275,7 +275,7 @@ opened_next next pages b c e = elim (ltb next pages) as (λ v. ltb next pages �
 ] refl e
 
 -- a block that another stream has open isn't the one
-pub not_of_other : (free : ℕ) (s : State) (stream other : Stream) (b c : ℕ) → IsSafe free s → IsNextBlock s stream b → ((d : ℕ) → open_of s stream ≡ Some d → open_of s other ≡ Some d → ⊥) → open_of s other ≡ Some c → c ≢ b
+pub not_of_other : (free : ℕ) (s : State) (stream other : Stream) (b c : ℕ) → AreBlocksSafe free s → IsNextBlock s stream b → ((d : ℕ) → open_of s stream ≡ Some d → open_of s other ≡ Some d → ⊥) → open_of s other ≡ Some c → c ≢ b
 not_of_other free s stream other b c safe next apart e = λ same. elim next.from [
   | inl o ↦ apart b o (e ∙ ap Some same)
   | inr o ↦
@@ -298,11 +298,11 @@ open_here s b c n live lt within good is =
     let now : pointer_at (with_fill b f s) b ≡ n + 1 = ap (λ (x : Fill). x.pointer) (fill_same s b f lt) in
     subst (λ x. IsOpen (with_fill b f s) x) is.1 (record { within = within; good = good; begun = rw now (omega arith); room = rw now is.0 })
 
-safe_opens : (free : ℕ) (s : State) (b live : ℕ) (data_open meta_open : Option ℕ) → IsSafe free s → b < s.geometry.blocks → is_good_at s.table b ≡ true → pointer_at s b < s.geometry.pages →
+safe_opens : (free : ℕ) (s : State) (b live : ℕ) (data_open meta_open : Option ℕ) → AreBlocksSafe free s → b < s.geometry.blocks → is_good_at s.table b ≡ true → pointer_at s b < s.geometry.pages →
     ((c : ℕ) → data_open ≡ Some c → IsOpen (with_fill b (record { pointer = pointer_at s b + 1; live = live }) s) c) →
     ((c : ℕ) → meta_open ≡ Some c → IsOpen (with_fill b (record { pointer = pointer_at s b + 1; live = live }) s) c) →
     ((c : ℕ) → data_open ≡ Some c → meta_open ≡ Some c → ⊥) →
-    IsSafe (free - bit (pointer_at s b == 0)) (record { geometry = s.geometry; table = s.table; fills = set s.fills b (record { pointer = pointer_at s b + 1; live = live }); data_open = data_open; meta_open = meta_open })
+    AreBlocksSafe (free - bit (pointer_at s b == 0)) (record { geometry = s.geometry; table = s.table; fills = set s.fills b (record { pointer = pointer_at s b + 1; live = live }); data_open = data_open; meta_open = meta_open })
 safe_opens free s b live data_open meta_open safe within good room d m apart =
     let f : Fill = record { pointer = pointer_at s b + 1; live = live } in
     let new : State = record { geometry = s.geometry; table = s.table; fills = set s.fills b f; data_open = data_open; meta_open = meta_open } in
@@ -321,7 +321,7 @@ safe_opens free s b live data_open meta_open safe within good room d m apart =
       apart = apart;
     }
 
-pub safe_taken : (free : ℕ) (s : State) (stream : Stream) (b : ℕ) → IsNextBlock s stream b → IsSafe free s → IsSafe (free - bit (pointer_at s b == 0)) (taken stream b s)
+pub safe_taken : (free : ℕ) (s : State) (stream : Stream) (b : ℕ) → IsNextBlock s stream b → AreBlocksSafe free s → AreBlocksSafe (free - bit (pointer_at s b == 0)) (taken stream b s)
 safe_taken free s Data b next safe =
     let f : Fill = record { pointer = pointer_at s b + 1; live = live_at s b } in
     let lt : b < length s.fills = omega (arith, safe.fills_whole, next.within) in
@@ -340,26 +340,26 @@ safe_taken free s Meta b next safe =
     (λ c d m. ne c d (sym (opened_next (pointer_at s b + 1) s.geometry.pages b c m).1))
 
 pub safe_taken_read : (free n : ℕ) (s : State) (stream : Stream) (b : ℕ) (f : Fill) (opened : Option ℕ) → IsNextBlock s stream b
-    → f ≡ get_or s.fills b f → n ≡ bit (f.pointer == 0) → opened ≡ (then_some (nat_lt (f.pointer + 1) s.geometry.pages) b) → IsSafe free s
-    → IsSafe (free - n) (with_open stream opened (with_fill b (record { pointer = f.pointer + 1; live = f.live }) s))
+    → f ≡ get_or s.fills b f → n ≡ bit (f.pointer == 0) → opened ≡ (then_some (nat_lt (f.pointer + 1) s.geometry.pages) b) → AreBlocksSafe free s
+    → AreBlocksSafe (free - n) (with_open stream opened (with_fill b (record { pointer = f.pointer + 1; live = f.live }) s))
 safe_taken_read free n s stream b f opened next is one now safe =
     let e : f ≡ fill_at s b = read_is s b f next.within safe.fills_whole is in
-    subst (λ (k : ℕ). IsSafe (free - k) (with_open stream opened (with_fill b (record { pointer = f.pointer + 1; live = f.live }) s))) (sym one)
-    (subst (λ (o : Option ℕ). IsSafe (free - bit (f.pointer == 0)) (with_open stream o (with_fill b (record { pointer = f.pointer + 1; live = f.live }) s))) (sym now)
-    (subst (λ (x : Fill). IsSafe (free - bit (x.pointer == 0)) (with_open stream (then_some (nat_lt (x.pointer + 1) s.geometry.pages) b) (with_fill b (record { pointer = x.pointer + 1; live = x.live }) s))) (sym e)
+    subst (λ (k : ℕ). AreBlocksSafe (free - k) (with_open stream opened (with_fill b (record { pointer = f.pointer + 1; live = f.live }) s))) (sym one)
+    (subst (λ (o : Option ℕ). AreBlocksSafe (free - bit (f.pointer == 0)) (with_open stream o (with_fill b (record { pointer = f.pointer + 1; live = f.live }) s))) (sym now)
+    (subst (λ (x : Fill). AreBlocksSafe (free - bit (x.pointer == 0)) (with_open stream (then_some (nat_lt (x.pointer + 1) s.geometry.pages) b) (with_fill b (record { pointer = x.pointer + 1; live = x.live }) s))) (sym e)
     (safe_taken free s stream b next safe)))
 
 -- a free block is counted
-pub taken_has : (free : ℕ) (s : State) (stream : Stream) (b : ℕ) (f : Fill) → IsNextBlock s stream b → f ≡ get_or s.fills b f → IsSafe free s → bit (f.pointer == 0) ≤ free
+pub taken_has : (free : ℕ) (s : State) (stream : Stream) (b : ℕ) (f : Fill) → IsNextBlock s stream b → f ≡ get_or s.fills b f → AreBlocksSafe free s → bit (f.pointer == 0) ≤ free
 taken_has free s stream b f next is safe =
     let e : f ≡ fill_at s b = read_is s b f next.within safe.fills_whole is in
     let same : bit (f.pointer == 0) ≡ bit (pointer_at s b == 0) = ap (λ (x : Fill). bit (x.pointer == 0)) e in
     omega (arith, same, safe.free_is, taken_free s b (live_at s b) next.within next.good safe.fills_whole)
 
-pub next_open : (free : ℕ) (s : State) (stream : Stream) (b : ℕ) → IsSafe free s → open_of s stream ≡ Some b → IsNextBlock s stream b
+pub next_open : (free : ℕ) (s : State) (stream : Stream) (b : ℕ) → AreBlocksSafe free s → open_of s stream ≡ Some b → IsNextBlock s stream b
 next_open free s stream b safe is = let o = safe.opened stream b is in record { within = o.within; good = o.good; room = o.room; from = inl is }
 
-pub next_found : (free : ℕ) (s : State) (stream : Stream) (o : Option ℕ) → IsSafe free s → 0 < s.geometry.pages → open_of s stream ≡ None
+pub next_found : (free : ℕ) (s : State) (stream : Stream) (o : Option ℕ) → AreBlocksSafe free s → 0 < s.geometry.pages → open_of s stream ≡ None
     → MatchOption o ((b : ℕ) → b < s.geometry.blocks → is_free s b ≡ false) (IsLeastWorn s s.geometry.blocks)
     → MatchOption o (HasNone s stream) (IsNextBlock s stream)
 next_found free s stream None safe pages shut none = record { none_open = shut; none_free = count_none_in (is_free s) 0 s.geometry.blocks (λ b from below. none b (omega arith)) }

@@ -18,10 +18,10 @@ use Rattle.bad_blocks.specs.Table.{is_good, is_good_at, no_table_row, good_count
 use Rattle.allocation.specs.declared.fill.Fill.{Fill}
 use Rattle.budget.specs.declared.stream.Stream.{Stream}
 use Rattle.budget.specs.declared.stream.Stream.TheVariants.{Data, Meta}
-use Rattle.allocation.specs.State.{State, pointer_at, live_at, open_of, holds, is_free, is_closed, free_count, IsSafe}
-use Rattle.allocation.specs.Step.{with_fill, taken, without, dropped, IsNextBlock, IsVictim}
+use Rattle.allocation.specs.State.{State, pointer_at, live_at, open_of, is_open_block, is_free, is_closed, free_count, AreBlocksSafe}
+use Rattle.allocation.specs.Step.{with_fill, taken, without, open_without, IsNextBlock, IsVictim}
 use Rattle.budget.specs.Counts.{TakesOne}
-use Rattle.allocation.specs.Counts.{left_in, counts_of, IsLiveExact, FailedLaw, FitsLaw}
+use Rattle.allocation.specs.Counts.{left_in, counts_of, IsLiveExact, TakenRowFailedLaw, FitsLaw}
 use Rattle.allocation.proofs.SafeLemmas.{free_parts, taken_free, without_free, not_of_other, fill_same, fill_other, no_fill_after}
 
 -- ---- good blocks are free, open or closed
@@ -44,16 +44,16 @@ bits false false true false h k = absurd (false≢true (h refl).0)
 bits false false false true h k = absurd (false≢true (k refl).0)
 bits false false false false h k = omega arith
 
-held : (o : Option ℕ) (b : ℕ) → holds o b ≡ true → o ≡ Some b
+held : (o : Option ℕ) (b : ℕ) → is_open_block o b ≡ true → o ≡ Some b
 held None b is = absurd (false≢true is)
 held (Some c) b is = ap Some (eqb-true c b is)
 
-holds_is : (o : Option ℕ) (b : ℕ) → o ≡ Some b → holds o b ≡ true
-holds_is o b is = ap (λ x. holds x b) is ∙ eq-eqb b b refl
+holds_is : (o : Option ℕ) (b : ℕ) → o ≡ Some b → is_open_block o b ≡ true
+holds_is o b is = ap (λ x. is_open_block x b) is ∙ eq-eqb b b refl
 
-parts_at : (free : ℕ) (s : State) → IsSafe free s → (b : ℕ) → bit (is_good_at s.table b) ≡ bit (is_free s b) + bit (holds s.data_open b) + bit (holds s.meta_open b) + bit (is_closed s b)
-parts_at free s safe b = bits (is_good_at s.table b) (pointer_at s b == 0) (holds s.data_open b) (holds s.meta_open b)
-    (λ h. let o = safe.opened Data b (held s.data_open b h) in (o.good, ne_eqb (pointer_at s b) 0 (λ z. omega (arith, o.begun)), elim (cases_Bool (holds s.meta_open b)) [ inl m ↦ absurd (safe.apart b (held s.data_open b h) (held s.meta_open b m)) | inr n ↦ n ]))
+parts_at : (free : ℕ) (s : State) → AreBlocksSafe free s → (b : ℕ) → bit (is_good_at s.table b) ≡ bit (is_free s b) + bit (is_open_block s.data_open b) + bit (is_open_block s.meta_open b) + bit (is_closed s b)
+parts_at free s safe b = bits (is_good_at s.table b) (pointer_at s b == 0) (is_open_block s.data_open b) (is_open_block s.meta_open b)
+    (λ h. let o = safe.opened Data b (held s.data_open b h) in (o.good, ne_eqb (pointer_at s b) 0 (λ z. omega (arith, o.begun)), elim (cases_Bool (is_open_block s.meta_open b)) [ inl m ↦ absurd (safe.apart b (held s.data_open b h) (held s.meta_open b m)) | inr n ↦ n ]))
     (λ h. let o = safe.opened Meta b (held s.meta_open b h) in (o.good, ne_eqb (pointer_at s b) 0 (λ z. omega (arith, o.begun))))
 
 count_four : (g p q r t : ℕ → Bool) (a n : ℕ) → ((b : ℕ) → bit (g b) ≡ bit (p b) + bit (q b) + bit (r b) + bit (t b))
@@ -89,24 +89,24 @@ pub closed_count : State → ℕ
 closed_count s = count_by (is_closed s) (range_with_len 0 s.geometry.blocks)
 
 pub held_count : State → Option ℕ → ℕ
-held_count s o = count_by (holds o) (range_with_len 0 s.geometry.blocks)
+held_count s o = count_by (is_open_block o) (range_with_len 0 s.geometry.blocks)
 
-pub good_parts : (free : ℕ) (s : State) → IsSafe free s → good_count s.table ≡ free_count s + held_count s s.data_open + held_count s s.meta_open + closed_count s
+pub good_parts : (free : ℕ) (s : State) → AreBlocksSafe free s → good_count s.table ≡ free_count s + held_count s s.data_open + held_count s s.meta_open + closed_count s
 unfolding closed_count held_count
 good_parts free s safe =
     sym (good_by_number s.table) ∙ ap (λ n. count_by (is_good_at s.table) (range_with_len 0 n)) safe.table_whole
-    ∙ count_four (is_good_at s.table) (is_free s) (holds s.data_open) (holds s.meta_open) (is_closed s) 0 s.geometry.blocks (parts_at free s safe)
+    ∙ count_four (is_good_at s.table) (is_free s) (is_open_block s.data_open) (is_open_block s.meta_open) (is_closed s) 0 s.geometry.blocks (parts_at free s safe)
 
 pub held_none : (s : State) → held_count s None ≡ 0
 unfolding held_count
-held_none s = count_by_none (holds None) (range_with_len 0 s.geometry.blocks) (λ b. refl)
+held_none s = count_by_none (is_open_block None) (range_with_len 0 s.geometry.blocks) (λ b. refl)
 
 pub held_one : (s : State) (b : ℕ) → b < s.geometry.blocks → held_count s (Some b) ≡ 1
 unfolding held_count
 held_one s b lt = count_in_range_is b 0 s.geometry.blocks (omega arith) (omega arith)
 
 -- an open block has fewer erased pages than pages
-left_within : (free : ℕ) (s : State) (stream : Stream) (o : Option ℕ) → IsSafe free s → open_of s stream ≡ o → (left_in s o + 1 ≤ s.geometry.pages) × (left_in s o ≤ held_count s o * s.geometry.pages) × (held_count s o ≤ 1)
+left_within : (free : ℕ) (s : State) (stream : Stream) (o : Option ℕ) → AreBlocksSafe free s → open_of s stream ≡ o → (left_in s o + 1 ≤ s.geometry.pages) × (left_in s o ≤ held_count s o * s.geometry.pages) × (held_count s o ≤ 1)
 left_within free s stream None safe is = let g = s.geometry.limits.page_count.least in (omega arith, omega arith, omega (arith, held_none s))
 left_within free s stream (Some b) safe is =
     let o = safe.opened stream b is in
@@ -131,7 +131,7 @@ fits free s safe =
 
 -- ---- a victim is worth collecting
 
-pub small_victim : (free : ℕ) (s : State) (marks : List (Option Record)) (v : ℕ) → IsSafe free s → IsLiveExact s marks → need s.geometry ≤ good_count s.table → free_count s ≤ 8 → IsVictim s s.geometry.blocks v → live_at s v ≤ vmax s.geometry
+pub small_victim : (free : ℕ) (s : State) (marks : List (Option Record)) (v : ℕ) → AreBlocksSafe free s → IsLiveExact s marks → need s.geometry ≤ good_count s.table → free_count s ≤ 8 → IsVictim s s.geometry.blocks v → live_at s v ≤ vmax s.geometry
 unfolding closed_count
 small_victim free s marks v safe exact enough few is =
     let d = left_within free s Data s.data_open safe refl in
@@ -140,7 +140,7 @@ small_victim free s marks v safe exact enough few is =
     let below : found.place < s.geometry.blocks = omega (arith, found.below) in
     omega (arith, is.live_least found.place below found.is_closed, exact found.place below, found.is_small)
 
-pub small_found : (free : ℕ) (s : State) (marks : List (Option Record)) (o : Option ℕ) → IsSafe free s
+pub small_found : (free : ℕ) (s : State) (marks : List (Option Record)) (o : Option ℕ) → AreBlocksSafe free s
     → MatchOption o ((b : ℕ) → b < s.geometry.blocks → is_closed s b ≡ false) (IsVictim s s.geometry.blocks) → IsLiveExact s marks
     → need s.geometry ≤ good_count s.table → free_count s ≤ 8 → IsSomeAnd o (λ v. live_at s v ≤ vmax s.geometry)
 unfolding closed_count
@@ -168,7 +168,7 @@ left_other s b f (Some c) other = let e : pointer_at (with_fill b f s) c ≡ poi
 record Left (s : State) (stream : Stream) (b : ℕ) : Type 0 where
   pub cases : ((left_in s (open_of s stream) ≡ s.geometry.pages - pointer_at s b) × (0 < pointer_at s b)) ⊎ ((left_in s (open_of s stream) ≡ 0) × (pointer_at s b ≡ 0))
 
-left_before : (free : ℕ) (s : State) (stream : Stream) (b : ℕ) → IsSafe free s → IsNextBlock s stream b → Left s stream b
+left_before : (free : ℕ) (s : State) (stream : Stream) (b : ℕ) → AreBlocksSafe free s → IsNextBlock s stream b → Left s stream b
 left_before free s stream b safe next = record {
   cases = elim next.from [
     | inl o ↦ inl (ap (left_in s) o, (safe.opened stream b o).begun)
@@ -182,7 +182,7 @@ taken_cases P p free free' left left' room cases now counted = elim cases [
   | inr c ↦ let one : bit (p == 0) ≡ 1 = ap bit (eq-eqb p 0 c.1) in inr (c.0, omega arith, omega (arith, c.1))
 ]
 
-pub takes_one : (free : ℕ) (s : State) (stream : Stream) (b : ℕ) → IsSafe free s → IsNextBlock s stream b → TakesOne stream s.geometry.pages (counts_of s) (counts_of (taken stream b s))
+pub takes_one : (free : ℕ) (s : State) (stream : Stream) (b : ℕ) → AreBlocksSafe free s → IsNextBlock s stream b → TakesOne stream s.geometry.pages (counts_of s) (counts_of (taken stream b s))
 takes_one free s Data b safe next =
     let f : Fill = record { pointer = pointer_at s b + 1; live = live_at s b } in
     let now : pointer_at (with_fill b f s) b ≡ pointer_at s b + 1 = ap (λ (x : Fill). x.pointer) (fill_same s b f (omega (arith, safe.fills_whole, next.within))) in
@@ -212,21 +212,21 @@ good_moved table b lt good =
     let one : bit (is_good_at table b) ≡ 1 = ap bit good in
     omega (arith, sum_by-set (λ (x : TableRow). bit (is_good x)) table b new no_table_row lt)
 
-left_dropped : (s : State) (b : ℕ) (o : Option ℕ) → holds o b ≡ false → left_in (without b s) (dropped o b) ≡ left_in s o
+left_dropped : (s : State) (b : ℕ) (o : Option ℕ) → is_open_block o b ≡ false → left_in (without b s) (open_without o b) ≡ left_in s o
 left_dropped s b None is = refl
 left_dropped s b (Some c) is = ap (λ (x : Bool). left_in (without b s) (cond x None (Some c))) is
 
-left_gone : (s : State) (b : ℕ) (o : Option ℕ) → holds o b ≡ true → left_in (without b s) (dropped o b) ≡ 0
+left_gone : (s : State) (b : ℕ) (o : Option ℕ) → is_open_block o b ≡ true → left_in (without b s) (open_without o b) ≡ 0
 left_gone s b None is = refl
 left_gone s b (Some c) is = ap (λ (x : Bool). left_in (without b s) (cond x None (Some c))) is
 
-pub not_holding : (o : Option ℕ) (b : ℕ) → ((c : ℕ) → o ≡ Some c → c ≢ b) → holds o b ≡ false
+pub not_holding : (o : Option ℕ) (b : ℕ) → ((c : ℕ) → o ≡ Some c → c ≢ b) → is_open_block o b ≡ false
 not_holding None b other = refl
 not_holding (Some c) b other = ne_eqb c b (other c refl)
 
 -- after the next page the stream has the block open or none
-gone_next : (s : State) (b next pages : ℕ) → left_in (without b s) (dropped (then_some (nat_lt next pages) b) b) ≡ 0
-gone_next s b next pages = elim (ltb next pages) as (λ v. left_in (without b s) (dropped (then_some v b) b) ≡ 0) [
+gone_next : (s : State) (b next pages : ℕ) → left_in (without b s) (open_without (then_some (nat_lt next pages) b) b) ≡ 0
+gone_next s b next pages = elim (ltb next pages) as (λ v. left_in (without b s) (open_without (then_some v b) b) ≡ 0) [
   | true ↦ left_gone s b (Some b) (eq-eqb b b refl)
   | false ↦ refl
 ]
@@ -243,7 +243,7 @@ free_after s b live within table fills =
 failed_cases : (left free free' : ℕ) (l P : ℕ) → ((0 < left) × (free' ≡ free) × (l + 1 ≡ left)) ⊎ ((left ≡ 0) × (free ≡ free' + 1) × (l + 1 ≡ P)) → ((0 < left) × (free' ≡ free)) ⊎ ((left ≡ 0) × (free ≡ free' + 1))
 failed_cases left free free' l P cases = elim cases [ inl c ↦ inl (c.0, c.1) | inr c ↦ inr (c.0, c.1) ]
 
-pub failed : FailedLaw
+pub failed : TakenRowFailedLaw
 failed free s Data b safe next =
     let f : Fill = record { pointer = pointer_at s b + 1; live = live_at s b } in
     let mid : State = taken Data b s in

@@ -4,9 +4,9 @@ use Rattle.page_layout.specs.declared.record.Record.{Record}
 use Rattle.page_layout.specs.Geometry.{need, vmax}
 use Rattle.page_layout.specs.Live.{live}
 use Rattle.bad_blocks.specs.Table.{good_count}
-use Rattle.budget.specs.Counts.{Counts, left_of, Fits, FailsOne}
+use Rattle.budget.specs.Counts.{Counts, left_of, FitsGoodBlocks, FailsOne}
 use Rattle.budget.specs.declared.stream.Stream.{Stream}
-use Rattle.allocation.specs.State.{State, pointer_at, live_at, free_count, IsSafe}
+use Rattle.allocation.specs.State.{State, pointer_at, live_at, free_count, AreBlocksSafe}
 use Rattle.allocation.specs.Step.{IsNextBlock, HasNone, taken, without, with_live}
 
 -- the erased pages of an open block
@@ -29,8 +29,8 @@ IsWorthCollecting s found = (marks : List (Option Record)) → IsLiveExact s mar
 -- ---- the laws
 
 -- a row was taken and its program failed
-abbrev pub FailedLaw : Type 0
-FailedLaw = (free : ℕ) (s : State) (stream : Stream) (block : ℕ) → IsSafe free s → IsNextBlock s stream block → FailsOne stream (counts_of s) (counts_of (without block (taken stream block s)))
+abbrev pub TakenRowFailedLaw : Type 0
+TakenRowFailedLaw = (free : ℕ) (s : State) (stream : Stream) (block : ℕ) → AreBlocksSafe free s → IsNextBlock s stream block → FailsOne stream (counts_of s) (counts_of (without block (taken stream block s)))
 
 -- there was no row to take
 abbrev pub NoneLaw : Type 0
@@ -38,8 +38,8 @@ NoneLaw = (s : State) (stream : Stream) → HasNone s stream → ((counts_of s).
 
 -- live pages are counted
 abbrev pub LiveLaw : Type 0
-LiveLaw = (free : ℕ) (s : State) (block live : ℕ) → block < s.geometry.blocks → IsSafe free s → counts_of (with_live block live s) ≡ counts_of s
+LiveLaw = (free : ℕ) (s : State) (block live : ℕ) → block < s.geometry.blocks → AreBlocksSafe free s → counts_of (with_live block live s) ≡ counts_of s
 
 -- free and open blocks are good, and an open block has a page programmed
 abbrev pub FitsLaw : Type 0
-FitsLaw = (free : ℕ) (s : State) → IsSafe free s → Fits s.geometry.pages (counts_of s)
+FitsLaw = (free : ℕ) (s : State) → AreBlocksSafe free s → FitsGoodBlocks s.geometry.pages (counts_of s)

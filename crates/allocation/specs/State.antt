@@ -39,13 +39,13 @@ open_of s Data = s.data_open
 open_of s Meta = s.meta_open
 
 -- whether an open block, if there is one, is this one
-abbrev pub holds : Option ℕ → ℕ → Bool
-holds None block = false
-holds (Some open_block) block = open_block == block
+abbrev pub is_open_block : Option ℕ → ℕ → Bool
+is_open_block None block = false
+is_open_block (Some open_block) block = open_block == block
 
 -- whether a stream has the block open
 abbrev pub is_open : State → ℕ → Bool
-is_open s block = holds s.data_open block || holds s.meta_open block
+is_open s block = is_open_block s.data_open block || is_open_block s.meta_open block
 
 -- a good block with no page programmed
 abbrev pub is_free : State → ℕ → Bool
@@ -67,7 +67,7 @@ pub record IsOpen (s : State) (block : ℕ) : Type 0 where
   pub room : pointer_at s block < s.geometry.pages
 
 -- true whatever the die does
-pub record IsSafe (free : ℕ) (s : State) : Type 0 where
+pub record AreBlocksSafe (free : ℕ) (s : State) : Type 0 where
   pub table_whole : length s.table ≡ s.geometry.blocks
   pub fills_whole : length s.fills ≡ s.geometry.blocks
   pub pointers : (block : ℕ) → block < s.geometry.blocks → pointer_at s block ≤ s.geometry.pages

@@ -5,7 +5,7 @@ use Rattle.bad_blocks.specs.Table.{is_good_at, wear_at, retired, erased_once}
 use Rattle.allocation.specs.declared.fill.Fill.{Fill}
 use Rattle.budget.specs.declared.stream.Stream.{Stream}
 use Rattle.budget.specs.declared.stream.Stream.TheVariants.{Data, Meta}
-use Rattle.allocation.specs.State.{State, pointer_at, live_at, open_of, holds, is_free, is_closed, free_count}
+use Rattle.allocation.specs.State.{State, pointer_at, live_at, open_of, is_open_block, is_free, is_closed, free_count}
 
 -- the first in the order of erase count, then number
 pub record ComesFirst (wear block other_wear other : ℕ) : Type 0 where
@@ -72,15 +72,15 @@ pub record HasNone (s : State) (stream : Stream) : Type 0 where
   pub none_free : free_count s ≡ 0
 
 -- the next row of the stream was taken
-pub record Takes (stream : Stream) (row : ℕ) (old new : State) : Type 0 where
+pub record TakesNextRow (stream : Stream) (row : ℕ) (old new : State) : Type 0 where
   pub block : ℕ
   pub next : IsNextBlock old stream block
   pub row_is : row ≡ block * old.geometry.pages + pointer_at old block
   pub left : new ≡ taken stream block old
 
 -- what is open is no longer so if it is this block
-abbrev pub dropped : Option ℕ → ℕ → Option ℕ
-dropped opened block = if holds opened block then None else opened
+abbrev pub open_without : Option ℕ → ℕ → Option ℕ
+open_without opened block = if is_open_block opened block then None else opened
 
 -- the block failed
 abbrev pub without : ℕ → State → State
@@ -88,8 +88,8 @@ without block s = record {
   geometry = s.geometry;
   table = retired s.table block;
   fills = s.fills;
-  data_open = dropped s.data_open block;
-  meta_open = dropped s.meta_open block;
+  data_open = open_without s.data_open block;
+  meta_open = open_without s.meta_open block;
 }
 
 -- the block was erased

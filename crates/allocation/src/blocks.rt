@@ -1,5 +1,5 @@
 //! The blocks of a die: their classes, how far each is filled, and which are open.
-ghost use Rattle.allocation.specs.State.{IsSafe};
+ghost use Rattle.allocation.specs.State.{AreBlocksSafe};
 
 use crate::begin::{begun_fills, begun_rows, count_free, first_data, first_meta};
 use crate::fill::Fill;
@@ -21,7 +21,7 @@ pub struct Blocks {
     pub(crate) free: u32,
     pub(crate) data_open: Option<u32>,
     pub(crate) meta_open: Option<u32>,
-    pub ghost safe: { IsSafe free (record { geometry = geometry; table = table; fills = fills.items; data_open = data_open; meta_open = meta_open }) },
+    pub ghost safe: { AreBlocksSafe free (record { geometry = geometry; table = table; fills = fills.items; data_open = data_open; meta_open = meta_open }) },
 }
 
 impl Blocks {

@@ -1,13 +1,13 @@
 //! What the argument on free blocks needs of the blocks.
-ghost use Rattle.allocation.specs.Counts.{FitsLaw, FailedLaw, NoneLaw, LiveLaw};
-ghost use Rattle.allocation.specs.Laws.{NextLaw, LastPageLaw, BadLaw, BadStaysLaw, FailedOthersLaw, ErasedOthersLaw, TakenOthersLaw, LiveOthersLaw};
+ghost use Rattle.allocation.specs.Counts.{FitsLaw, TakenRowFailedLaw, NoneLaw, LiveLaw};
+ghost use Rattle.allocation.specs.Laws.{NextLaw, LastPageLaw, BadLaw, TableKeepsBadLaw, FailedOthersLaw, ErasedOthersLaw, TakenOthersLaw, LiveOthersLaw};
 
 /// What the argument on free blocks needs of every state of the blocks: free and open blocks are
 /// good and an open one has a page programmed; a failing program costs a block that was open or
 /// free; where there is no row to take, none is; live pages are no part of it.
 pub fn count_laws()
     ensures fits { FitsLaw }
-    ensures failed { FailedLaw }
+    ensures failed { TakenRowFailedLaw }
     ensures none { NoneLaw }
     ensures live { LiveLaw }
 {}
@@ -19,7 +19,7 @@ pub fn block_laws()
     ensures next { NextLaw }
     ensures last_page { LastPageLaw }
     ensures bad { BadLaw }
-    ensures bad_stays { BadStaysLaw }
+    ensures bad_stays { TableKeepsBadLaw }
     ensures failed { FailedOthersLaw }
     ensures erased { ErasedOthersLaw }
     ensures taken { TakenOthersLaw }

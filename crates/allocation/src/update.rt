@@ -1,6 +1,6 @@
 //! A row is taken, a page becomes live or old, a block is retired or freed.
 ghost use Rattle.std.specs.Prelude.{◌≡◌};
-ghost use Rattle.allocation.specs.Step.{dropped};
+ghost use Rattle.allocation.specs.Step.{open_without};
 
 use crate::blocks::Blocks;
 use crate::fill::Fill;
@@ -8,7 +8,7 @@ use budget::Stream;
 
 // An open block, unless it is this one.
 fn other_than(block: u32, open: Option<u32>) -> Option<u32>
-    ensures { result ≡ dropped «open» block }
+    ensures { result ≡ open_without «open» block }
 {
     open.filter(|open| *open != block)
 }
@@ -19,7 +19,7 @@ impl Blocks {
     ghost use Rattle.bad_blocks.specs.Table.{is_good_at};
     ghost use Rattle.budget.specs.Counts.{TakesOne, Erased};
     ghost use Rattle.allocation.specs.State.{free_count, open_of, is_closed, live_at};
-    ghost use Rattle.allocation.specs.Step.{Takes, HasNone, IsNextBlock, taken, with_open, without, erased, with_live, most_live};
+    ghost use Rattle.allocation.specs.Step.{TakesNextRow, HasNone, IsNextBlock, taken, with_open, without, erased, with_live, most_live};
     ghost use Rattle.allocation.specs.Counts.{counts_of};
     ghost use Rattle.allocation.specs.View.{state};
 
@@ -59,7 +59,7 @@ impl Blocks {
     /// There is none where the stream has no block open and none is free; then nothing changes.
     pub fn take_row(&mut self, stream: Stream) -> Option<u32>
         ensures none { IfNone result (HasNone (state self.old) stream × (state self.new ≡ state self.old)) }
-        ensures some { IfSome result (λ row. Takes stream row (state self.old) (state self.new)) }
+        ensures some { IfSome result (λ row. TakesNextRow stream row (state self.old) (state self.new)) }
         ensures within { IfSome result (λ row. row < row_count (state self.old).geometry) }
         ensures counted { IfSome result (λ _. TakesOne stream (state self.old).geometry.pages
             (counts_of (state self.old)) (counts_of (state self.new))) }

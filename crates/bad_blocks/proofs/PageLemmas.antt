@@ -11,35 +11,35 @@ use Rattle.page_layout.specs.Word.{word_at}
 use Rattle.bad_blocks.specs.declared.class.Class.{Class}
 use Rattle.bad_blocks.specs.declared.class.Class.TheVariants.{Good, Factory, Grown}
 use Rattle.bad_blocks.specs.declared.table.TableRow.{TableRow}
-use Rattle.bad_blocks.specs.Table.{IsCounted, no_table_row, unworn}
+use Rattle.bad_blocks.specs.Table.{HasFittingWear, no_table_row, unworn}
 use Rattle.bad_blocks.specs.declared.table.page.TableFault.{TableFault}
-use Rattle.bad_blocks.specs.TablePage.{code_of, word_of, word_or_padding, table_word, table_bytes, IsTablePage, IsFirstWrong, is_right}
+use Rattle.bad_blocks.specs.TablePage.{code_of_class, word_of, word_or_padding, table_word, table_bytes, IsTablePage, IsFirstWrongWord, is_right}
 use Rattle.bad_blocks.proofs.WordLemmas.{length-words, words_spelled, words_spell}
 
-code_small : (class : Class) → code_of class < 3
+code_small : (class : Class) → code_of_class class < 3
 code_small Good = omega arith
 code_small Factory = omega arith
 code_small Grown = omega arith
 
-word_small : (row : TableRow) → IsCounted row → word_of row < 2 ^ 32 - 1
+word_small : (row : TableRow) → HasFittingWear row → word_of row < 2 ^ 32 - 1
 word_small row counted = omega (arith, code_small row.class, counted.most)
 
-row_or_padding_small : (row : Option TableRow) → ((r : TableRow) → row ≡ Some r → IsCounted r) → word_or_padding row < 2 ^ 32
+row_or_padding_small : (row : Option TableRow) → ((r : TableRow) → row ≡ Some r → HasFittingWear r) → word_or_padding row < 2 ^ 32
 row_or_padding_small None counted = omega arith
 row_or_padding_small (Some r) counted = omega (arith, word_small r (counted r refl))
 
-row_counted : (rows : List TableRow) (b : ℕ) (r : TableRow) → All IsCounted rows → slice_get rows b ≡ Some r → IsCounted r
+row_counted : (rows : List TableRow) (b : ℕ) (r : TableRow) → All HasFittingWear rows → slice_get rows b ≡ Some r → HasFittingWear r
 row_counted rows b r counted is =
     let e : get_or rows b r ≡ r = get_or_from_slice_get rows b r r is in
-    let P : TableRow → Type 0 = λ x. IsCounted x in
+    let P : TableRow → Type 0 = λ x. HasFittingWear x in
     subst P e (counted b r (slice_get_within rows b r is))
 
-table_word_small : (rows : List TableRow) (b : ℕ) → All IsCounted rows → table_word rows b < 2 ^ 32
+table_word_small : (rows : List TableRow) (b : ℕ) → All HasFittingWear rows → table_word rows b < 2 ^ 32
 table_word_small rows b counted = row_or_padding_small (slice_get rows b) (λ r is. row_counted rows b r counted is)
 
 -- the counts of blocks that were never erased
-pub unworn_counted : (classes : List Class) → All IsCounted (unworn classes)
-unworn_counted classes = All-map IsCounted never_erased classes (λ k d l. record { most = omega arith })
+pub unworn_counted : (classes : List Class) → All HasFittingWear (unworn classes)
+unworn_counted classes = All-map HasFittingWear never_erased classes (λ k d l. record { most = omega arith })
   where
     never_erased : Class → TableRow
     never_erased class = record { class = class; wear = 0 }
@@ -53,7 +53,7 @@ length-words_of entries rows u = length-map-range_with_len (table_word rows) (u 
 get_or-words_of : (entries : ℕ) (rows : List TableRow) (u i : ℕ) → i < entries → get_or (words_of entries rows u) i 0 ≡ table_word rows (u * entries + i)
 get_or-words_of entries rows u i l = get_or-map-range_with_len (table_word rows) (u * entries) entries i (u * entries + i) 0 l refl
 
-words_of_small : (entries : ℕ) (rows : List TableRow) (u : ℕ) → All IsCounted rows → (k : ℕ) → get_or (words_of entries rows u) k 0 < 2 ^ 32
+words_of_small : (entries : ℕ) (rows : List TableRow) (u : ℕ) → All HasFittingWear rows → (k : ℕ) → get_or (words_of entries rows u) k 0 < 2 ^ 32
 words_of_small entries rows u counted k = elim (cases_lt k entries) [
   | inl l ↦ rw (get_or-words_of entries rows u k l) (table_word_small rows (u * entries + k) counted)
   | inr ge ↦
@@ -68,7 +68,7 @@ unfolding table_bytes
 length-table_bytes entries u rows = length-words (words_of entries rows u) ∙ ap (λ n. 4 * n) (length-words_of entries rows u)
 
 -- the bytes are the page, word by word
-pub table_bytes_page : (entries : ℕ) (rows : List TableRow) (u : ℕ) → All IsCounted rows → IsTablePage entries rows u (table_bytes entries rows u)
+pub table_bytes_page : (entries : ℕ) (rows : List TableRow) (u : ℕ) → All HasFittingWear rows → IsTablePage entries rows u (table_bytes entries rows u)
 unfolding table_bytes
 table_bytes_page entries rows u counted = record {
   whole = length-table_bytes entries u rows;
@@ -91,13 +91,13 @@ word_of_same a b e =
     let la = code_small a.class in
     let lb = code_small b.class in
     let wear : a.wear ≡ b.wear = omega arith in
-    let code : code_of a.class ≡ code_of b.class = omega arith in
+    let code : code_of_class a.class ≡ code_of_class b.class = omega arith in
     let class : a.class ≡ b.class = same_class a.class b.class code in
     let of_class : Class → TableRow = λ c. record { class = c; wear = a.wear } in
     let of_wear : ℕ → TableRow = λ w. record { class = b.class; wear = w } in
     ap of_class class ∙ ap of_wear wear
   where
-    same_class : (x y : Class) → code_of x ≡ code_of y → x ≡ y
+    same_class : (x y : Class) → code_of_class x ≡ code_of_class y → x ≡ y
     same_class Good Good h = refl
     same_class Factory Factory h = refl
     same_class Grown Grown h = refl
@@ -108,7 +108,7 @@ word_of_same a b e =
     same_class Grown Good h = absurd (omega arith)
     same_class Grown Factory h = absurd (omega arith)
 
-pub table_rows_same : (entries u : ℕ) (rows others : List TableRow) → All IsCounted rows → All IsCounted others → length rows ≡ length others → table_bytes entries rows u ≡ table_bytes entries others u
+pub table_rows_same : (entries u : ℕ) (rows others : List TableRow) → All HasFittingWear rows → All HasFittingWear others → length rows ≡ length others → table_bytes entries rows u ≡ table_bytes entries others u
     → (b : ℕ) → u * entries ≤ b → b < u * entries + entries → slice_get rows b ≡ slice_get others b
 table_rows_same entries u rows others ca co n same b low high =
     let i : ℕ = b - u * entries in
@@ -139,7 +139,7 @@ right_word rows b = elim (cases_lt b (length rows)) [
   | inr past ↦ rw (slice_get_past rows b past, le-ltb b (length rows) past) refl
 ]
 
-pub page_not_wrong : (entries blocks u : ℕ) (rows : List TableRow) (bytes : List ℕ) (fault : TableFault) → length rows ≡ blocks → All IsCounted rows → bytes ≡ table_bytes entries rows u → IsFirstWrong entries blocks u bytes fault → ⊥
+pub page_not_wrong : (entries blocks u : ℕ) (rows : List TableRow) (bytes : List ℕ) (fault : TableFault) → length rows ≡ blocks → All HasFittingWear rows → bytes ≡ table_bytes entries rows u → IsFirstWrongWord entries blocks u bytes fault → ⊥
 page_not_wrong entries blocks u rows bytes fault n counted same wrong =
     let word : word_at bytes (4 * wrong.place) ≡ table_word rows (u * entries + wrong.place) =
     ap (λ (x : List ℕ). word_at x (4 * wrong.place)) same ∙ (table_bytes_page entries rows u counted).words wrong.place wrong.within in

@@ -6,7 +6,7 @@ use Rattle.std.proofs.lemmas.Bool.{cases_order, lt-ltb, le-ltb, eqb-true}
 use Rattle.std.proofs.lemmas.Option.{slice_get_past}
 use Rattle.page_layout.specs.Word.{word_at}
 use Rattle.bad_blocks.specs.declared.table.TableRow.{TableRow}
-use Rattle.bad_blocks.specs.Table.{IsCounted}
+use Rattle.bad_blocks.specs.Table.{HasFittingWear}
 use Rattle.bad_blocks.specs.TablePage.{word_of, table_word, is_right, padding, IsWellFormed, KeepsOthers}
 
 pub slice_get-set_same : {X : Type 0} (xs : List X) (i : ℕ) (x : X) → i < length xs → slice_get (set xs i x) i ≡ Some x
@@ -25,9 +25,9 @@ slice_get-set_other (y ∷ xs) (suc i) (suc j) x ne = slice_get-set_other xs i j
 pub record IsReadTo (entries u i : ℕ) (bytes : List ℕ) (old rows : List TableRow) : Type 0 where
   pub read : (k : ℕ) → k < i → word_at bytes (4 * k) ≡ table_word rows (u * entries + k)
   pub others : KeepsOthers entries u old rows
-  pub counted : All IsCounted rows
+  pub counted : All HasFittingWear rows
 
-pub none_read : (entries u : ℕ) (bytes : List ℕ) (rows : List TableRow) → All IsCounted rows → IsReadTo entries u 0 bytes rows rows
+pub none_read : (entries u : ℕ) (bytes : List ℕ) (rows : List TableRow) → All HasFittingWear rows → IsReadTo entries u 0 bytes rows rows
 none_read entries u bytes rows counted = record {
   read = λ k l. absurd (omega arith);
   others = record { length_same = refl; others = λ b h. refl };
@@ -35,7 +35,7 @@ none_read entries u bytes rows counted = record {
 }
 
 pub one_read : (entries u i b : ℕ) (bytes : List ℕ) (old rows : List TableRow) (row : TableRow) → IsReadTo entries u i bytes old rows
-    → b ≡ u * entries + i → i < entries → b < length rows → word_of row ≡ word_at bytes (4 * i) → IsCounted row
+    → b ≡ u * entries + i → i < entries → b < length rows → word_of row ≡ word_at bytes (4 * i) → HasFittingWear row
     → IsReadTo entries u (i + 1) bytes old (set rows b row)
 one_read entries u i b bytes old rows row h at within in_rows is row_counted = record {
   read = λ k l. elim (cases_order k i) [
@@ -47,7 +47,7 @@ one_read entries u i b bytes old rows row h at within in_rows is row_counted = r
     length_same = length-set rows b row ∙ h.others.length_same;
     others = λ c apart. let ne : c ≢ b = omega arith in slice_get-set_other rows b c row ne ∙ h.others.others c apart;
   };
-  counted = All-set IsCounted rows b row row_counted h.counted;
+  counted = All-set HasFittingWear rows b row row_counted h.counted;
 }
 
 -- a right word past the last block is padding

@@ -9,7 +9,7 @@ abbrev pub most_wear : ℕ
 most_wear = 16777215
 
 -- the erase count has its three bytes
-pub record IsCounted (row : TableRow) : Type 0 where
+pub record HasFittingWear (row : TableRow) : Type 0 where
   pub most : row.wear ≤ most_wear
 
 -- what a block past the end counts as

@@ -11,14 +11,14 @@ use Rattle.bad_blocks.specs.declared.table.TableRow.{TableRow}
 use Rattle.bad_blocks.specs.declared.table.page.TableFault.{TableFault}
 use Rattle.bad_blocks.specs.declared.table.page.TableFault.TheVariants.{BadClass, BadPadding}
 
-abbrev pub code_of : Class → ℕ
-code_of Good = 0
-code_of Factory = 1
-code_of Grown = 2
+abbrev pub code_of_class : Class → ℕ
+code_of_class Good = 0
+code_of_class Factory = 1
+code_of_class Grown = 2
 
 -- the word of a block
 abbrev pub word_of : TableRow → ℕ
-word_of row = code_of row.class + 256 * row.wear
+word_of row = code_of_class row.class + 256 * row.wear
 
 abbrev pub padding : ℕ
 padding = 0xffff_ffff
@@ -59,7 +59,7 @@ pub record IsWellFormed (entries blocks u : ℕ) (bytes : List ℕ) : Type 0 whe
   pub right : (i : ℕ) → i < entries → is_right blocks (u * entries + i) (word_at bytes (4 * i)) ≡ true
 
 -- the lowest wrong word of table page u, and what is wrong with it
-pub record IsFirstWrong (entries blocks u : ℕ) (bytes : List ℕ) (fault : TableFault) : Type 0 where
+pub record IsFirstWrongWord (entries blocks u : ℕ) (bytes : List ℕ) (fault : TableFault) : Type 0 where
   pub place : ℕ
   pub within : place < entries
   pub wrong : is_right blocks (u * entries + place) (word_at bytes (4 * place)) ≡ false

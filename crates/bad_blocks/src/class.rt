@@ -1,6 +1,6 @@
 //! What is known of a block.
 ghost use Rattle.std.specs.Prelude.{◌≡◌, ◌<◌};
-ghost use Rattle.bad_blocks.specs.TablePage.{code_of};
+ghost use Rattle.bad_blocks.specs.TablePage.{code_of_class};
 
 /// What is known of a block (this project).
 #[derive(Clone, Copy, Debug, PartialEq, Eq)]
@@ -15,7 +15,7 @@ pub enum Class {
 
 impl Class {
     pub(crate) fn code(self) -> u8
-        ensures is { result ≡ code_of self }
+        ensures is { result ≡ code_of_class self }
         ensures small { result < 3 }
     {
         match self {

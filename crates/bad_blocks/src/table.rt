@@ -1,6 +1,6 @@
 //! The table of blocks: the class and the erase count of each.
 ghost use Rattle.std.specs.Prelude.{◌≡◌, ◌≢◌, ◌+◌, ◌<◌, ◌≤◌, ◌^◌, All, IfOk, length};
-ghost use Rattle.bad_blocks.specs.Table.{class_at, wear_at, good_count, most_wear, retired, erased_once, IsCounted};
+ghost use Rattle.bad_blocks.specs.Table.{class_at, wear_at, good_count, most_wear, retired, erased_once, HasFittingWear};
 
 pub mod page;
 
@@ -32,13 +32,13 @@ pub struct Table {
 impl Model for Table {
     ghost use Rattle.std.specs.Prelude.{◌≡◌, ◌<◌, ◌^◌, List, length, All};
     ghost use Rattle.bad_blocks.specs.declared.table.TableRow.{TableRow};
-    ghost use Rattle.bad_blocks.specs.Table.{good_count, IsCounted};
+    ghost use Rattle.bad_blocks.specs.Table.{good_count, HasFittingWear};
 
     ghost Value = { List TableRow };
 
     ghost view = { λ t. t.rows.items };
 
-    ghost invariant = { λ t. (t.good ≡ good_count t.rows.items) × (length t.rows.items < 2 ^ 32) × All IsCounted t.rows.items };
+    ghost invariant = { λ t. (t.good ≡ good_count t.rows.items) × (length t.rows.items < 2 ^ 32) × All HasFittingWear t.rows.items };
 }
 
 fn count_good(rows: &[TableRow]) -> u32
@@ -52,7 +52,7 @@ impl Table {
     /// A table with these rows, whose erase counts are at most 16777215. This call alone takes memory.
     pub fn new(alloc: Global, rows: &[TableRow]) -> Result<Table, AllocError>
         requires few { length rows.now < 2 ^ 32 }
-        requires counted { All IsCounted rows.now }
+        requires counted { All HasFittingWear rows.now }
         ensures { IfOk result (λ table. table ≡ rows.now) }
     {
         Ok(Table {

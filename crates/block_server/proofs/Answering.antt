@@ -3,7 +3,7 @@ use Rattle.std.proofs.Common.{◌≡◌, ℕ, List, [], Option, Some, None, Resu
 use Rattle.std.specs.Io.KnownBytes.{Appends}
 use Rattle.page_layout.specs.View.{View}
 use Rattle.page_layout.specs.declared.geometry.Geometry.{Geometry}
-use Rattle.promises.specs.Stream.{IsRequest, IsBeginning, command_by, command_of, status_of, reply_body, reply_bytes}
+use Rattle.promises.specs.Stream.{IsRequest, IsBeginning, command_by, command_of, reply_status, reply_body, reply_bytes}
 use Rattle.promises.specs.declared.stream.Op.{Op}
 use Rattle.promises.specs.declared.stream.Op.TheVariants.{Read, Write, Trim, Flush, Turn}
 use Rattle.promises.specs.declared.stream.End.{End}
@@ -16,19 +16,19 @@ use Rattle.command_queue.specs.declared.command.Command.{Command}
 use Rattle.command_queue.specs.declared.command.Command.TheVariants as told
 use Rattle.ftl_device.specs.declared.fault.DeviceFault.{DeviceFault}
 use Rattle.ftl_device.specs.declared.fault.DeviceFault.TheVariants.{OutOfRange, ReadOnly, SequenceSpent, OutOfMemory, Damaged, BusFault}
-use Rattle.ftl_device.specs.Calls.{reply_of, read_reply_of, number_of}
-use Rattle.command_queue.specs.Commands.{HasRoom}
-use Rattle.command_queue.specs.Exchanges.{Exchange, reply_in, answer_to}
+use Rattle.ftl_device.specs.Calls.{reply_of, read_reply_of, device_fault_number}
+use Rattle.command_queue.specs.Commands.{HasDataArea}
+use Rattle.command_queue.specs.Exchanges.{Exchange, reply_in, reply_to_command}
 use Rattle.command_queue.specs.Tells.{Tells}
-use Rattle.block_server.specs.Session.{AnswersRequest, HasServed, ServesNext, IsBodyOf}
+use Rattle.block_server.specs.Session.{AnswersRequest, HasServed, ServesNextCommand, IsWriteBody}
 
 -- ---- statuses and sectors
 
 abbrev pub status_by : Result (Unit {0}) DeviceFault → ℕ
 status_by (Ok done) = 0
-status_by (Err fault) = number_of fault
+status_by (Err fault) = device_fault_number fault
 
-fault_status : (result : Result (Unit {0}) DeviceFault) → status_of (reply_of result) ≡ status_by result
+fault_status : (result : Result (Unit {0}) DeviceFault) → reply_status (reply_of result) ≡ status_by result
 fault_status (Ok done) = refl
 fault_status (Err OutOfRange) = refl
 fault_status (Err (ReadOnly good wanted failed)) = refl
@@ -37,7 +37,7 @@ fault_status (Err OutOfMemory) = refl
 fault_status (Err Damaged) = refl
 fault_status (Err BusFault) = refl
 
-read_status : (bytes : List ℕ) (result : Result (Unit {0}) DeviceFault) → status_of (read_reply_of bytes result) ≡ status_by result
+read_status : (bytes : List ℕ) (result : Result (Unit {0}) DeviceFault) → reply_status (read_reply_of bytes result) ≡ status_by result
 read_status bytes (Ok done) = refl
 read_status bytes (Err OutOfRange) = refl
 read_status bytes (Err (ReadOnly good wanted failed)) = refl
@@ -46,7 +46,7 @@ read_status bytes (Err OutOfMemory) = refl
 read_status bytes (Err Damaged) = refl
 read_status bytes (Err BusFault) = refl
 
-pub status_at : (op : Op) (sector : ℕ) (body bytes : List ℕ) (result : Result (Unit {0}) DeviceFault) → status_of (answer_to (command_by op sector body) bytes result) ≡ status_by result
+pub status_at : (op : Op) (sector : ℕ) (body bytes : List ℕ) (result : Result (Unit {0}) DeviceFault) → reply_status (reply_to_command (command_by op sector body) bytes result) ≡ status_by result
 status_at Read sector body bytes result = read_status bytes result
 status_at Write sector body bytes result = fault_status result
 status_at Trim sector body bytes result = fault_status result
@@ -79,7 +79,7 @@ given_by Trim result bytes = []
 given_by Flush result bytes = []
 given_by Turn result bytes = []
 
-pub body_is : (op : Op) (sector : ℕ) (body bytes : List ℕ) (result : Result (Unit {0}) DeviceFault) → given_by op result bytes ≡ reply_body (answer_to (command_by op sector body) bytes result)
+pub body_is : (op : Op) (sector : ℕ) (body bytes : List ℕ) (result : Result (Unit {0}) DeviceFault) → given_by op result bytes ≡ reply_body (reply_to_command (command_by op sector body) bytes result)
 body_is Read sector body bytes (Ok done) = refl
 body_is Read sector body bytes (Err fault) = sym (refused_body bytes fault)
 body_is Write sector body bytes result = sym (no_body result)
@@ -87,7 +87,7 @@ body_is Trim sector body bytes result = sym (no_body result)
 body_is Flush sector body bytes result = sym (no_body result)
 body_is Turn sector body bytes result = sym (no_body result)
 
-pub room_of : (g : Geometry) (body bytes : List ℕ) (command : Command) → IsBodyOf body command → length body ≡ g.data_bytes → length bytes ≡ g.data_bytes → HasRoom g command bytes
+pub room_of : (g : Geometry) (body bytes : List ℕ) (command : Command) → IsWriteBody body command → length body ≡ g.data_bytes → length bytes ≡ g.data_bytes → HasDataArea g command bytes
 room_of g body bytes (told.Read sector) is size room = room
 room_of g body bytes (told.Write sector b) is size room = ap length is ∙ size
 room_of g body bytes (told.Trim sector) is size room = tt
@@ -113,17 +113,17 @@ module _ {N : Type 0} (view : View N) (old new : Device N) (u v b a : Option (Li
 
   pub next_served : (h : Header) (done : Unit {0}) → ReadsRequest (length buffer) u v buffer (Ok (next.Whole h))
       → AnswersRequest view old new (request_at h buffer) b a (Ok done)
-      → ServesNext view old new u v b a (Ok None)
+      → ServesNextCommand view old new u v b a (Ok None)
   next_served h done read answers = served h (Appends b a) answers.exchange read answers.command_is answers.tells answers.sends
 
-  pub next_unsent : (h : Header) (e : ServeFault) → ReadsRequest (length buffer) u v buffer (Ok (next.Whole h)) → AnswersRequest view old new (request_at h buffer) b a (Err e) → ServesNext view old new u v b a (Err e)
+  pub next_unsent : (h : Header) (e : ServeFault) → ReadsRequest (length buffer) u v buffer (Ok (next.Whole h)) → AnswersRequest view old new (request_at h buffer) b a (Err e) → ServesNextCommand view old new u v b a (Err e)
   next_unsent h e read answers =
-      subst (λ k. ServesNext view old new u v b a (Err k)) (sym answers.sends.0) (served h (AppendsFront b a) answers.exchange read answers.command_is answers.tells answers.sends.1)
+      subst (λ k. ServesNextCommand view old new u v b a (Err k)) (sym answers.sends.0) (served h (AppendsFront b a) answers.exchange read answers.command_is answers.tells answers.sends.1)
 
 module _ {N : Type 0} (view : View N) (old : Device N) (u v b : Option (List ℕ)) (buffer : List ℕ) (size : length buffer ≡ old.engine.geometry.data_bytes) where
-  pub next_ended : (end : End) → ReadsRequest (length buffer) u v buffer (Ok (next.Ended end)) → ServesNext view old old u v b b (Ok (Some end))
+  pub next_ended : (end : End) → ReadsRequest (length buffer) u v buffer (Ok (next.Ended end)) → ServesNextCommand view old old u v b b (Ok (Some end))
   next_ended end (tail, rests, read) = record { tail = tail; is = subst (λ k. Rests k end tail v) size rests; read = read; same = refl; kept = refl }
 
-  pub next_unread : (e : ServeFault) → ReadsRequest (length buffer) u v buffer (Err e) → ServesNext view old old u v b b (Err e)
+  pub next_unread : (e : ServeFault) → ReadsRequest (length buffer) u v buffer (Err e) → ServesNextCommand view old old u v b b (Err e)
   next_unread e (is, tail, begins, read) =
-      subst (λ k. ServesNext view old old u v b b (Err k)) (sym is) (record { tail = tail; is = subst (λ k. IsBeginning k tail) size begins; read = read; same = refl; kept = refl })
+      subst (λ k. ServesNextCommand view old old u v b b (Err k)) (sym is) (record { tail = tail; is = subst (λ k. IsBeginning k tail) size begins; read = read; same = refl; kept = refl })

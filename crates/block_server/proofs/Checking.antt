@@ -33,7 +33,7 @@ use Rattle.command_queue.proofs.AcceptedLemmas.{started_well, ran_accepted, ran_
 use Rattle.command_queue.proofs.ToldLemmas.{until_so, fault_rose}
 use Rattle.block_server.specs.declared.server.Served.{Served}
 use Rattle.block_server.specs.Session.{Session, ServesRequests}
-use Rattle.block_server.specs.Checked.{HoldsTo, HasBusFailed, IsBegun, IsServed}
+use Rattle.block_server.specs.Checked.{HoldsTo, HasBusFailed, IsBegunFromClaim, IsServed}
 
 -- what was accepted for the image before the reads is so for that after them
 pub accepted_for : (s t : Flash) (g : Geometry) (capacity : ℕ) (c : Claim) (a : Acceptance) → t ≡ s → s.geometry ≡ g → IsImage g s.image → IsAcceptance g capacity s.image c a → IsAcceptedFor t a
@@ -130,7 +130,7 @@ module _ {N : Type 0} (view : View N) (nand checked given : N) (g : Geometry) (s
     has_failed x f known bus tells = record { tells = tells; rose = fault_rose view e f x tells (runs_to.0.going (ap (λ (r : Ram). stop_of r.fault) begun) known) bus }
 
   -- the device as it was started
-  pub is_begun : IsBegun view nand g share c d
+  pub is_begun : IsBegunFromClaim view nand g share c d
   is_begun = record {
     device = device;
     stale = a.stale;

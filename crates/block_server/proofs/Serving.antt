@@ -14,7 +14,7 @@ use Rattle.promises.specs.declared.stream.End.TheVariants.{Boundary, Unfinished,
 use Rattle.promises.proofs.StreamLemmas.{replies_join}
 use Rattle.request_stream.specs.declared.reply.ServeFault.{ServeFault}
 use Rattle.request_stream.specs.declared.reply.ServeFault.TheVariants as fault
-use Rattle.request_stream.specs.Frames.{Rests, AppendsFront, last_count}
+use Rattle.request_stream.specs.Frames.{AppendsFront, known_bytes_left, last_count, Rests}
 use Rattle.request_stream.proofs.Writing.{front_more}
 use Rattle.ftl_device.specs.declared.device.Device.{Device}
 use Rattle.ftl_device.specs.Device.{IsDevice}
@@ -22,7 +22,7 @@ use Rattle.command_queue.specs.Exchanges.{Exchange, reply_in, commands_in, repli
 use Rattle.command_queue.specs.Told.{WasTold}
 use Rattle.command_queue.proofs.ToldLemmas.{all_more, told_none, told_more}
 use Rattle.block_server.specs.declared.server.Served.{Served}
-use Rattle.block_server.specs.Session.{ReadsRequests, Session, HasServed, HasNone, ServesNext, left_of}
+use Rattle.block_server.specs.Session.{ReadsRequests, Session, HasServed, HasToldNoCommand, ServesNextCommand}
 
 abbrev failure : ServeFault → Result Served ServeFault
 failure e = Err e
@@ -105,7 +105,7 @@ module _ {N : Type 0} (view : View N) (old : Device N) where
     told_so new same = subst (λ d. WasTold view old so_far.exchanges d) (sym same) so_far.told
 
     -- a reply could not be written, or a read failed
-    pub stopped : (new : Device N) (w a : Option (List ℕ)) (e : ServeFault) → ServesNext view mid new v w c a (Err e) → Session view old new u w b a (Err e)
+    pub stopped : (new : Device N) (w a : Option (List ℕ)) (e : ServeFault) → ServesNextCommand view mid new v w c a (Err e) → Session view old new u w b a (Err e)
     stopped new w a fault.Read one = record {
       requests = so_far.requests;
       exchanges = so_far.exchanges;
@@ -133,7 +133,7 @@ module _ {N : Type 0} (view : View N) (old : Device N) where
       stream = ([], so_far.read, inl (lit< tt), so_far.written);
     }
 
-    module _ (new : Device N) (w d a : Option (List ℕ)) (end : End) (none : HasNone mid new v w c d (λ tail. Rests mid.engine.geometry.data_bytes end tail w)) where
+    module _ (new : Device N) (w d a : Option (List ℕ)) (end : End) (none : HasToldNoCommand mid new v w c d (λ tail. Rests mid.engine.geometry.data_bytes end tail w)) where
       rests : Rests old.engine.geometry.data_bytes end none.tail w
       rests = subst (λ k. Rests k end none.tail w) size_is none.is
 
@@ -146,7 +146,7 @@ module _ {N : Type 0} (view : View N) (old : Device N) where
 
       splits_so : (all w' : Option (List ℕ)) (tail : List ℕ) → ReadsRequests old.engine.geometry.data_bytes all w' so_far.requests tail
           → Rests old.engine.geometry.data_bytes end tail w'
-          → IfSome all (λ input. Splits old.engine.geometry.data_bytes input so_far.requests end (tail ++ left_of w'))
+          → IfSome all (λ input. Splits old.engine.geometry.data_bytes input so_far.requests end (tail ++ known_bytes_left w'))
       splits_so None w' tail reads rest = tt
       splits_so (Some input) None tail reads rest = absurd reads.bytes
       splits_so (Some input) (Some left) tail reads rest = record {
@@ -186,7 +186,7 @@ module _ {N : Type 0} (view : View N) (old : Device N) where
 
 -- the next request wants no memory
 pub never_next : {N : Type 0} (view : View N) (old new : Device N)
-    (u v b a : Option (List ℕ)) (e : ServeFault) → ServesNext view old new u v b a (Err e)
+    (u v b a : Option (List ℕ)) (e : ServeFault) → ServesNextCommand view old new u v b a (Err e)
     → failure e ≢ failure fault.OutOfMemory
 never_next view old new u v b a fault.Read one is = (let no : ⊥ = cc in no)
 never_next view old new u v b a fault.Write one is = (let no : ⊥ = cc in no)

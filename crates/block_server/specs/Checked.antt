@@ -62,7 +62,7 @@ pub record HasBusFailed {N : Type 0} (view : View N) (old : Device N) (x : Excha
 
 -- a device that `start_at` begins at this share from the certificate that was accepted, over a die that is as honest as it was and tells the same record: nothing is
 -- pinned, and no fault stands
-pub record IsBegun {N : Type 0} (view : View N) (nand : N) (g : Geometry) (share : ℕ) (c : Claim) (first : Device N) : Type 0 where
+pub record IsBegunFromClaim {N : Type 0} (view : View N) (nand : N) (g : Geometry) (share : ℕ) (c : Claim) (first : Device N) : Type 0 where
   pub device : IsDevice view.flash first
   pub stale : List ℕ
   pub begun : ram first.engine ≡ begun_ram g share c stale
@@ -94,13 +94,13 @@ pub record IsServed {N : Type 0} (view : View N) (nand : N)
   pub rose : AreKnown exchanges ⊎ HasRisen (view.failed nand) (view.failed given)
   pub first : Device N
   pub last : Device N
-  pub begun : IsBegun view nand g share c first
+  pub begun : IsBegunFromClaim view nand g share c first
   pub each : ToldEach view first exchanges last
   pub given_is : given ≡ last.engine.nand
   pub headline : Until (HoldsTo view nand g share capacity c first) (HasBusFailed view) exchanges last
 
 -- nothing was read or written
-pub record IsUntouched (unread left before after : Option (List ℕ)) : Type 0 where
+pub record AreStreamsUntouched (unread left before after : Option (List ℕ)) : Type 0 where
   pub read : Keeps unread left
   pub written : Keeps before after
 
@@ -120,6 +120,6 @@ pub record IsRunUnstarted {N : Type 0} (view : View N) (nand : N) (g : Geometry)
 -- why requests were not served to their end
 abbrev pub FailsToServe : {N : Type 0} → (view : View N) → N → Geometry → (share capacity : ℕ)
     → Claim → (unread left before after : Option (List ℕ)) → RunFault N → Type 0
-FailsToServe view nand g share capacity c unread left before after (Refused why given) = IsUntouched unread left before after × IsUnaccepted view nand g capacity c why given
-FailsToServe view nand g share capacity c unread left before after (Start given) = IsUntouched unread left before after × IsRunUnstarted view nand g capacity c given
+FailsToServe view nand g share capacity c unread left before after (Refused why given) = AreStreamsUntouched unread left before after × IsUnaccepted view nand g capacity c why given
+FailsToServe view nand g share capacity c unread left before after (Start given) = AreStreamsUntouched unread left before after × IsRunUnstarted view nand g capacity c given
 FailsToServe view nand g share capacity c unread left before after (Serve stop given) = IsServed view nand g share capacity c unread left before after (Err stop) given

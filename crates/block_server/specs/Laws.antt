@@ -25,7 +25,7 @@ use Rattle.command_queue.specs.Exchanges.{Exchange, commands_in, replies_in, Are
 use Rattle.command_queue.specs.Tells.{ToldEach}
 use Rattle.command_queue.specs.Run.{accepted_device}
 use Rattle.block_server.specs.declared.server.Served.{Served}
-use Rattle.block_server.specs.Checked.{Headline, HeadlineHolds, HasBusFailed, IsBegun, IsHandedBack, IsServed, IsUnaccepted, IsRunUnstarted}
+use Rattle.block_server.specs.Checked.{Headline, HeadlineHolds, HasBusFailed, IsBegunFromClaim, IsHandedBack, IsServed, IsUnaccepted, IsRunUnstarted}
 
 -- ---- of the headline
 
@@ -57,22 +57,22 @@ HeadlineOnceLaw = (g : Geometry) (share capacity : ℕ) (c : Claim) (s t : Flash
 
 -- over an honest die the device begins with the pages that were handed in, knows just the stale sectors of that image, and tells the same record
 abbrev pub BegunImageLaw : {N : Type 0} → View N → Type 0
-BegunImageLaw {N} view = (nand : N) (g : Geometry) (share : ℕ) (c : Claim) (first : Device N) → IsBegun view nand g share c first
+BegunImageLaw {N} view = (nand : N) (g : Geometry) (share : ℕ) (c : Claim) (first : Device N) → IsBegunFromClaim view nand g share c first
     → view.honest nand ≡ true → (view.flash first.engine.nand ≡ view.flash nand) × (ram first.engine ≡ begun_ram g share c (stale_sectors g (view.flash nand).image))
 
 abbrev pub BegunRecordLaw : {N : Type 0} → View N → Type 0
-BegunRecordLaw {N} view = (nand : N) (g : Geometry) (share : ℕ) (c : Claim) (first : Device N) → IsBegun view nand g share c first
+BegunRecordLaw {N} view = (nand : N) (g : Geometry) (share : ℕ) (c : Claim) (first : Device N) → IsBegunFromClaim view nand g share c first
     → view.honest nand ≡ true → view.recorded first.engine.nand ≡ view.recorded nand
 
 -- whatever the die is, it is as honest as it was handed in, and its count of failures is no lower
 abbrev pub BegunCountsLaw : {N : Type 0} → View N → Type 0
-BegunCountsLaw {N} view = (nand : N) (g : Geometry) (share : ℕ) (c : Claim) (first : Device N) → IsBegun view nand g share c first
+BegunCountsLaw {N} view = (nand : N) (g : Geometry) (share : ℕ) (c : Claim) (first : Device N) → IsBegunFromClaim view nand g share c first
     → (view.honest first.engine.nand ≡ view.honest nand) × (view.failed nand ≤ view.failed first.engine.nand)
 
 -- THE RECORD OF WHAT WAS SERVED: what an honest die tells afterwards is what it told as it was handed in, with the log of the run, unless the record has ended
 abbrev pub ServedRecordLaw : {N : Type 0} → (view : View N) → Type 0
 ServedRecordLaw {N} view = (nand : N) (g : Geometry) (share capacity : ℕ) (c : Claim) (first new : Device N) (xs : List Exchange)
-    → IsBegun view nand g share c first → view.honest nand ≡ true → (h : HeadlineHolds view g share capacity c (view.flash nand) first xs new)
+    → IsBegunFromClaim view nand g share c first → view.honest nand ≡ true → (h : HeadlineHolds view g share capacity c (view.flash nand) first xs new)
     → Records (view.recorded nand) (log_of h.headline.run.events) (view.recorded new.engine.nand)
 
 -- ---- of the call that the bus failed in

@@ -9,7 +9,7 @@ use Rattle.promises.specs.declared.stream.End.{End}
 use Rattle.promises.specs.declared.stream.End.TheVariants.{BadFrame}
 use Rattle.request_stream.specs.declared.reply.ServeFault.{ServeFault}
 use Rattle.request_stream.specs.declared.reply.ServeFault.TheVariants as fault
-use Rattle.request_stream.specs.Frames.{Rests, AppendsFront, SendsBytes, last_count}
+use Rattle.request_stream.specs.Frames.{AppendsFront, known_bytes_left, last_count, Rests, SendsBytes}
 use Rattle.ftl_device.specs.declared.device.Device.{Device}
 use Rattle.command_queue.specs.declared.command.Command.{Command}
 use Rattle.command_queue.specs.declared.command.Command.TheVariants as told
@@ -25,11 +25,6 @@ pub record ReadsRequests (size : ℕ) (unread left : Option (List ℕ)) (request
   pub each : AllByRecursion (IsRequest size) requests
   pub bytes : Consumes unread left (flat_map request_bytes requests ++ tail)
 
--- the known bytes that a reader has left
-abbrev pub left_of : Option (List ℕ) → List ℕ
-left_of None = []
-left_of (Some bytes) = bytes
-
 -- WHAT WAS READ AND WRITTEN, by the result, of requests and the replies to them. Where the stream ended, its bytes are these requests and
 -- the rest that `end` names, and what was written is all replies, counted. After `Read` what was written answers the requests that were read
 -- whole. After `Write` it is a beginning of the replies. After `OutOfMemory` there is none.
@@ -38,7 +33,7 @@ ServesRequests size unread left before after requests replies (Ok served) =
     (tail : List ℕ) × ReadsRequests size unread left requests tail × Rests size served.end tail left
     × Appends before after (out_bytes requests replies served.end)
     × (served.replies ≡ length requests + last_count served.end)
-    × IfSome unread (λ input. Splits size input requests served.end (tail ++ left_of left))
+    × IfSome unread (λ input. Splits size input requests served.end (tail ++ known_bytes_left left))
 ServesRequests size unread left before after requests replies (Err fault.Read) =
     (tail : List ℕ) × ReadsRequests size unread left requests tail × IsBeginning size tail × Appends before after (replies_bytes requests replies)
 ServesRequests size unread left before after requests replies (Err fault.Write) =
@@ -60,12 +55,12 @@ pub record Session {N : Type 0} (view : View N)
 -- ---- one request
 
 -- the body that a write is told
-abbrev pub IsBodyOf : List ℕ → Command → Type 0
-IsBodyOf body (told.Read sector) = Unit {0}
-IsBodyOf body (told.Write sector bytes) = bytes.now ≡ body
-IsBodyOf body (told.Trim sector) = Unit {0}
-IsBodyOf body told.Flush = Unit {0}
-IsBodyOf body told.Turn = Unit {0}
+abbrev pub IsWriteBody : List ℕ → Command → Type 0
+IsWriteBody body (told.Read sector) = Unit {0}
+IsWriteBody body (told.Write sector bytes) = bytes.now ≡ body
+IsWriteBody body (told.Trim sector) = Unit {0}
+IsWriteBody body told.Flush = Unit {0}
+IsWriteBody body told.Turn = Unit {0}
 
 -- the device was told what the request asks, and the reply was written, or a beginning of it
 pub record AnswersRequest {N : Type 0} (view : View N)
@@ -87,17 +82,17 @@ pub record HasServed {N : Type 0} (view : View N)
   pub written : writes (reply_bytes request (reply_in exchange))
 
 -- no request was read whole
-pub record HasNone {N : Type 0} (old new : Device N) (unread left before after : Option (List ℕ)) (P : List ℕ → Type 0) : Type 0 where
+pub record HasToldNoCommand {N : Type 0} (old new : Device N) (unread left before after : Option (List ℕ)) (P : List ℕ → Type 0) : Type 0 where
   pub tail : List ℕ
   pub is : P tail
   pub read : Consumes unread left tail
   pub same : new ≡ old
   pub kept : after ≡ before
 
-abbrev pub ServesNext : {N : Type 0} → (view : View N) → (old new : Device N)
+abbrev pub ServesNextCommand : {N : Type 0} → (view : View N) → (old new : Device N)
     → (unread left before after : Option (List ℕ)) → Result (Option End) ServeFault → Type 0
-ServesNext view old new unread left before after (Ok None) = HasServed view old new unread left (Appends before after)
-ServesNext view old new unread left before after (Ok (Some end)) = HasNone old new unread left before after (λ tail. Rests old.engine.geometry.data_bytes end tail left)
-ServesNext view old new unread left before after (Err fault.Read) = HasNone old new unread left before after (IsBeginning old.engine.geometry.data_bytes)
-ServesNext view old new unread left before after (Err fault.Write) = HasServed view old new unread left (AppendsFront before after)
-ServesNext view old new unread left before after (Err fault.OutOfMemory) = ⊥
+ServesNextCommand view old new unread left before after (Ok None) = HasServed view old new unread left (Appends before after)
+ServesNextCommand view old new unread left before after (Ok (Some end)) = HasToldNoCommand old new unread left before after (λ tail. Rests old.engine.geometry.data_bytes end tail left)
+ServesNextCommand view old new unread left before after (Err fault.Read) = HasToldNoCommand old new unread left before after (IsBeginning old.engine.geometry.data_bytes)
+ServesNextCommand view old new unread left before after (Err fault.Write) = HasServed view old new unread left (AppendsFront before after)
+ServesNextCommand view old new unread left before after (Err fault.OutOfMemory) = ⊥

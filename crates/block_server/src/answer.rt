@@ -1,12 +1,12 @@
 //! One request is answered.
 ghost use Rattle.std.specs.Prelude.{◌≡◌, ℕ, List, length, IfOk};
-ghost use Rattle.promises.specs.Stream.{status_of, reply_body};
+ghost use Rattle.promises.specs.Stream.{reply_status, reply_body};
 ghost use Rattle.promises.specs.Stream as stream;
 ghost use Rattle.request_stream.specs.Frames.{request_at};
 ghost use Rattle.ftl_device.specs.Device.{IsDevice};
-ghost use Rattle.command_queue.specs.Commands.{command_of, HasRoom};
-ghost use Rattle.command_queue.specs.Exchanges.{answer_to};
-ghost use Rattle.block_server.specs.Session.{AnswersRequest, ServesNext, IsBodyOf};
+ghost use Rattle.command_queue.specs.Commands.{promised_command, HasDataArea};
+ghost use Rattle.command_queue.specs.Exchanges.{reply_to_command};
+ghost use Rattle.block_server.specs.Session.{AnswersRequest, ServesNextCommand, IsWriteBody};
 
 use command_queue::{Command, tell};
 use ftl_device::{Device, DeviceFault};
@@ -17,8 +17,8 @@ use std::io::{Read, Write};
 
 // What a request tells the device.
 fn command_for<'a>(header: Header, body: &'a [u8]) -> Command<'a>
-    ensures command { command_of result ≡ stream.command_of (request_at header body.now) }
-    ensures body { IsBodyOf body.now result }
+    ensures command { promised_command result ≡ stream.command_of (request_at header body.now) }
+    ensures body { IsWriteBody body.now result }
 {
     let sector = header.sector;
     match header.op {
@@ -32,7 +32,7 @@ fn command_for<'a>(header: Header, body: &'a [u8]) -> Command<'a>
 
 // The status of a reply.
 fn status_for(done: Result<(), DeviceFault>) -> u8
-    ensures { (header : Header) (body bytes : List ℕ) → result ≡ status_of (answer_to (stream.command_of (request_at header body)) bytes done) }
+    ensures { (header : Header) (body bytes : List ℕ) → result ≡ reply_status (reply_to_command (stream.command_of (request_at header body)) bytes done) }
 {
     match done {
         Ok(()) => 0,
@@ -42,7 +42,7 @@ fn status_for(done: Result<(), DeviceFault>) -> u8
 
 // The sector that follows a reply: of a read that is done, what it gave.
 fn sector_for<'a>(header: Header, done: Result<(), DeviceFault>, bytes: &'a [u8]) -> &'a [u8]
-    ensures { (body : List ℕ) → result.now ≡ reply_body (answer_to (stream.command_of (request_at header body)) bytes.now done) }
+    ensures { (body : List ℕ) → result.now ≡ reply_body (reply_to_command (stream.command_of (request_at header body)) bytes.now done) }
 {
     match header.op {
         Op::Read => match done {
@@ -95,7 +95,7 @@ pub(crate) fn serve_next<N: Nand, R: Read, W: Write>(
     requires body { length body.old ≡ device.old.engine.geometry.data_bytes }
     requires bytes { length bytes.old ≡ device.old.engine.geometry.data_bytes }
     ensures calm { N.view.calm device.new.engine.nand ≡ N.view.calm device.old.engine.nand }
-    ensures serves { ServesNext N.view device.old device.new (R.remaining reader.old) (R.remaining reader.new)
+    ensures serves { ServesNextCommand N.view device.old device.new (R.remaining reader.old) (R.remaining reader.new)
         (W.contents writer.old) (W.contents writer.new) result }
 {
     match read_request(reader, body)? {

@@ -3,8 +3,8 @@ use Rattle.std.proofs.Common.{◌≡◌, ℕ, suc, ◌+◌, ◌-◌, ◌*◌, �
 use Rattle.std.proofs.Math.Nat.{suc-mul, mul-le-mul_left, mul_comm, add-mul}
 use Rattle.budget.specs.declared.stream.Stream.TheVariants.{Data, Meta}
 use Rattle.budget.specs.Put.{Put, NoneFree}
-use Rattle.budget.specs.Spending.{Opened}
-use Rattle.budget.specs.Laws.{NoPageLaw, OnePageLaw, OpeningsLaw, MetaOpeningsLaw, StuckLaw, CollectedLaw}
+use Rattle.budget.specs.Spending.{OpensBlocks}
+use Rattle.budget.specs.Laws.{NoPageLaw, OnePageSpentLaw, OpeningsLaw, MetaOpeningsLaw, StuckLaw, CollectedLaw}
 use Rattle.budget.proofs.PutLemmas.{put_opens, put_stays, put_pays}
 
 pub times_le : (a b p : ℕ) → a ≤ b → a * p ≤ b * p
@@ -13,17 +13,17 @@ times_le a b p le = omega (arith, mul-le-mul_left p le, mul_comm p a, mul_comm p
 -- ---- blocks opened in one stream
 
 -- the open block took the page
-opened_stays : (pages programmed openings failures used_up left left' : ℕ) → left ≡ left' + 1 → openings ≤ failures + used_up → (used_up ≡ 0) ⊎ (used_up * pages ≤ left + programmed) → Opened pages (programmed + 1) failures openings left'
+opened_stays : (pages programmed openings failures used_up left left' : ℕ) → left ≡ left' + 1 → openings ≤ failures + used_up → (used_up ≡ 0) ⊎ (used_up * pages ≤ left + programmed) → OpensBlocks pages (programmed + 1) failures openings left'
 opened_stays pages programmed openings failures used_up left left' eq most each =
     record { used_up = used_up; most = most; each = ⊎_elim (λ none. inl none) (λ le. inr (omega arith)) each }
 
 -- the open block failed
-opened_failed : (pages programmed openings failures f used_up left left' : ℕ) → pages ≡ left' + 1 → left < pages → openings ≤ failures + used_up → (used_up ≡ 0) ⊎ (used_up * pages ≤ left + programmed) → Opened pages (programmed + 1) (failures + f) (openings + f) left'
+opened_failed : (pages programmed openings failures f used_up left left' : ℕ) → pages ≡ left' + 1 → left < pages → openings ≤ failures + used_up → (used_up ≡ 0) ⊎ (used_up * pages ≤ left + programmed) → OpensBlocks pages (programmed + 1) (failures + f) (openings + f) left'
 opened_failed pages programmed openings failures f used_up left left' eq lt most each =
     record { used_up = used_up; most = omega arith; each = ⊎_elim (λ none. inl none) (λ le. inr (omega arith)) each }
 
 -- none was open
-opened_new : (pages programmed openings failures f used_up left left' : ℕ) → pages ≡ left' + 1 → left ≡ 0 → openings ≤ failures + used_up → (used_up ≡ 0) ⊎ (used_up * pages ≤ left + programmed) → Opened pages (programmed + 1) (failures + f) (openings + (f + 1)) left'
+opened_new : (pages programmed openings failures f used_up left left' : ℕ) → pages ≡ left' + 1 → left ≡ 0 → openings ≤ failures + used_up → (used_up ≡ 0) ⊎ (used_up * pages ≤ left + programmed) → OpensBlocks pages (programmed + 1) (failures + f) (openings + (f + 1)) left'
 opened_new pages programmed openings failures f used_up left left' eq none most each =
     record {
       used_up = used_up + 1;
@@ -32,9 +32,9 @@ opened_new pages programmed openings failures f used_up left left' eq none most 
           ⊎_elim (λ (z : used_up ≡ 0). let k : used_up * pages ≡ 0 * pages = ap (λ u. u * pages) z in omega arith) (λ (le : used_up * pages ≤ left + programmed). omega arith) each);
     }
 
-opened_more : (pages programmed failures openings left f free free' left' : ℕ) → left < pages → Opened pages programmed failures openings left → Put pages f free left free' left' → Opened pages (programmed + 1) (failures + f) (openings + (free - free')) left'
+opened_more : (pages programmed failures openings left f free free' left' : ℕ) → left < pages → OpensBlocks pages programmed failures openings left → Put pages f free left free' left' → OpensBlocks pages (programmed + 1) (failures + f) (openings + (free - free')) left'
 opened_more pages programmed failures openings left f free free' left' lt opened put =
-    let P : ℕ → ℕ → Type 0 = λ a b. Opened pages (programmed + 1) a b left' in
+    let P : ℕ → ℕ → Type 0 = λ a b. OpensBlocks pages (programmed + 1) a b left' in
     elim put.cases [
       | inl c ↦
           let p : P failures openings = opened_stays pages programmed openings failures opened.used_up left left' c.1 opened.most opened.each in
@@ -57,7 +57,7 @@ bound_up n e pages k le lt =
     let never : suc n ≤ e → ⊥ = λ (more : suc n ≤ e). (let h : suc n * pages ≤ e * pages = times_le (suc n) e pages more in omega arith) in
     omega (arith, never)
 
-used_up_at_most : (n pages programmed failures openings left : ℕ) → (o : Opened pages programmed failures openings left) → left + programmed < suc n * pages → openings ≤ failures + n
+used_up_at_most : (n pages programmed failures openings left : ℕ) → (o : OpensBlocks pages programmed failures openings left) → left + programmed < suc n * pages → openings ≤ failures + n
 used_up_at_most n pages programmed failures openings left o lt =
     let e : o.used_up ≤ n = ⊎_elim (λ (z : o.used_up ≡ 0). omega arith) (λ (le : o.used_up * pages ≤ left + programmed). bound_up n o.used_up pages (left + programmed) le lt) o.each in
     omega (arith, o.most)
@@ -79,14 +79,14 @@ no_page pages s fits = record {
   meta_open = omega (arith, fits.meta_open);
 }
 
-pub one_page : OnePageLaw
+pub one_page : OnePageSpentLaw
 one_page Data pages f d m first now next a p = record {
   data_failures = a.data_failures + f;
   meta_failures = a.meta_failures;
   data_openings = a.data_openings + (now.free - next.free);
   meta_openings = a.meta_openings;
   in_data = opened_more pages d a.data_failures a.data_openings now.data_left f now.free next.free next.data_left a.data_open a.in_data p.put;
-  in_meta = subst (λ l. Opened pages (m + 0) a.meta_failures a.meta_openings l) (sym p.other) (subst (λ k. Opened pages k a.meta_failures a.meta_openings now.meta_left) (omega arith) a.in_meta);
+  in_meta = subst (λ l. OpensBlocks pages (m + 0) a.meta_failures a.meta_openings l) (sym p.other) (subst (λ k. OpensBlocks pages k a.meta_failures a.meta_openings now.meta_left) (omega arith) a.in_meta);
   good = omega (arith, a.good, p.good);
   free = omega (arith, a.free, put_opens pages f now.free now.data_left next.free next.data_left p.put);
   pays = let s : (a.data_failures + f + a.meta_failures) * pages ≡ (a.data_failures + a.meta_failures) * pages + f * pages = rw (add-mul (a.data_failures + f) a.meta_failures pages, add-mul a.data_failures f pages, add-mul a.data_failures a.meta_failures pages) (omega arith) in
@@ -99,7 +99,7 @@ one_page Meta pages f d m first now next a p = record {
   meta_failures = a.meta_failures + f;
   data_openings = a.data_openings;
   meta_openings = a.meta_openings + (now.free - next.free);
-  in_data = subst (λ l. Opened pages (d + 0) a.data_failures a.data_openings l) (sym p.other) (subst (λ k. Opened pages k a.data_failures a.data_openings now.data_left) (omega arith) a.in_data);
+  in_data = subst (λ l. OpensBlocks pages (d + 0) a.data_failures a.data_openings l) (sym p.other) (subst (λ k. OpensBlocks pages k a.data_failures a.data_openings now.data_left) (omega arith) a.in_data);
   in_meta = opened_more pages m a.meta_failures a.meta_openings now.meta_left f now.free next.free next.meta_left a.meta_open a.in_meta p.put;
   good = omega (arith, a.good, p.good);
   free = omega (arith, a.free, put_opens pages f now.free now.meta_left next.free next.meta_left p.put);
@@ -125,7 +125,7 @@ few_meta_openings pages m blocks first now a room =
     omega (arith, a.free, a.good)
 
 -- the stream of the page that found no free block, and the other one
-stuck_sum : (pages f free left d fd od fm om : ℕ) → d + 2 ≤ pages → left < pages → (o : Opened pages d fd od left) → om ≤ fm + 1 → NoneFree f free left → free + od + om ≤ fd + fm + f + 1
+stuck_sum : (pages f free left d fd od fm om : ℕ) → d + 2 ≤ pages → left < pages → (o : OpensBlocks pages d fd od left) → om ≤ fm + 1 → NoneFree f free left → free + od + om ≤ fd + fm + f + 1
 stuck_sum pages f free left d fd od fm om room lt o other stuck =
     let two : suc 1 * pages ≡ pages + pages = omega arith in
     let one : suc 0 * pages ≡ pages = omega arith in

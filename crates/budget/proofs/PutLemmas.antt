@@ -3,7 +3,7 @@ use Rattle.std.proofs.Common.{◌≡◌, ℕ, ◌+◌, ◌*◌, ◌<◌, ◌≤�
 use Rattle.std.proofs.Math.Nat.{suc-mul, add-mul}
 use Rattle.budget.specs.declared.stream.Stream.{Stream}
 use Rattle.budget.specs.declared.stream.Stream.TheVariants.{Data, Meta}
-use Rattle.budget.specs.Counts.{Counts, left_of, pool, Fits}
+use Rattle.budget.specs.Counts.{Counts, left_of, pool, FitsGoodBlocks}
 use Rattle.budget.specs.Put.{Tried, Put, StreamPut, NoneFree}
 use Rattle.budget.specs.Laws.{FirstTryLaw, FailedTryLaw, PassedTryLaw, NoTryLaw}
 
@@ -24,7 +24,7 @@ passed_cases : (pages f free left free0 left0 free1 left1 : ℕ) → left < page
 passed_cases pages f free left free0 left0 free1 left1 lt t cases = grind (arith, t.cases)
 
 -- an open block has less than a block of pages over
-pub left_fits : (pages : ℕ) (s : Counts) (stream : Stream) → Fits pages s → left_of s stream < pages
+pub left_fits : (pages : ℕ) (s : Counts) (stream : Stream) → FitsGoodBlocks pages s → left_of s stream < pages
 left_fits pages s Data fits = omega (arith, fits.data_open)
 left_fits pages s Meta fits = omega (arith, fits.meta_open)
 

@@ -24,11 +24,11 @@ abbrev pub pool : ℕ → Counts → ℕ
 pool pages s = s.free * pages + s.data_left + s.meta_left
 
 -- the pages of good blocks that aren't in the pool
-abbrev pub used : ℕ → Counts → ℕ
-used pages s = s.good * pages - pool pages s
+abbrev pub pages_outside_pool : ℕ → Counts → ℕ
+pages_outside_pool pages s = s.good * pages - pool pages s
 
 -- an open block has a page programmed, and free and open blocks are good
-pub record Fits (pages : ℕ) (s : Counts) : Type 0 where
+pub record FitsGoodBlocks (pages : ℕ) (s : Counts) : Type 0 where
   pub data_open : s.data_left + 1 ≤ pages
   pub meta_open : s.meta_left + 1 ≤ pages
   pub within : pool pages s ≤ s.good * pages

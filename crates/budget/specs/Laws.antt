@@ -8,7 +8,7 @@ use Rattle.page_layout.specs.Geometry.{need, vmax, translation_pages, waiting_at
 use Rattle.page_layout.specs.Live.{live}
 use Rattle.page_layout.specs.Count.{blocks_that}
 use Rattle.budget.specs.declared.stream.Stream.{Stream}
-use Rattle.budget.specs.Counts.{Counts, left_of, used, Fits, TakesOne, FailsOne, Erased}
+use Rattle.budget.specs.Counts.{Counts, left_of, pages_outside_pool, FitsGoodBlocks, TakesOne, FailsOne, Erased}
 use Rattle.budget.specs.Put.{Tries, StreamPut, FindsNone}
 use Rattle.budget.specs.Spending.{Spending, data_of, meta_of, Collected, Stuck, IsFunded}
 
@@ -24,7 +24,7 @@ FailedTryLaw = (stream : Stream) (failures : ℕ) (old now new : Counts) → Tri
 
 -- a try that passes
 abbrev pub PassedTryLaw : Type 0
-PassedTryLaw = (stream : Stream) (pages failures : ℕ) (old now new : Counts) → Fits pages old → Tries stream failures old now → TakesOne stream pages now new → StreamPut stream pages failures old new
+PassedTryLaw = (stream : Stream) (pages failures : ℕ) (old now new : Counts) → FitsGoodBlocks pages old → Tries stream failures old now → TakesOne stream pages now new → StreamPut stream pages failures old new
 
 -- no block for the next try
 abbrev pub NoTryLaw : Type 0
@@ -33,10 +33,10 @@ NoTryLaw = (stream : Stream) (failures : ℕ) (old now : Counts) → Tries strea
 -- ---- some pages
 
 abbrev pub NoPageLaw : Type 0
-NoPageLaw = (pages : ℕ) (s : Counts) → Fits pages s → Spending pages s s 0 0
+NoPageLaw = (pages : ℕ) (s : Counts) → FitsGoodBlocks pages s → Spending pages s s 0 0
 
-abbrev pub OnePageLaw : Type 0
-OnePageLaw = (stream : Stream) (pages failures data_pages meta_pages : ℕ) (first now new : Counts) → Spending pages first now data_pages meta_pages
+abbrev pub OnePageSpentLaw : Type 0
+OnePageSpentLaw = (stream : Stream) (pages failures data_pages meta_pages : ℕ) (first now new : Counts) → Spending pages first now data_pages meta_pages
     → StreamPut stream pages failures now new → Spending pages first new (data_pages + data_of stream) (meta_pages + meta_of stream)
 
 -- less than a block of pages opens at most two blocks, and one more for each failure
@@ -57,7 +57,7 @@ StuckLaw = (stream : Stream) (pages failures data_pages meta_pages : ℕ) (first
 -- less than a block of pages, and then the block that they were copied from is erased or fails
 abbrev pub CollectedLaw : Type 0
 CollectedLaw = (pages failures data_pages meta_pages : ℕ) (first now new : Counts) → Spending pages first now data_pages meta_pages
-    → data_pages + meta_pages + 1 ≤ pages → Erased failures now new → Fits pages new → Collected pages first new
+    → data_pages + meta_pages + 1 ≤ pages → Erased failures now new → FitsGoodBlocks pages new → Collected pages first new
 
 -- ---- collections until nine blocks are free
 
@@ -67,7 +67,7 @@ FundedLaw = (pages : ℕ) (s : Counts) → 5 ≤ s.free → IsFunded pages 0 s
 
 -- with six it still is after a page, whatever its failures
 abbrev pub PutFundedLaw : Type 0
-PutFundedLaw = (stream : Stream) (pages failures : ℕ) (old new : Counts) → Fits pages old → StreamPut stream pages failures old new → 6 ≤ old.free → IsFunded pages failures new
+PutFundedLaw = (stream : Stream) (pages failures : ℕ) (old new : Counts) → FitsGoodBlocks pages old → StreamPut stream pages failures old new → 6 ≤ old.free → IsFunded pages failures new
 
 -- a collection keeps it funded
 abbrev pub CollectedFundedLaw : Type 0
@@ -75,11 +75,11 @@ CollectedFundedLaw = (pages failures : ℕ) (old new : Counts) → IsFunded page
 
 -- a funded pool has at least four free blocks, but for the failures
 abbrev pub FreeLeftLaw : Type 0
-FreeLeftLaw = (pages failures : ℕ) (s : Counts) → Fits pages s → IsFunded pages failures s → 4 ≤ s.free + failures
+FreeLeftLaw = (pages failures : ℕ) (s : Counts) → FitsGoodBlocks pages s → IsFunded pages failures s → 4 ≤ s.free + failures
 
 -- so a collection that finds no free block has seen three failures, its own and those before it
 abbrev pub NeverStuckLaw : Type 0
-NeverStuckLaw = (pages failures : ℕ) (old new : Counts) → Fits pages old → IsFunded pages failures old → Stuck old new → 3 + new.good ≤ failures + old.good
+NeverStuckLaw = (pages failures : ℕ) (old new : Counts) → FitsGoodBlocks pages old → IsFunded pages failures old → Stuck old new → 3 + new.good ≤ failures + old.good
 
 -- With `need_at` good blocks collections go on until nine blocks and those of a flush are free, with some more or fewer good ones until as many
 -- more or fewer are: fewer free ones leave a closed block with at most `vmax_at` newest pages.
@@ -97,7 +97,7 @@ NineLaw = (g : Geometry) (marks : List (Option Record)) (closed : ℕ → Bool) 
 
 -- each collection leaves fewer pages that aren't in the pool
 abbrev pub FallsLaw : Type 0
-FallsLaw = (pages : ℕ) (old new : Counts) → Fits pages old → Collected pages old new → used pages new < used pages old
+FallsLaw = (pages : ℕ) (old new : Counts) → FitsGoodBlocks pages old → Collected pages old new → pages_outside_pool pages new < pages_outside_pool pages old
 
 -- a flush above share 0 that begins with them, and has at most two failures, leaves nine after any of its translation pages
 abbrev pub FlushLeavesLaw : Type 0
@@ -152,7 +152,7 @@ BatchFitsLaw = (g : Geometry) (share first copies written waiting : ℕ) → cop
     → copies + (written + 1) + 1 ≤ g.pages
 
 -- the lowest of so many translation pages that more than `share` of the sectors are of
-pub record IsLowestOver (per_page count share : ℕ) (sectors : List ℕ) (page : ℕ) : Type 0 where
+pub record IsLowestOverShare (per_page count share : ℕ) (sectors : List ℕ) (page : ℕ) : Type 0 where
   pub within : page < count
   pub over : share < count_by (λ n. n / per_page == page) sectors
   pub others : (t : ℕ) → t < page → count_by (λ n. n / per_page == t) sectors ≤ share
@@ -160,4 +160,4 @@ pub record IsLowestOver (per_page count share : ℕ) (sectors : List ℕ) (page 
 -- where more than `share` sectors wait for each translation page in the mean, there is one
 abbrev pub SomeOverLaw : Type 0
 SomeOverLaw = (per_page count share : ℕ) (sectors : List ℕ) → AllByRecursion (λ n. n / per_page < count) sectors
-    → share * count < length sectors → (page : ℕ) × IsLowestOver per_page count share sectors page
+    → share * count < length sectors → (page : ℕ) × IsLowestOverShare per_page count share sectors page

@@ -1,5 +1,5 @@
 //! What a page costs, what a collection costs, and why nine blocks are enough.
-ghost use Rattle.budget.specs.Laws.{FirstTryLaw, FailedTryLaw, PassedTryLaw, NoTryLaw, NoPageLaw, OnePageLaw, OpeningsLaw, MetaOpeningsLaw, StuckLaw};
+ghost use Rattle.budget.specs.Laws.{FirstTryLaw, FailedTryLaw, PassedTryLaw, NoTryLaw, NoPageLaw, OnePageSpentLaw, OpeningsLaw, MetaOpeningsLaw, StuckLaw};
 ghost use Rattle.budget.specs.Laws.{CollectedLaw, FundedLaw, PutFundedLaw, CollectedFundedLaw, FreeLeftLaw, NeverStuckLaw, NineLaw, FallsLaw};
 ghost use Rattle.budget.specs.Laws.{FreeAtLaw, FlushLeavesLaw, CopiesFitAtLaw, CopiesFitLaw, TouchedLaw};
 ghost use Rattle.budget.specs.Laws.{AccountBeginsLaw, CopyAccountLaw, WriteBackAccountLaw, WriteBacksLaw, BatchFitsLaw, SomeOverLaw};
@@ -15,7 +15,7 @@ pub fn put_laws()
 /// What some pages cost, and a collection.
 pub fn account_laws()
     ensures none { NoPageLaw }
-    ensures one_more { OnePageLaw }
+    ensures one_more { OnePageSpentLaw }
     ensures openings { OpeningsLaw }
     ensures meta_openings { MetaOpeningsLaw }
     ensures stuck { StuckLaw }

@@ -10,7 +10,7 @@ use Rattle.certificate.specs.declared.fault.CertFault.TheVariants.{Magic, Short,
 use Rattle.certificate.specs.Claim.{Claim}
 use Rattle.certificate.specs.Spelling.{certificate_bytes, rows_of, layout, row, block, FitsBlock, IsRowOf, Fits}
 use Rattle.certificate.specs.Reading.{sizes_in, blocks_in, directory_in, sectors_in, claim_at, claim_in}
-use Rattle.certificate.specs.Faults.{IsWhole, IsRowPast, IsFirstFault}
+use Rattle.certificate.specs.Faults.{HasPromisedBytes, IsRowPast, IsFirstCertificateFault}
 use Rattle.certificate.proofs.RowLemmas.{length-flat_map-row, row_at}
 use Rattle.certificate.proofs.BlockLemmas.{length-flat_map-block}
 use Rattle.certificate.proofs.HeadLemmas.{magic_again, length-certificate_bytes}
@@ -25,7 +25,7 @@ length-spelled c fits =
 pub fits_again : (c : Claim) → Fits c → Fits (claim_in (certificate_bytes c))
 fits_again c fits = subst Fits (sym (claim_is c fits)) fits
 
-pub whole_again : (c : Claim) → Fits c → IsWhole (certificate_bytes c)
+pub whole_again : (c : Claim) → Fits c → HasPromisedBytes (certificate_bytes c)
 unfolding claim_at
 whole_again c fits =
     let bytes = certificate_bytes c in
@@ -51,7 +51,7 @@ row_apart rows (Some n) h past = omega arith
 no_row_past : (rows : ℕ) (words : List ℕ) → AllByRecursion (IsRowOf rows) (map row_of_word words) → Any (IsRowPast rows) words → ⊥
 no_row_past rows words fit other = row_apart rows (row_of_word other.1) (row_at rows words other.0 other.1 fit other.2 (sym other.3)) other.4
 
-pub no_fault : (bytes : List ℕ) (fault : CertFault) → IsWhole bytes → Fits (claim_in bytes) → IsFirstFault bytes fault → fault ≡ OutOfMemory
+pub no_fault : (bytes : List ℕ) (fault : CertFault) → HasPromisedBytes bytes → Fits (claim_in bytes) → IsFirstCertificateFault bytes fault → fault ≡ OutOfMemory
 unfolding claim_at
 no_fault bytes Magic whole fits h = absurd (h.1 whole.numbers.head.magic)
 no_fault bytes Short whole fits (inl h) = absurd (omega (arith, h, whole.numbers.head.long))

@@ -9,7 +9,7 @@ use Rattle.certificate.specs.declared.fault.CertFault.TheVariants.{Magic, Short,
 use Rattle.certificate.specs.Claim.{Claim}
 use Rattle.certificate.specs.Spelling.{layout, Fits, certificate_bytes}
 use Rattle.certificate.specs.Reading.{sizes_in, capacity_in, blocks_in}
-use Rattle.certificate.specs.Faults.{HasMagic, HasLimits, IsWhole, IsWithin, HasClasses, HasRowPast, IsFirstFault}
+use Rattle.certificate.specs.Faults.{HasMagic, HasLimits, HasPromisedBytes, AreSizesWithinLimits, HasClasses, HasRowPast, IsFirstCertificateFault}
 use Rattle.certificate.proofs.PartLemmas.{only_memory}
 
 -- what is looked at, in its order
@@ -17,7 +17,7 @@ abbrev Passes : List ℕ → ℕ → Type 0
 Passes bytes zero = 8 ≤ length bytes
 Passes bytes (suc zero) = HasMagic bytes
 Passes bytes (suc (suc zero)) = 40 ≤ length bytes
-Passes bytes (suc (suc (suc zero))) = IsWithin (sizes_in bytes) (capacity_in bytes)
+Passes bytes (suc (suc (suc zero))) = AreSizesWithinLimits (sizes_in bytes) (capacity_in bytes)
 Passes bytes (suc (suc (suc (suc zero)))) = layout (sizes_in bytes) ≤ length bytes
 Passes bytes (suc (suc (suc (suc (suc zero))))) = length bytes ≤ layout (sizes_in bytes)
 Passes bytes (suc (suc (suc (suc (suc (suc zero)))))) = HasClasses bytes
@@ -58,7 +58,7 @@ eight bytes h = let e = ap length h in omega (arith, e, length-take 8 bytes)
 below_limits : (bytes : List ℕ) → HasLimits bytes → PassBelow bytes 4
 below_limits bytes h = ((((tt, eight bytes h.head.magic), h.head.magic), h.head.long), h.within)
 
-below_classes : (bytes : List ℕ) → IsWhole bytes → PassBelow bytes 6
+below_classes : (bytes : List ℕ) → HasPromisedBytes bytes → PassBelow bytes 6
 below_classes bytes h = ((below_limits bytes h.numbers, omega (arith, h.length_is)), omega (arith, h.length_is))
 
 has_other_class : (states : List BlockState) → Any (λ (s : BlockState). 5 < s.class) states → ¬ All (λ (s : BlockState). s.class ≤ 5) states
@@ -66,7 +66,7 @@ has_other_class states other all =
     let most : other.1.class ≤ 5 = rw other.3 at (all other.0 other.1 other.2) in
     omega (arith, most, other.4)
 
-stands_at : (bytes : List ℕ) (fault : CertFault) → fault ≢ OutOfMemory → IsFirstFault bytes fault → StandsAt bytes fault
+stands_at : (bytes : List ℕ) (fault : CertFault) → fault ≢ OutOfMemory → IsFirstCertificateFault bytes fault → StandsAt bytes fault
 stands_at bytes Magic ne h = record { place = 1; fault_is = refl; before = (tt, h.0); fails = h.1 }
 stands_at bytes Short ne (inl h) = record { place = 0; fault_is = refl; before = tt; fails = λ p. omega (arith, h, p) }
 stands_at bytes Short ne (inr (inl h)) = record { place = 2; fault_is = refl; before = ((tt, eight bytes h.0), h.0); fails = λ p. omega (arith, h.1, p) }
@@ -85,7 +85,7 @@ one_fault bytes f g a b = elim (cases_order a.place b.place) [
 ]
 
 -- the answer is the fault that stands in the bytes, or that memory ran out
-pub fault_or_memory : (bytes : List ℕ) (fault answer : CertFault) → fault ≢ OutOfMemory → IsFirstFault bytes fault → IsFirstFault bytes answer → (answer ≡ fault) ⊎ (answer ≡ OutOfMemory)
+pub fault_or_memory : (bytes : List ℕ) (fault answer : CertFault) → fault ≢ OutOfMemory → IsFirstCertificateFault bytes fault → IsFirstCertificateFault bytes answer → (answer ≡ fault) ⊎ (answer ≡ OutOfMemory)
 fault_or_memory bytes fault OutOfMemory ne h a = inr refl
 fault_or_memory bytes fault Magic ne h a = inl (one_fault bytes Magic fault (stands_at bytes Magic (λ e. (cc)) a) (stands_at bytes fault ne h))
 fault_or_memory bytes fault Short ne h a = inl (one_fault bytes Short fault (stands_at bytes Short (λ e. (cc)) a) (stands_at bytes fault ne h))
@@ -95,7 +95,7 @@ fault_or_memory bytes fault RowRange ne h a = inl (one_fault bytes RowRange faul
 fault_or_memory bytes fault ClassRange ne h a = inl (one_fault bytes ClassRange fault (stands_at bytes ClassRange (λ e. (cc)) a) (stands_at bytes fault ne h))
 
 pub is_answered : (bytes : List ℕ) (r : Result Claim CertFault) (fault : CertFault) → IfOk r (λ c. Fits c × (certificate_bytes c ≡ bytes))
-    → IfErr r (IsFirstFault bytes) → fault ≢ OutOfMemory → IsFirstFault bytes fault
+    → IfErr r (IsFirstCertificateFault bytes) → fault ≢ OutOfMemory → IsFirstCertificateFault bytes fault
     → IsErrAnd r (λ answer. (answer ≡ fault) ⊎ (answer ≡ OutOfMemory))
 is_answered bytes (Ok c) fault found err ne h = ne (only_memory bytes c fault found.0 (sym found.1) h)
 is_answered bytes (Err answer) fault found err ne h = fault_or_memory bytes fault answer ne h err

@@ -7,7 +7,7 @@ use Rattle.std.proofs.lemmas.Nat.{le_bytes_4, le_bytes_8, from_le_bytes-to_le_by
 use Rattle.page_layout.specs.Word.{word_at}
 use Rattle.certificate.specs.Claim.{Sizes, Claim}
 use Rattle.certificate.specs.Spelling.{magic, word, row, block, head, certificate_bytes, Fits}
-use Rattle.certificate.specs.Reading.{sizes_in, capacity_in, next_in}
+use Rattle.certificate.specs.Reading.{sizes_in, capacity_in, next_sequence_in}
 use Rattle.certificate.specs.Faults.{HasMagic}
 use Rattle.certificate.proofs.RowLemmas.{IsBytes}
 
@@ -30,7 +30,7 @@ pub capacity_again : (c : Claim) (rest : List ℕ) → Fits c → capacity_in (c
 unfolding certificate_bytes word
 capacity_again c rest fits = from_le_bytes-to_le_bytes_4 c.capacity (omega (arith, fits.capacity_most))
 
-pub next_again : (c : Claim) (rest : List ℕ) → Fits c → next_in (certificate_bytes c ++ rest) ≡ c.next
+pub next_again : (c : Claim) (rest : List ℕ) → Fits c → next_sequence_in (certificate_bytes c ++ rest) ≡ c.next
 unfolding certificate_bytes word
 next_again c rest fits = from_le_bytes-to_le_bytes_8 c.next fits.next
 
@@ -87,19 +87,19 @@ IsBytes-eight bytes h (suc (suc (suc (suc (suc (suc zero)))))) = h 38
 IsBytes-eight bytes h (suc (suc (suc (suc (suc (suc (suc zero))))))) = h 39
 IsBytes-eight bytes h (suc (suc (suc (suc (suc (suc (suc (suc k)))))))) = omega arith
 
-next_part : (bytes : List ℕ) → 40 ≤ length bytes → IsBytes bytes → drop 32 bytes ≡ to_le_bytes w64 (next_in bytes) ++ drop 40 bytes
+next_part : (bytes : List ℕ) → 40 ≤ length bytes → IsBytes bytes → drop 32 bytes ≡ to_le_bytes w64 (next_sequence_in bytes) ++ drop 40 bytes
 next_part bytes long h =
     let eight = get_or bytes 32 0 ∷ get_or bytes 33 0 ∷ get_or bytes 34 0 ∷ get_or bytes 35 0 ∷ get_or bytes 36 0 ∷ get_or bytes 37 0 ∷ get_or bytes 38 0 ∷ get_or bytes 39 0 ∷ [] in
-    let spelled : to_le_bytes w64 (next_in bytes) ≡ eight = le_bytes_8 eight _ refl (IsBytes-eight bytes h) refl in
+    let spelled : to_le_bytes w64 (next_sequence_in bytes) ≡ eight = le_bytes_8 eight _ refl (IsBytes-eight bytes h) refl in
     four_more bytes 32 (omega arith)
     ∙ ap (λ (xs : List ℕ). get_or bytes 32 0 ∷ get_or bytes 33 0 ∷ get_or bytes 34 0 ∷ get_or bytes 35 0 ∷ xs) (four_more bytes 36 (omega arith))
     ∙ ap (λ (xs : List ℕ). xs ++ drop 40 bytes) (sym spelled)
 
 -- the head of a claim whose numbers are those of the bytes
-pub head_part : (c : Claim) (bytes : List ℕ) → HasMagic bytes → 40 ≤ length bytes → IsBytes bytes → c.sizes ≡ sizes_in bytes → c.capacity ≡ capacity_in bytes → c.next ≡ next_in bytes → bytes ≡ head c ++ drop 40 bytes
+pub head_part : (c : Claim) (bytes : List ℕ) → HasMagic bytes → 40 ≤ length bytes → IsBytes bytes → c.sizes ≡ sizes_in bytes → c.capacity ≡ capacity_in bytes → c.next ≡ next_sequence_in bytes → bytes ≡ head c ++ drop 40 bytes
 unfolding word
 head_part c bytes begins long h sizes_are capacity_is next_is =
-    let chain : bytes ≡ magic ++ (word (word_at bytes 8) ++ (word (word_at bytes 12) ++ (word (word_at bytes 16) ++ (word (word_at bytes 20) ++ (word (word_at bytes 24) ++ (word (word_at bytes 28) ++ (to_le_bytes w64 (next_in bytes) ++ drop 40 bytes))))))) =
+    let chain : bytes ≡ magic ++ (word (word_at bytes 8) ++ (word (word_at bytes 12) ++ (word (word_at bytes 16) ++ (word (word_at bytes 20) ++ (word (word_at bytes 24) ++ (word (word_at bytes 28) ++ (to_le_bytes w64 (next_sequence_in bytes) ++ drop 40 bytes))))))) =
     first_part bytes 0 8
     ∙ ap (λ (xs : List ℕ). xs ++ drop 8 bytes) begins
     ∙ ap (λ (xs : List ℕ). magic ++ xs) (word_part bytes 8 (omega arith) h

@@ -11,7 +11,7 @@ use Rattle.certificate.specs.Claim.{Sizes, Claim, sizes_of, claim_from}
 use Rattle.certificate.specs.Spelling.{FitsBlock, Fits, rows_of, directory_rows, directory_at, sectors_at, layout, certificate_bytes}
 use Rattle.certificate.specs.Parts.{IsRowWord, FitTogether}
 use Rattle.certificate.specs.Reading.{blocks_in, claim_at, claim_in}
-use Rattle.certificate.specs.Faults.{IsWhole, IsFirstFault}
+use Rattle.certificate.specs.Faults.{HasPromisedBytes, IsFirstCertificateFault}
 use Rattle.certificate.specs.Heads.{IsHeadOf}
 use Rattle.certificate.specs.Bodies.{IsBodyOf}
 use Rattle.certificate.proofs.RowLemmas.{IsBytes, length-words_of}
@@ -48,15 +48,15 @@ parts_say bytes head body h parts =
     same ∙ ap (λ (t : Sizes). claim_at t bytes) h.sizes_are
 
 -- what is read is spelled so
-pub is_found : (bytes : List ℕ) (r : Result Claim CertFault) → IsBytes bytes → IsWhole bytes → IfOk r (λ c. c ≡ claim_in bytes) → IfOk r Fits → IfOk r (λ c. Fits c × (certificate_bytes c ≡ bytes))
+pub is_found : (bytes : List ℕ) (r : Result Claim CertFault) → IsBytes bytes → HasPromisedBytes bytes → IfOk r (λ c. c ≡ claim_in bytes) → IfOk r Fits → IfOk r (λ c. Fits c × (certificate_bytes c ≡ bytes))
 is_found bytes (Ok c) small whole is fits = (fits, ap certificate_bytes is ∙ spelled_again bytes small whole)
 is_found bytes (Err fault) small whole is fits = tt
 
 -- no fault but one stands in a spelling
-pub only_memory : (bytes : List ℕ) (c : Claim) (fault : CertFault) → Fits c → bytes ≡ certificate_bytes c → IsFirstFault bytes fault → fault ≡ OutOfMemory
-only_memory bytes c fault fits e h = no_fault (certificate_bytes c) fault (whole_again c fits) (fits_again c fits) (subst (λ (bs : List ℕ). IsFirstFault bs fault) e h)
+pub only_memory : (bytes : List ℕ) (c : Claim) (fault : CertFault) → Fits c → bytes ≡ certificate_bytes c → IsFirstCertificateFault bytes fault → fault ≡ OutOfMemory
+only_memory bytes c fault fits e h = no_fault (certificate_bytes c) fault (whole_again c fits) (fits_again c fits) (subst (λ (bs : List ℕ). IsFirstCertificateFault bs fault) e h)
 
 -- what is spelled so is read
-pub is_only : (bytes : List ℕ) (r : Result Claim CertFault) (c : Claim) → IfOk r (λ d. d ≡ claim_in bytes) → IfErr r (IsFirstFault bytes) → Fits c → bytes ≡ certificate_bytes c → MatchResult r (λ d. d ≡ c) (λ fault. fault ≡ OutOfMemory)
+pub is_only : (bytes : List ℕ) (r : Result Claim CertFault) (c : Claim) → IfOk r (λ d. d ≡ claim_in bytes) → IfErr r (IsFirstCertificateFault bytes) → Fits c → bytes ≡ certificate_bytes c → MatchResult r (λ d. d ≡ c) (λ fault. fault ≡ OutOfMemory)
 is_only bytes (Ok d) c is err fits e = is ∙ (ap claim_in e ∙ claim_is c fits)
 is_only bytes (Err fault) c is err fits e = only_memory bytes c fault fits e err

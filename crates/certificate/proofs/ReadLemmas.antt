@@ -8,8 +8,8 @@ use Rattle.page_layout.specs.Word.{no_row, row_of_word}
 use Rattle.certificate.specs.declared.block_state.BlockState.{BlockState}
 use Rattle.certificate.specs.Claim.{Sizes, Claim}
 use Rattle.certificate.specs.Spelling.{row, block, head, certificate_bytes, rows_of, directory_rows, directory_at, sectors_at, Fits}
-use Rattle.certificate.specs.Reading.{sizes_in, capacity_in, next_in, blocks_in, directory_in, sectors_in, claim_at, claim_in}
-use Rattle.certificate.specs.Faults.{IsWhole}
+use Rattle.certificate.specs.Reading.{sizes_in, capacity_in, next_sequence_in, blocks_in, directory_in, sectors_in, claim_at, claim_in}
+use Rattle.certificate.specs.Faults.{HasPromisedBytes}
 use Rattle.certificate.proofs.RowLemmas.{IsBytes, rows_spelled, words_spell, rows_again, length-flat_map-row}
 use Rattle.certificate.proofs.BlockLemmas.{blocks_again, blocks_spell, length-flat_map-block}
 use Rattle.certificate.proofs.HeadLemmas.{sizes_again, capacity_again, next_again, body_again, first_part, head_part}
@@ -46,7 +46,7 @@ claim_again c rest fits =
     let sectors_bytes : take (4 * s.sectors) (drop (sectors_at s) bytes) ≡ spelled_sectors = ap (take (4 * s.sectors)) from_sectors ∙ take_at spelled_sectors rest (4 * s.sectors) sectors_long in
     let few = few_rows c fits in
     ap (λ (t : Sizes). claim_at t bytes) (sizes_again c rest fits)
-    ∙ same_claim c (capacity_in bytes) (next_in bytes) (blocks_in s bytes) (map row_of_word (directory_in s bytes)) (map row_of_word (sectors_in s bytes))
+    ∙ same_claim c (capacity_in bytes) (next_sequence_in bytes) (blocks_in s bytes) (map row_of_word (directory_in s bytes)) (map row_of_word (sectors_in s bytes))
     (capacity_again c rest fits)
     (next_again c rest fits)
     (rw blocks_bytes (blocks_again c.blocks fits.blocks))
@@ -71,7 +71,7 @@ IsBytes-part i n bytes h = IsBytes-take n (drop i bytes) (IsBytes-drop i bytes h
 pub length-part : (i n : ℕ) (bytes : List ℕ) → i + n ≤ length bytes → length (take n (drop i bytes)) ≡ n
 length-part i n bytes long = omega (arith, length-take n (drop i bytes), length-drop i bytes)
 
-pub spelled_again : (bytes : List ℕ) → IsBytes bytes → IsWhole bytes → certificate_bytes (claim_in bytes) ≡ bytes
+pub spelled_again : (bytes : List ℕ) → IsBytes bytes → HasPromisedBytes bytes → certificate_bytes (claim_in bytes) ≡ bytes
 unfolding certificate_bytes claim_at
 spelled_again bytes h whole =
     let s = sizes_in bytes in

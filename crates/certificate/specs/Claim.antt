@@ -31,9 +31,9 @@ abbrev pub claim_from : Sizes → ℕ → ℕ → List BlockState → List ℕ �
 claim_from s capacity next blocks directory sectors = record { sizes = s; capacity = capacity; next = next; blocks = blocks; directory = map row_of_word directory; sectors = map row_of_word sectors }
 
 -- the block is of no bad class
-abbrev pub is_good : BlockState → Bool
-is_good s = nat_lt s.class 4
+abbrev pub is_good_state : BlockState → Bool
+is_good_state s = nat_lt s.class 4
 
 -- how many blocks are of no bad class
 abbrev pub good_blocks : Claim → ℕ
-good_blocks c = count_by is_good c.blocks
+good_blocks c = count_by is_good_state c.blocks

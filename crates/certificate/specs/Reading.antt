@@ -25,8 +25,8 @@ abbrev pub capacity_in : List ℕ → ℕ
 capacity_in bytes = word_at bytes 28
 
 -- the next sequence, of eight bytes
-abbrev pub next_in : List ℕ → ℕ
-next_in bytes = from_le_bytes w64 (slice_index bytes 32 ∷ slice_index bytes 33 ∷ slice_index bytes 34 ∷ slice_index bytes 35 ∷ slice_index bytes 36 ∷ slice_index bytes 37 ∷ slice_index bytes 38 ∷ slice_index bytes 39 ∷ [])
+abbrev pub next_sequence_in : List ℕ → ℕ
+next_sequence_in bytes = from_le_bytes w64 (slice_index bytes 32 ∷ slice_index bytes 33 ∷ slice_index bytes 34 ∷ slice_index bytes 35 ∷ slice_index bytes 36 ∷ slice_index bytes 37 ∷ slice_index bytes 38 ∷ slice_index bytes 39 ∷ [])
 
 abbrev pub blocks_in : Sizes → List ℕ → List BlockState
 blocks_in s bytes = blocks_of (take (9 * s.blocks) (drop 40 bytes))
@@ -41,7 +41,7 @@ sectors_in s bytes = words_of (take (4 * s.sectors) (drop (sectors_at s) bytes))
 
 -- what bytes say whose head gives these sizes
 unfoldable pub claim_at : Sizes → List ℕ → Claim
-claim_at s bytes = claim_from s (capacity_in bytes) (next_in bytes) (blocks_in s bytes) (directory_in s bytes) (sectors_in s bytes)
+claim_at s bytes = claim_from s (capacity_in bytes) (next_sequence_in bytes) (blocks_in s bytes) (directory_in s bytes) (sectors_in s bytes)
 
 abbrev pub claim_in : List ℕ → Claim
 claim_in bytes = claim_at (sizes_in bytes) bytes

@@ -1,7 +1,7 @@
 //! The head of forty bytes is read.
 ghost use Rattle.std.specs.Prelude.{◌≡◌, ◌≤◌, ◌≢◌, OnOk, IfOk, IfErr, length};
-ghost use Rattle.certificate.specs.Reading.{next_in};
-ghost use Rattle.certificate.specs.Faults.{IsFirstFault, HasHead};
+ghost use Rattle.certificate.specs.Reading.{next_sequence_in};
+ghost use Rattle.certificate.specs.Faults.{IsFirstCertificateFault, HasHead};
 ghost use Rattle.certificate.specs.Heads.{IsHeadOf, IsLimitsOf};
 
 use crate::fault::CertFault;
@@ -20,7 +20,7 @@ pub(crate) struct Head {
 // A whole head, with its magic.
 fn check_magic(bytes: &[u8]) -> Result<(), CertFault>
     ensures ok { OnOk result (HasHead bytes.now) }
-    ensures err { IfErr result (IsFirstFault bytes.now) }
+    ensures err { IfErr result (IsFirstCertificateFault bytes.now) }
 {
     if bytes.len() < MAGIC.len() {
         return Err(CertFault::Short);
@@ -37,7 +37,7 @@ fn check_magic(bytes: &[u8]) -> Result<(), CertFault>
 // The next sequence, of eight bytes.
 fn read_next(bytes: &[u8]) -> u64
     requires { 40 ≤ length bytes.now }
-    ensures { result ≡ next_in bytes.now }
+    ensures { result ≡ next_sequence_in bytes.now }
 {
     u64::from_le_bytes([
         bytes[32], bytes[33], bytes[34], bytes[35], bytes[36], bytes[37], bytes[38], bytes[39],
@@ -48,7 +48,7 @@ fn read_next(bytes: &[u8]) -> u64
 fn read_limits(bytes: &[u8]) -> Result<(Geometry, u32), CertFault>
     requires { HasHead bytes.now }
     ensures ok { IfOk result (λ numbers. IsLimitsOf bytes.now numbers.0 numbers.1) }
-    ensures err { IfErr result (IsFirstFault bytes.now) }
+    ensures err { IfErr result (IsFirstCertificateFault bytes.now) }
 {
     let Ok(geometry) = Geometry::new(
         read_word(bytes, 2),
@@ -69,7 +69,7 @@ fn read_limits(bytes: &[u8]) -> Result<(Geometry, u32), CertFault>
 // The head of bytes that are as many as it promises.
 pub(crate) fn read_head(bytes: &[u8]) -> Result<Head, CertFault>
     ensures ok { IfOk result (IsHeadOf bytes.now) }
-    ensures err { IfErr result (IsFirstFault bytes.now) }
+    ensures err { IfErr result (IsFirstCertificateFault bytes.now) }
 {
     check_magic(bytes)?;
     let (geometry, capacity) = read_limits(bytes)?;

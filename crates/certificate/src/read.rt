@@ -3,7 +3,7 @@ ghost use Rattle.std.specs.Prelude.{◌≡◌, ◌≢◌, ◌⊎◌, IfOk, IfErr
 ghost use Rattle.certificate.specs.Claim.{Claim};
 ghost use Rattle.certificate.specs.Spelling.{Fits, certificate_bytes};
 ghost use Rattle.certificate.specs.Reading.{claim_in};
-ghost use Rattle.certificate.specs.Faults.{IsFirstFault};
+ghost use Rattle.certificate.specs.Faults.{IsFirstCertificateFault};
 ghost use Rattle.certificate.specs.Heads.{IsHeadOf};
 ghost use Rattle.certificate.specs.declared.fault.CertFault.{CertFault};
 ghost use Rattle.certificate.specs.declared.fault.CertFault.TheVariants.{OutOfMemory};
@@ -19,7 +19,7 @@ fn read_parts(alloc: Global, head: Head, bytes: &[u8]) -> Result<Certificate, Ce
     requires { IsHeadOf bytes.now head }
     ensures ok { IfOk result (λ certificate. certificate ≡ claim_in bytes.now) }
     ensures fits { IfOk result Fits }
-    ensures err { IfErr result (IsFirstFault bytes.now) }
+    ensures err { IfErr result (IsFirstCertificateFault bytes.now) }
 {
     let geometry = head.geometry;
     let body = read_body(alloc, &geometry, bytes)?;
@@ -59,9 +59,9 @@ pub fn read_certificate(alloc: Global, bytes: &[u8]) -> Result<Certificate, Cert
     // What is spelled so is read, unless memory runs out.
     ensures only { (c : Claim) → Fits c → bytes.now ≡ certificate_bytes c → MatchResult result (λ certificate. certificate ≡ c) (λ fault. fault ≡ OutOfMemory) }
     // What the fault says stands in the bytes, and nothing that is looked for earlier.
-    ensures err { IfErr result (IsFirstFault bytes.now) }
+    ensures err { IfErr result (IsFirstCertificateFault bytes.now) }
     // The fault that stands in the bytes is answered, unless memory runs out.
-    ensures answered { (fault : CertFault) → fault ≢ OutOfMemory → IsFirstFault bytes.now fault → IsErrAnd result (λ answer. (answer ≡ fault) ⊎ (answer ≡ OutOfMemory)) }
+    ensures answered { (fault : CertFault) → fault ≢ OutOfMemory → IsFirstCertificateFault bytes.now fault → IsErrAnd result (λ answer. (answer ≡ fault) ⊎ (answer ≡ OutOfMemory)) }
 {
     let head = read_head(bytes)?;
     read_parts(alloc, head, bytes)

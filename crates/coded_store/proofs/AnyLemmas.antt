@@ -13,7 +13,7 @@ use Rattle.page_code.proofs.Pages.{enough}
 use Rattle.page_code.proofs.Puts.{put_right_law}
 use Rattle.page_code.proofs.Rights.{stored_law}
 use Rattle.coded_store.specs.File.{IsWithCodes}
-use Rattle.coded_store.specs.Laws.{IsMended, IsLost, AnyLaw}
+use Rattle.coded_store.specs.Laws.{IsMended, IsFarAndLost, AnyLaw}
 use Rattle.coded_store.proofs.LawLemmas.{mended_law}
 use Rattle.coded_store.proofs.ReadLemmas.{chunk_right, chunks_right, corrected_sized, reads_lost, tells_lost}
 
@@ -63,7 +63,7 @@ near_page g r w none =
 pub any_law : AnyLaw
 any_law g r w = by (lost_chunks g r) refl
   where
-    by : (n : ℕ) → lost_chunks g r ≡ n → IsMended g r ⊎ IsLost g r
+    by : (n : ℕ) → lost_chunks g r ≡ n → IsMended g r ⊎ IsFarAndLost g r
     by zero e =
         let is = corrected_sized g r w in
         let near = near_page g r w e in

@@ -5,7 +5,7 @@ use Rattle.std.proofs.lemmas.Bool.{cases_lt}
 use Rattle.std.proofs.lemmas.List.{ext_get_or, get_or-map, length-map, length-replicate, take_all, take-replicate, drop-replicate, replicate-append-replicate}
 use Rattle.std.proofs.lemmas.Option.{slice_get-get_or}
 use Rattle.error_correction.specs.Bits.{AreBytes, bits_apart}
-use Rattle.error_correction.specs.Code.{is_odd, pairs, third, double, inner, line_of, column_of, code_of}
+use Rattle.error_correction.specs.Code.{is_odd, pairs, third, double, inner, line_of, column_of_chunk, code_of}
 use Rattle.error_correction.specs.Correct.{IsChunk, wrong_bits, OwnCodeLaw}
 use Rattle.error_correction.proofs.Apart.{apart_self}
 use Rattle.error_correction.proofs.Near.{erased_code, two_not}
@@ -30,7 +30,7 @@ use Rattle.file_die.specs.Store.{page_in}
 use Rattle.coded_store.specs.declared.wrong.Wrong.TheVariants.{Turned}
 use Rattle.coded_store.specs.Reading.{read_as, read_image, erased_with_codes}
 use Rattle.coded_store.specs.File.{IsWithCodes}
-use Rattle.coded_store.specs.Laws.{HasTwoIn, HasTwo, MendedLaw, LostLaw, NoPageLaw, OwnLaw, ErasedLaw, FileLaw}
+use Rattle.coded_store.specs.Laws.{HasTwoIn, HasTwoWrongBits, OneBitMendedLaw, TwoBitsLostLaw, LostIsNoPageLaw, OwnLaw, ErasedCodesLaw, FileLaw}
 use Rattle.coded_store.proofs.ReadLemmas.{reads_right, reads_lost, tells_right, tells_lost, append_bytes}
 
 -- ---- the bits that are turned back are those that are wrong
@@ -74,7 +74,7 @@ near_bits g p r is w near =
     (record { size_is = is.spare_size; bytes = is.spare_fits }) (omega (arith, length-take 3 (drop g.spare_bytes r.spare), length-drop g.spare_bytes r.spare, outer)) near.spare in
     page_wrong g p.body r.body p.spare r.spare (wrong_in (plain_of g.spare_bytes r) (plain_code g.spare_bytes r)) (sum_chunks wrong_in (chunk_count g) r.body (body_codes g.spare_bytes r)) _ is.spare_size (sym spare) body (omega arith)
 
-pub mended_law : MendedLaw
+pub mended_law : OneBitMendedLaw
 mended_law g p r is w near =
     let right = put_right_law g p r is w.sizes w.bytes near in
     record {
@@ -110,7 +110,7 @@ unfolding lost_areas
 some_lost g r (inl l) = omega arith
 some_lost g r (inr e) = omega arith
 
-two_in_page : (g : Geometry) (p r : Page) → IsPage g p → IsWithCodes g r → HasTwo g p r → 0 < lost_chunks g r
+two_in_page : (g : Geometry) (p r : Page) → IsPage g p → IsWithCodes g r → HasTwoWrongBits g p r → 0 < lost_chunks g r
 two_in_page g p r is w (inl two) =
     let outer = w.sizes.spare_size in
     some_lost g r (inr (two_in_chunk g.spare_bytes p.spare (plain_of g.spare_bytes r) (plain_code g.spare_bytes r) g.limits.spare_size.most
@@ -121,10 +121,10 @@ two_in_page g p r is w (inr two) =
     some_lost g r (inl (two_in_some (chunk_count g) p.body r.body (body_codes g.spare_bytes r) (is.body_size ∙ sym w.sizes.body_size) (omega (arith, w.sizes.body_size, enough g))
     (omega (arith, length-drop (g.spare_bytes + 3) r.spare, outer)) is.body_fits w.bytes.body two))
 
-pub lost_law : LostLaw
+pub lost_law : TwoBitsLostLaw
 lost_law g p r is w two = let some = two_in_page g p r is w two in record { shows = reads_lost g r some; tells = tells_lost g r some }
 
-pub no_page_law : NoPageLaw
+pub no_page_law : LostIsNoPageLaw
 no_page_law g = record { unsound = lost_unsound g; unerased = lost_unerased g }
 
 -- ---- a page as it is written
@@ -141,9 +141,9 @@ third_fits true n l = xor_of_8 (double n * 4) 0x54 (omega arith) (omega arith)
 third_fits false n l = xor_of_8 (double n * 4) 0 (omega arith) (omega arith)
 
 code_bytes : (chunk : List ℕ) → AreBytes (code_of chunk)
-code_bytes chunk zero = xor_of_8 255 _ (omega arith) (pairs_fit (is_odd (column_of chunk)) (line_of chunk / 16))
-code_bytes chunk (suc zero) = xor_of_8 255 _ (omega arith) (pairs_fit (is_odd (column_of chunk)) (line_of chunk % 16))
-code_bytes chunk (suc (suc zero)) = xor_of_8 255 _ (omega arith) (third_fits (is_odd (column_of chunk)) (inner (column_of chunk)) (inner_fits (column_of chunk)))
+code_bytes chunk zero = xor_of_8 255 _ (omega arith) (pairs_fit (is_odd (column_of_chunk chunk)) (line_of chunk / 16))
+code_bytes chunk (suc zero) = xor_of_8 255 _ (omega arith) (pairs_fit (is_odd (column_of_chunk chunk)) (line_of chunk % 16))
+code_bytes chunk (suc (suc zero)) = xor_of_8 255 _ (omega arith) (third_fits (is_odd (column_of_chunk chunk)) (inner (column_of_chunk chunk)) (inner_fits (column_of_chunk chunk)))
 code_bytes chunk (suc (suc (suc i))) = omega arith
 
 codes_bytes : (n : ℕ) (body : List ℕ) → AreBytes (codes_of n body)
@@ -190,7 +190,7 @@ erased_codes (suc n) d =
     ∙ (ap (λ z. replicate 3 255 ++ codes_of n z) (drop-replicate 256 d 255)
     ∙ (ap (λ z. replicate 3 255 ++ z) (erased_codes n (d - 256)) ∙ (replicate-append-replicate 3 (3 * n) 255 ∙ ap (λ k. replicate k 255) three))))
 
-pub erased_law : ErasedLaw
+pub erased_law : ErasedCodesLaw
 erased_law g =
     let s = g.spare_bytes in
     let n = chunk_count g in

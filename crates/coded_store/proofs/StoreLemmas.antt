@@ -13,7 +13,7 @@ use Rattle.file_die.specs.Bytes.{Bytes, piece}
 use Rattle.file_die.specs.Rows.{Rows, IsReading, read_rows, held_in}
 use Rattle.file_die.specs.Store.{Puts, page_in}
 use Rattle.file_die.proofs.RowLemmas.{rows_length, row_is}
-use Rattle.coded_store.specs.Reading.{coded_bytes, read_as, shown_by, erased_with_codes}
+use Rattle.coded_store.specs.Reading.{coded_bytes, read_as, page_as_read, erased_with_codes}
 use Rattle.coded_store.specs.File.{image_with_codes}
 use Rattle.coded_store.specs.Laws.{BlankLaw, BlankFileLaw, RowsLaw}
 use Rattle.coded_store.proofs.ReadLemmas.{read_sized}
@@ -29,7 +29,7 @@ blank_page g size e =
     ap (λ z. page z (drop d (replicate size 255))) (take-replicate d size 255 (omega arith)) ∙ ap (λ z. page (replicate d 255) z) (drop-replicate d size 255 ∙ ap (λ k. replicate k 255) rest)
 
 -- each row reads as a page of the die, and erased bytes as an erased one
-pub coded_reading : (g : Geometry) (size : ℕ) → size ≡ coded_bytes g → IsReading g size (shown_by g)
+pub coded_reading : (g : Geometry) (size : ℕ) → size ≡ coded_bytes g → IsReading g size (page_as_read g)
 coded_reading g size e = record {
   pages = λ bytes l fits. read_sized g (page_of g bytes) (stands_with_codes g bytes (l ∙ e) fits);
   erased = ap (read_as g) (blank_page g size e) ∙ erased_reads g;
@@ -52,11 +52,11 @@ stood_at g size row given bytes is lt e = ap (page_of g) (e ∙ ap (λ n. piece 
 -- ---- calls
 
 -- a put is of what was given, which is what is shown of its codes and it
-pub puts_shown : {F : Type 0} → (held : F → Bytes) (old new : Rows F) (row : ℕ) (bytes : List ℕ) (p : Page) (done : Bool) → new.geometry ≡ old.geometry → shown_by old.geometry bytes ≡ p
-    → Puts (held_in held (shown_by old.geometry) old) row (shown_by old.geometry bytes) done (held_in held (shown_by old.geometry) new) → Puts (held_in held (shown_by old.geometry) old) row p done (held_in held (shown_by new.geometry) new)
+pub puts_shown : {F : Type 0} → (held : F → Bytes) (old new : Rows F) (row : ℕ) (bytes : List ℕ) (p : Page) (done : Bool) → new.geometry ≡ old.geometry → page_as_read old.geometry bytes ≡ p
+    → Puts (held_in held (page_as_read old.geometry) old) row (page_as_read old.geometry bytes) done (held_in held (page_as_read old.geometry) new) → Puts (held_in held (page_as_read old.geometry) old) row p done (held_in held (page_as_read new.geometry) new)
 puts_shown held old new row bytes p done e is w =
-    subst (λ (z : Geometry). Puts (held_in held (shown_by old.geometry) old) row p done (held_in held (shown_by z) new)) (sym e)
-    (subst (λ (q : Page). Puts (held_in held (shown_by old.geometry) old) row q done (held_in held (shown_by old.geometry) new)) is w)
+    subst (λ (z : Geometry). Puts (held_in held (page_as_read old.geometry) old) row p done (held_in held (page_as_read z) new)) (sym e)
+    (subst (λ (q : Page). Puts (held_in held (page_as_read old.geometry) old) row q done (held_in held (page_as_read old.geometry) new)) is w)
 
 -- ---- erased pages
 

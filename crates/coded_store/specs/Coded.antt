@@ -11,7 +11,7 @@ use Rattle.file_die.specs.Rows.{Rows, held_in, is_kept}
 use Rattle.coded_store.specs.declared.wrong.Wrong.{Wrong}
 use Rattle.coded_store.specs.declared.wrong.Wrong.TheVariants.{Turned, Lost}
 use Rattle.coded_store.specs.declared.coded.Mended.{Mended}
-use Rattle.coded_store.specs.Reading.{coded_bytes, read_as, shown_by, wrong_with}
+use Rattle.coded_store.specs.Reading.{coded_bytes, read_as, page_as_read, wrong_with}
 use Rattle.coded_store.specs.File.{IsWithCodes, image_with_codes}
 
 pub record Coded (F : Type 0) : Type 0 where
@@ -31,16 +31,16 @@ pub record AreCodedParts (g : Geometry) (size : ℕ) (buffer : List ℕ) (wrong 
 -- ---- what it holds
 
 -- WHAT STANDS IN ITS FILE: the pages with their codes
-abbrev pub standing : {F : Type 0} → (F → Bytes) → Coded F → Image
-standing held s = image_with_codes s.rows.geometry (held s.rows.file).bytes
+abbrev pub standing_with_codes : {F : Type 0} → (F → Bytes) → Coded F → Image
+standing_with_codes held s = image_with_codes s.rows.geometry (held s.rows.file).bytes
 
 -- THE PAGES THAT IT HOLDS: what stands there, as it reads
 abbrev pub reading : {F : Type 0} → (F → Bytes) → Coded F → Held
-reading held s = held_in held (shown_by s.rows.geometry) s.rows
+reading held s = held_in held (page_as_read s.rows.geometry) s.rows
 
 -- whether these are kept
-abbrev pub is_honest : {F : Type 0} → (F → Bytes) → (F → Bool) → (F → ℕ → (List ℕ → Page) → Bool) → Coded F → Bool
-is_honest held honest tells s = is_kept held honest tells (shown_by s.rows.geometry) s.rows
+abbrev pub is_reading_kept : {F : Type 0} → (F → Bytes) → (F → Bool) → (F → ℕ → (List ℕ → Page) → Bool) → Coded F → Bool
+is_reading_kept held honest tells s = is_kept held honest tells (page_as_read s.rows.geometry) s.rows
 
 -- ---- a load
 
@@ -59,16 +59,16 @@ abbrev pub turned_in : Wrong → ℕ
 turned_in (Turned bits) = bits
 turned_in Lost = 0
 
-abbrev pub is_lost : Wrong → Bool
-is_lost (Turned bits) = false
-is_lost Lost = true
+abbrev pub is_row_lost : Wrong → Bool
+is_row_lost (Turned bits) = false
+is_row_lost Lost = true
 
 -- the bits that were turned back, and the rows that were lost, as each was last read
 abbrev pub turned_of : List Wrong → ℕ
 turned_of wrong = sum_by turned_in wrong
 
 abbrev pub lost_of : List Wrong → ℕ
-lost_of wrong = count_by is_lost wrong
+lost_of wrong = count_by is_row_lost wrong
 
 abbrev pub mended_of : List Wrong → Mended
 mended_of wrong = record { turned = turned_of wrong; lost = lost_of wrong }

@@ -6,7 +6,7 @@ use Rattle.file_die.specs.Bytes.{Bytes}
 use Rattle.coded_store.specs.declared.either.MaybeCoded.{MaybeCoded}
 use Rattle.coded_store.specs.declared.either.MaybeCoded.TheVariants.{Plain, Coded}
 use Rattle.coded_store.specs.declared.coded.Mended.{Mended}
-use Rattle.coded_store.specs.Coded.{reading, is_honest, mended_of, nothing_wrong}
+use Rattle.coded_store.specs.Coded.{reading, is_reading_kept, mended_of, nothing_wrong}
 
 abbrev pub held_of : {S F : Type 0} → (S → Held) → (F → Bytes) → MaybeCoded S F → Held
 held_of plain held (Plain s) = plain s
@@ -14,7 +14,7 @@ held_of plain held (Coded s) = reading held s
 
 abbrev pub honest_of : {S F : Type 0} → (S → Bool) → (F → Bytes) → (F → Bool) → (F → ℕ → (List ℕ → Page) → Bool) → MaybeCoded S F → Bool
 honest_of plain held honest tells (Plain s) = plain s
-honest_of plain held honest tells (Coded s) = is_honest held honest tells s
+honest_of plain held honest tells (Coded s) = is_reading_kept held honest tells s
 
 abbrev pub failed_of : {S F : Type 0} → (S → ℕ) → MaybeCoded S F → ℕ
 failed_of plain (Plain s) = plain s

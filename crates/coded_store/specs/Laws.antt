@@ -14,7 +14,7 @@ use Rattle.file_die.specs.Store.{page_in}
 use Rattle.coded_store.specs.declared.wrong.Wrong.{Wrong}
 use Rattle.coded_store.specs.declared.wrong.Wrong.TheVariants.{Turned, Lost}
 use Rattle.file_die.specs.Rows.{read_rows}
-use Rattle.coded_store.specs.Reading.{coded_bytes, read_as, shown_by, wrong_with, read_image, erased_with_codes}
+use Rattle.coded_store.specs.Reading.{coded_bytes, read_as, page_as_read, wrong_with, read_image, erased_with_codes}
 use Rattle.coded_store.specs.File.{IsWithCodes, image_with_codes}
 
 -- the page is shown, and this is told of it
@@ -23,8 +23,8 @@ pub record ReadsCoded (g : Geometry) (stands page : Page) (wrong : Wrong) : Type
   pub tells : wrong_with g stands ≡ wrong
 
 -- A page of which at most one bit is wrong in each chunk with its code reads as it was written, and just the bits that are wrong are told
-abbrev pub MendedLaw : Type 0
-MendedLaw = (g : Geometry) (p stands : Page) → IsPage g p → IsWithCodes g stands → IsNear g p stands → ReadsCoded g stands p (Turned (bits_wrong g p stands))
+abbrev pub OneBitMendedLaw : Type 0
+OneBitMendedLaw = (g : Geometry) (p stands : Page) → IsPage g p → IsWithCodes g stands → IsNear g p stands → ReadsCoded g stands p (Turned (bits_wrong g p stands))
 
 -- a chunk of the data area, with its code, of which two bits are wrong
 abbrev pub HasTwoIn : ℕ → List ℕ → List ℕ → List ℕ → Type 0
@@ -32,14 +32,14 @@ HasTwoIn zero right body codes = ⊥
 HasTwoIn (suc n) right body codes = (wrong_bits (take 256 right) (take 256 body) (take 3 codes) ≡ 2) ⊎ HasTwoIn n (drop 256 right) (drop 256 body) (drop 3 codes)
 
 -- a chunk of the page, the spare area being one, of which two bits are wrong
-abbrev pub HasTwo : Geometry → Page → Page → Type 0
-HasTwo g p stands =
+abbrev pub HasTwoWrongBits : Geometry → Page → Page → Type 0
+HasTwoWrongBits g p stands =
     (wrong_bits p.spare (take g.spare_bytes stands.spare) (take 3 (drop g.spare_bytes stands.spare)) ≡ 2)
     ⊎ HasTwoIn (chunk_count g) p.body stands.body (drop (g.spare_bytes + 3) stands.spare)
 
 -- One of which two bits of a chunk are wrong is lost, and that is told
-abbrev pub LostLaw : Type 0
-LostLaw = (g : Geometry) (p stands : Page) → IsPage g p → IsWithCodes g stands → HasTwo g p stands → ReadsCoded g stands (lost_page g) Lost
+abbrev pub TwoBitsLostLaw : Type 0
+TwoBitsLostLaw = (g : Geometry) (p stands : Page) → IsPage g p → IsWithCodes g stands → HasTwoWrongBits g p stands → ReadsCoded g stands (lost_page g) Lost
 
 -- bytes that are near to a page are shown as it, and just so many bits are told as are wrong
 pub record IsMended (g : Geometry) (stands : Page) : Type 0 where
@@ -49,29 +49,29 @@ pub record IsMended (g : Geometry) (stands : Page) : Type 0 where
   pub reads : ReadsCoded g stands page (Turned (bits_wrong g page stands))
 
 -- those that are near to none are lost
-pub record IsLost (g : Geometry) (stands : Page) : Type 0 where
+pub record IsFarAndLost (g : Geometry) (stands : Page) : Type 0 where
   pub far : (p : Page) → IsPage g p → IsNear g p stands → ⊥
   pub reads : ReadsCoded g stands (lost_page g) Lost
 
 -- ANY BYTES, such as a file may give that is not honest
 abbrev pub AnyLaw : Type 0
-AnyLaw = (g : Geometry) (stands : Page) → IsWithCodes g stands → IsMended g stands ⊎ IsLost g stands
+AnyLaw = (g : Geometry) (stands : Page) → IsWithCodes g stands → IsMended g stands ⊎ IsFarAndLost g stands
 
 -- the page that is lost has no record, and is not erased
 pub record IsNoPage (p : Page) : Type 0 where
   pub unsound : record_of p ≡ None
   pub unerased : is_erased_page p ≡ false
 
-abbrev pub NoPageLaw : Type 0
-NoPageLaw = (g : Geometry) → IsNoPage (lost_page g)
+abbrev pub LostIsNoPageLaw : Type 0
+LostIsNoPageLaw = (g : Geometry) → IsNoPage (lost_page g)
 
 -- a page as it is written reads so, and nothing is wrong with it
 abbrev pub OwnLaw : Type 0
 OwnLaw = (g : Geometry) (p : Page) → IsPage g p → ReadsCoded g (coded g p) p (Turned 0)
 
 -- an erased page has erased codes
-abbrev pub ErasedLaw : Type 0
-ErasedLaw = (g : Geometry) → coded g (erased_page g) ≡ erased_with_codes g
+abbrev pub ErasedCodesLaw : Type 0
+ErasedCodesLaw = (g : Geometry) → coded g (erased_page g) ≡ erased_with_codes g
 
 -- a file of erased pages reads as a store of such
 abbrev pub BlankLaw : Type 0
@@ -83,14 +83,14 @@ BlankFileLaw = (g : Geometry) → image_with_codes g (replicate (row_count g * c
 
 -- the pages that a store holds are what stands in its file, as that reads
 abbrev pub RowsLaw : Type 0
-RowsLaw = (g : Geometry) (bytes : List ℕ) → read_rows (shown_by g) (coded_bytes g) (row_count g) bytes ≡ read_image g (image_with_codes g bytes)
+RowsLaw = (g : Geometry) (bytes : List ℕ) → read_rows (page_as_read g) (coded_bytes g) (row_count g) bytes ≡ read_image g (image_with_codes g bytes)
 
 -- each row is near to that of an image
-pub record AreNearTo (g : Geometry) (image stand : Image) : Type 0 where
+pub record AreRowsNear (g : Geometry) (image stand : Image) : Type 0 where
   pub rows : length stand ≡ row_count g
   pub with_codes : (row : ℕ) → row < row_count g → IsWithCodes g (page_in stand row)
   pub near : (row : ℕ) → row < row_count g → IsNear g (page_in image row) (page_in stand row)
 
 -- A FILE IN WHICH AT MOST ONE BIT OF EACH CHUNK IS WRONG reads as it was written
 abbrev pub FileLaw : Type 0
-FileLaw = (g : Geometry) (image stand : Image) → IsImage g image → AreNearTo g image stand → read_image g stand ≡ image
+FileLaw = (g : Geometry) (image stand : Image) → IsImage g image → AreRowsNear g image stand → read_image g stand ≡ image

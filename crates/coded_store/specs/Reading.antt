@@ -22,8 +22,8 @@ unfoldable pub read_as : Geometry → Page → Page
 read_as g r = if lost_chunks g r == 0 then corrected_page g r else lost_page g
 
 -- the page that bytes read as, its data area standing before its spare area with the codes
-abbrev pub shown_by : Geometry → List ℕ → Page
-shown_by g bytes = read_as g (page_of g bytes)
+abbrev pub page_as_read : Geometry → List ℕ → Page
+page_as_read g bytes = read_as g (page_of g bytes)
 
 -- WHAT IS WRONG WITH A PAGE: so many bits, which are turned back, or a chunk is lost
 unfoldable pub wrong_with : Geometry → Page → Wrong

@@ -7,8 +7,8 @@ ghost use Rattle.page_code.specs.Layout.{coded};
 ghost use Rattle.file_die.specs.Bytes.{HasRefused};
 ghost use Rattle.file_die.specs.Rows.{FailsSync, TellsEnd, TellsFull};
 ghost use Rattle.file_die.specs.Store.{Loads, Puts, Clears, Syncs, page_in};
-ghost use Rattle.coded_store.specs.Reading.{coded_bytes, shown_by, wrong_with};
-ghost use Rattle.coded_store.specs.Coded.{none_read, turned_of, mended_of, reading, standing, is_honest, ShowsRow};
+ghost use Rattle.coded_store.specs.Reading.{coded_bytes, page_as_read, wrong_with};
+ghost use Rattle.coded_store.specs.Coded.{none_read, turned_of, mended_of, reading, standing_with_codes, is_reading_kept, ShowsRow};
 
 use crate::show::{coded_length, show, spell};
 use crate::wrong::Wrong;
@@ -60,7 +60,7 @@ fn turned_in(wrong: Wrong) -> u64
 
 // Whether a row was lost.
 fn is_lost(wrong: Wrong) -> bool
-    ensures { result ≡ Rattle.coded_store.specs.Coded.is_lost wrong }
+    ensures { result ≡ Rattle.coded_store.specs.Coded.is_row_lost wrong }
 {
     match wrong {
         Wrong::Turned(_) => false,
@@ -114,7 +114,7 @@ impl<F: ByteFile> CodedStore<F> {
     where
         F: Drop,
         ensures made { IfOk result (λ store. (store.rows.geometry ≡ geometry) × (store.rows.failures ≡ 0) × (store.rows.fault ≡ None) × (store.wrong ≡ none_read geometry)) }
-        ensures honest { IfOk result (λ store. is_honest F.held F.honest F.tells store ≡ (F.honest file && (F.tells file (coded_bytes geometry) (shown_by geometry) && ((F.held file).failed_syncs == 0)))) }
+        ensures honest { IfOk result (λ store. is_reading_kept F.held F.honest F.tells store ≡ (F.honest file && (F.tells file (coded_bytes geometry) (page_as_read geometry) && ((F.held file).failed_syncs == 0)))) }
         ensures bytes { IfOk result (λ store. F.honest file ≡ true → (F.held store.rows.file).bytes ≡ (F.held file).bytes) }
         ensures whole { IfOk result (λ store. F.honest file ≡ true → length (F.held file).bytes ≡ row_count geometry * coded_bytes geometry) }
         ensures length { IfErr result (λ fault. (n : ℕ) → fault ≡ RowFault.Length n → F.honest file ≡ true → (n ≡ length (F.held file).bytes) × (n ≢ row_count geometry * coded_bytes geometry)) }
@@ -171,7 +171,7 @@ impl<F: ByteFile> CodedStore<F> {
 impl<F: ByteFile> Store for CodedStore<F> {
     ghost held = { reading F.held };
 
-    ghost honest = { is_honest F.held F.honest F.tells };
+    ghost honest = { is_reading_kept F.held F.honest F.tells };
 
     ghost failed = { λ s. s.rows.failures };
 
@@ -181,9 +181,9 @@ impl<F: ByteFile> Store for CodedStore<F> {
         requires room { length page.old ≡ page_bytes self.old.rows.geometry }
 
         // What every store promises.
-        ensures loads { is_honest F.held F.honest F.tells self.old ≡ true → Loads (reading F.held self.old) row (page_of self.old.rows.geometry page.new) (is_ok result) (reading F.held self.new) }
+        ensures loads { is_reading_kept F.held F.honest F.tells self.old ≡ true → Loads (reading F.held self.old) row (page_of self.old.rows.geometry page.new) (is_ok result) (reading F.held self.new) }
         ensures geometry { self.new.rows.geometry ≡ self.old.rows.geometry }
-        ensures honest { is_honest F.held F.honest F.tells self.new ≡ is_honest F.held F.honest F.tells self.old }
+        ensures honest { is_reading_kept F.held F.honest F.tells self.new ≡ is_reading_kept F.held F.honest F.tells self.old }
         ensures failed { self.old.rows.failures ≤ self.new.rows.failures }
         ensures settled { OnOk result (self.new.rows.failures ≡ self.old.rows.failures) }
         ensures rose { OnErr result (HasRisen self.old.rows.failures self.new.rows.failures) }
@@ -198,7 +198,7 @@ impl<F: ByteFile> Store for CodedStore<F> {
         ensures ended { OnErr result (TellsEnd F.gave row (coded_bytes self.old.rows.geometry) self.old.rows self.new.rows) }
 
         // Where the file is honest these are the bytes that stand there.
-        ensures told { OnOk result (F.honest self.old.rows.file ≡ true → self.new.wrong ≡ slice_set self.old.wrong row (wrong_with self.old.rows.geometry (page_in (standing F.held self.old) row))) }
+        ensures told { OnOk result (F.honest self.old.rows.file ≡ true → self.new.wrong ≡ slice_set self.old.wrong row (wrong_with self.old.rows.geometry (page_in (standing_with_codes F.held self.old) row))) }
     {
         self.rows.read(row, &mut self.stands)?;
         self.wrong[row as usize] = show(&self.rows.geometry(), &self.stands, page);
@@ -211,15 +211,15 @@ impl<F: ByteFile> Store for CodedStore<F> {
         requires whole { length page.now ≡ page_bytes self.old.rows.geometry }
 
         // What every store promises.
-        ensures puts { is_honest F.held F.honest F.tells self.old ≡ true → Puts (reading F.held self.old) row (page_of self.old.rows.geometry page.now) (is_ok result) (reading F.held self.new) }
+        ensures puts { is_reading_kept F.held F.honest F.tells self.old ≡ true → Puts (reading F.held self.old) row (page_of self.old.rows.geometry page.now) (is_ok result) (reading F.held self.new) }
         ensures geometry { self.new.rows.geometry ≡ self.old.rows.geometry }
-        ensures honest { is_honest F.held F.honest F.tells self.new ≡ is_honest F.held F.honest F.tells self.old }
+        ensures honest { is_reading_kept F.held F.honest F.tells self.new ≡ is_reading_kept F.held F.honest F.tells self.old }
         ensures failed { self.old.rows.failures ≤ self.new.rows.failures }
         ensures settled { OnOk result (self.new.rows.failures ≡ self.old.rows.failures) }
         ensures rose { OnErr result (HasRisen self.old.rows.failures self.new.rows.failures) }
 
         // It stands there with its codes. What was wrong as rows were last read stays.
-        ensures stands { OnOk result (F.honest self.old.rows.file ≡ true → standing F.held self.new ≡ slice_set (standing F.held self.old) row (coded self.old.rows.geometry (page_of self.old.rows.geometry page.now))) }
+        ensures stands { OnOk result (F.honest self.old.rows.file ≡ true → standing_with_codes F.held self.new ≡ slice_set (standing_with_codes F.held self.old) row (coded self.old.rows.geometry (page_of self.old.rows.geometry page.now))) }
         ensures untold { self.new.wrong ≡ self.old.wrong }
 
         // Whatever the file does: it is full just where the file's last answer was that.
@@ -235,9 +235,9 @@ impl<F: ByteFile> Store for CodedStore<F> {
         requires in_range { block < self.old.rows.geometry.blocks }
 
         // What every store promises.
-        ensures clears { is_honest F.held F.honest F.tells self.old ≡ true → Clears (reading F.held self.old) block (is_ok result) (reading F.held self.new) }
+        ensures clears { is_reading_kept F.held F.honest F.tells self.old ≡ true → Clears (reading F.held self.old) block (is_ok result) (reading F.held self.new) }
         ensures geometry { self.new.rows.geometry ≡ self.old.rows.geometry }
-        ensures honest { is_honest F.held F.honest F.tells self.new ≡ is_honest F.held F.honest F.tells self.old }
+        ensures honest { is_reading_kept F.held F.honest F.tells self.new ≡ is_reading_kept F.held F.honest F.tells self.old }
         ensures failed { self.old.rows.failures ≤ self.new.rows.failures }
         ensures settled { OnOk result (self.new.rows.failures ≡ self.old.rows.failures) }
         ensures rose { OnErr result (HasRisen self.old.rows.failures self.new.rows.failures) }
@@ -252,9 +252,9 @@ impl<F: ByteFile> Store for CodedStore<F> {
 
     fn sync(&mut self) -> Result<(), StoreFault>
         // What every store promises.
-        ensures syncs { is_honest F.held F.honest F.tells self.old ≡ true → Syncs (reading F.held self.old) (is_ok result) (reading F.held self.new) }
+        ensures syncs { is_reading_kept F.held F.honest F.tells self.old ≡ true → Syncs (reading F.held self.old) (is_ok result) (reading F.held self.new) }
         ensures geometry { self.new.rows.geometry ≡ self.old.rows.geometry }
-        ensures honest { is_honest F.held F.honest F.tells self.new ≡ is_honest F.held F.honest F.tells self.old }
+        ensures honest { is_reading_kept F.held F.honest F.tells self.new ≡ is_reading_kept F.held F.honest F.tells self.old }
         ensures failed { self.old.rows.failures ≤ self.new.rows.failures }
         ensures settled { OnOk result (self.new.rows.failures ≡ self.old.rows.failures) }
         ensures rose { OnErr result (HasRisen self.old.rows.failures self.new.rows.failures) }

@@ -23,7 +23,7 @@ use Rattle.collection.specs.declared.engine.Engine.{Engine}
 use Rattle.collection.specs.declared.fault.EngineFault.{EngineFault}
 use Rattle.collection.specs.declared.fault.EngineFault.TheVariants.{ReadOnly, SequenceSpent, Damaged, Bus}
 use Rattle.collection.specs.Acts.{EngineActs, OnlyPrograms}
-use Rattle.collection.specs.Log.{Follows, Wears, Went}
+use Rattle.collection.specs.Log.{FollowsLog, Wears, Went}
 use Rattle.collection.specs.Cost.{HasPut, WriteBackCosts}
 use Rattle.collection.specs.Results.{Goes, IsLastPage}
 use Rattle.collection.specs.Collect.{IsFollowed, PutsBehind, FollowCosts}
@@ -43,7 +43,7 @@ went_as a b c x y told told' same next w = record {
   log = w.log;
   leads = w.leads;
   records = w.records;
-  follows = subst (λ s. Follows a.geometry.pages w.log a.blocks s) (sym same) w.follows;
+  follows = subst (λ s. FollowsLog a.geometry.pages w.log a.blocks s) (sym same) w.follows;
   next = next ∙ w.next;
   wears = subst (λ s. Wears w.log a.blocks s) (sym same) w.wears;
   numbers = w.numbers;

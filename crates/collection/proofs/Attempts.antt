@@ -21,7 +21,7 @@ use Rattle.budget.specs.declared.stream.Stream.{Stream}
 use Rattle.budget.specs.Counts.{TakesOne, FailsOne}
 use Rattle.allocation.specs.declared.blocks.Blocks.{Blocks}
 use Rattle.allocation.specs.State.{State, free_count}
-use Rattle.allocation.specs.Step.{Takes, taken, without}
+use Rattle.allocation.specs.Step.{TakesNextRow, taken, without}
 use Rattle.allocation.specs.Counts.{counts_of}
 use Rattle.onfi_cycles.specs.declared.nand.Outcome.{Outcome}
 use Rattle.onfi_cycles.specs.declared.nand.Outcome.TheVariants.{Passed, Failed}
@@ -53,7 +53,7 @@ StepOf view row sequence old new outcome = IsStep row sequence outcome (view.fla
 
 -- ---- the row that was taken
 
-pub taken_by : (r : Ram) (stream : Stream) (row block : ℕ) (t : State) → IsRam r → Takes stream row r.blocks t → block ≡ row / r.geometry.pages → IsTaken stream block row r.blocks t
+pub taken_by : (r : Ram) (stream : Stream) (row block : ℕ) (t : State) → IsRam r → TakesNextRow stream row r.blocks t → block ≡ row / r.geometry.pages → IsTaken stream block row r.blocks t
 taken_by r stream row block t s takes is = taken_at stream row block r.blocks t takes (is ∙ ap (λ g. row / g.pages) (sym s.blocks_of))
 
 pub taken_good : (stream : Stream) (block row : ℕ) (s t : State) → IsTaken stream block row s t → is_good_at t.table block ≡ true
@@ -173,7 +173,7 @@ module _ (stream : Stream) (block row : ℕ) (r : Ram) (t : State) (s : IsRam r)
           }
 
 -- the row that was taken may be programmed
-pub can_take : (r : Ram) (stream : Stream) (row block : ℕ) (t : State) → IsRam r → Takes stream row r.blocks t → block ≡ row / r.geometry.pages → (kind : Kind) (n : ℕ) (o : Option ℕ) (body : List ℕ) (old : Image)
+pub can_take : (r : Ram) (stream : Stream) (row block : ℕ) (t : State) → IsRam r → TakesNextRow stream row r.blocks t → block ≡ row / r.geometry.pages → (kind : Kind) (n : ℕ) (o : Option ℕ) (body : List ℕ) (old : Image)
     → MayPut kind n o body r old → IsKeyOf r.geometry (key_from kind n) → (wear : ℕ) → CanProgram r.geometry row (next_record kind n r.next wear) old
 can_take r stream row block t s takes at kind n o body old may of_key wear = may_program stream block row r t s (taken_by r stream row block t s takes at) kind n o body old may of_key wear
 

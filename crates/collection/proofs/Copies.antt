@@ -26,7 +26,7 @@ use Rattle.collection.specs.State.{Ram, Pin}
 use Rattle.collection.specs.Safe.{IsRam, IsOutside, is_shut}
 use Rattle.collection.specs.Pages.{newest_row}
 use Rattle.collection.specs.Maps.{IsPageFor}
-use Rattle.collection.specs.Truth.{IsTrue, HasTable}
+use Rattle.collection.specs.Truth.{IsTrue, HasFormedTablePage}
 use Rattle.collection.specs.Live.{IsLivePage}
 use Rattle.collection.specs.Results.{MayPut, IsSame, IsReplaced, IsWrittenBack, IsLastPage, Goes, last_record}
 use Rattle.collection.specs.Cost.{HasPut, PutCosts}
@@ -51,7 +51,7 @@ page_for r image row body (Translation t) w of_key is holds = λ n lt of_page no
     let here : newest_row image (Translation (n / entries r.geometry)) ≡ Some row = ap (λ k. newest_row image (Translation k)) of_page ∙ is in
     ap (λ b. entry_at b (n % entries r.geometry)) (sym holds) ∙ (sym (entry_here r.geometry image n row here) ∙ w.maps.entry_is n lt (none_not (Sector n)) none)
 page_for r image row body (Table u) w of_key is holds =
-    let t : HasTable r.geometry image u = w.tables u of_key in
+    let t : HasFormedTablePage r.geometry image u = w.tables u of_key in
     let e : Some t.row ≡ Some row = sym t.newest_is ∙ is in
     let same : t.row ≡ row = cc in
     let P : List ℕ → Type 0 = λ b. IsWellFormed (entries r.geometry) r.geometry.blocks u b in

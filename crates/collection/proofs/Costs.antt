@@ -2,7 +2,7 @@
 use Rattle.std.proofs.Common.{◌≡◌, ◌≢◌, inl, inr, ℕ, ◌+◌, ◌-◌, ◌<◌, ◌≤◌, ◌^◌, Option, Some, None, Result, Ok, Err, ap, sym, subst, arith}
 use Rattle.page_layout.specs.declared.geometry.Geometry.{Geometry}
 use Rattle.budget.specs.declared.stream.Stream.{Stream}
-use Rattle.budget.specs.Counts.{TakesOne, Fits}
+use Rattle.budget.specs.Counts.{TakesOne, FitsGoodBlocks}
 use Rattle.budget.proofs.PutLemmas.{first_try, failed_try, passed_try, no_try}
 use Rattle.allocation.specs.State.{free_count}
 use Rattle.allocation.specs.Counts.{counts_of}
@@ -28,7 +28,7 @@ module _ (stream : Stream) (old now new : Ram) (h : HasTried stream old now) whe
 
   pub has_put : IsRam old → now.geometry ≡ old.geometry → PassesTry stream now new → HasPut stream old new
   has_put s same p =
-      let fit : Fits old.geometry.pages (counts_of old.blocks) = (let P : Geometry → Type 0 = λ g. Fits g.pages (counts_of old.blocks) in subst P s.blocks_of (fits (free_count old.blocks) old.blocks s.blocks)) in
+      let fit : FitsGoodBlocks old.geometry.pages (counts_of old.blocks) = (let P : Geometry → Type 0 = λ g. FitsGoodBlocks g.pages (counts_of old.blocks) in subst P s.blocks_of (fits (free_count old.blocks) old.blocks s.blocks)) in
       let takes : TakesOne stream old.geometry.pages (counts_of now.blocks) (counts_of new.blocks) = (let P : Geometry → Type 0 = λ g. TakesOne stream g.pages (counts_of now.blocks) (counts_of new.blocks) in subst P same p.counts) in
       record {
         failures = h.failures;

@@ -15,7 +15,7 @@ use Rattle.page_layout.specs.declared.record.Key.TheVariants.{Sector}
 use Rattle.page_layout.specs.Key.{key_of, key_from}
 use Rattle.page_layout.specs.Live.{IsKeyOf}
 use Rattle.page_layout.specs.Change.{Keeps, HoldsNone, LosesIn, erased_page}
-use Rattle.page_layout.specs.Flash.{Flash, TurnState, Erase, Steps, after, with_block, no_page, no_turn}
+use Rattle.page_layout.specs.Flash.{Flash, NextState, Erase, Steps, after, with_block, no_page, no_next_page}
 use Rattle.page_layout.specs.Recording.{Recording, EndsAt, EndsIn, asked_erase, image_after}
 use Rattle.page_layout.proofs.ArrayLemmas.{sector_here}
 use Rattle.page_layout.proofs.FlashLemmas.{image-erase, erase_loses}
@@ -130,22 +130,22 @@ erased_sized g = record {
   spare_fits = filled g.spare_bytes;
 }
 
--- the turn of a block that may be erased
-abbrev due_turn : TurnState
-due_turn = record { next = 0; barred = false; programs = 0; erases = 0 }
+-- the next page of a block that may be erased
+abbrev due_next_page : NextState
+due_next_page = record { next = 0; barred = false; programs = 0; erases = 0 }
 
 -- a die with this image on which the block may be erased
 abbrev due_die : Geometry → ℕ → Image → Flash
-due_die g block image = record { geometry = g; image = image; turns = replicate (block + 1) due_turn; abuse = 0 }
+due_die g block image = record { geometry = g; image = image; next_pages = replicate (block + 1) due_next_page; abuse = 0 }
 
 asked_steps : (g : Geometry) (block : ℕ) (image : Image) → block < g.blocks → length image ≡ row_count g → Steps (due_die g block image) (asked_erase g block) (after (due_die g block image) (asked_erase g block))
 asked_steps g block image lt rows =
     let within : suc block * g.pages ≤ g.blocks * g.pages = mul-le-mul_right g.pages lt in
-    let turn : get_or (replicate (block + 1) due_turn) block no_turn ≡ due_turn = get_or-replicate (block + 1) block due_turn no_turn (omega arith) in
-    let due = ap (λ (t : TurnState). not t.barred) turn in
+    let next_page : get_or (replicate (block + 1) due_next_page) block no_next_page ≡ due_next_page = get_or-replicate (block + 1) block due_next_page no_next_page (omega arith) in
+    let due = ap (λ (t : NextState). not t.barred) next_page in
     record {
       lawful = record {
-        in_range = omega (arith, length-replicate (block + 1) due_turn);
+        in_range = omega (arith, length-replicate (block + 1) due_next_page);
         in_image = omega (arith, within, rows);
         due = λ passed. due;
         size = length-replicate g.pages (erased_page g);

@@ -11,12 +11,12 @@ use Rattle.page_layout.specs.Geometry.{translation_pages, entries}
 use Rattle.page_layout.specs.Live.{IsKeyOf}
 use Rattle.page_layout.proofs.CountLemmas.{bit, count_by-cons}
 use Rattle.page_layout.proofs.GeometryLemmas.{sector_entry}
-use Rattle.mapping_cache.specs.Mapping.{MappingState, per_page, moved_in, without, without_page, cleaned}
+use Rattle.mapping_cache.specs.Mapping.{MappingState, per_page, moved_in, without_sector, without_page, cleaned}
 use Rattle.allocation.proofs.CountLemmas.{count_moved}
 use Rattle.collection.specs.State.{Ram}
 use Rattle.collection.specs.Safe.{IsRam}
 use Rattle.collection.specs.Settle.{SetsMapping, Cleans}
-use Rattle.collection.specs.Collect.{is_marked, is_due, is_owed, owed_count, due_count, marks_after, IsUpToDate, Refreshes, OwesNone}
+use Rattle.collection.specs.Collect.{is_translation_marked, is_due, is_owed, owed_count, due_count, marks_after, IsUpToDate, Refreshes, OwesNone}
 
 -- ---- the moved list
 
@@ -88,17 +88,17 @@ asked : (ask : ℕ → Bool) (flushing : Bool) (pp t : ℕ) (moved moved' : List
 asked ask flushing pp t moved moved' mark mark' m k = rw (m, k) refl
 
 module _ (flushing : Bool) (n row : ℕ) (r r' : Ram) (s : IsRam r) (f : HasFollowed flushing (Sector n) row r r') (k : ℕ) (ne : k ≢ n / entries r.geometry) where
-  other_asked : (ask : ℕ → Bool) → (ask (length (moved_in (per_page r'.mapping) k r'.mapping.moved)) || (flushing && is_marked r' k)) ≡ (ask (length (moved_in (per_page r.mapping) k r.mapping.moved)) || (flushing && is_marked r k))
+  other_asked : (ask : ℕ → Bool) → (ask (length (moved_in (per_page r'.mapping) k r'.mapping.moved)) || (flushing && is_translation_marked r' k)) ≡ (ask (length (moved_in (per_page r.mapping) k r.mapping.moved)) || (flushing && is_translation_marked r k))
   other_asked ask =
       let pp_is : per_page r.mapping ≡ entries r.geometry = ap entries s.mapping_of in
       let pp'_is : per_page r'.mapping ≡ per_page r.mapping = ap entries f.mapping.limits.geometry in
       let others : moved_in (per_page r.mapping) k r'.mapping.moved ≡ moved_in (per_page r.mapping) k r.mapping.moved = f.mapping.moved_others k (λ e. ne (e ∙ ap (λ p. n / p) pp_is)) in
-      let mark : is_marked r' k ≡ is_marked r k = ap (λ l. get_or l k false) f.marks ∙ marked_other flushing r.geometry n k r.pin.marks ne in
-      ap (λ p. ask (length (moved_in p k r'.mapping.moved)) || (flushing && is_marked r' k)) pp'_is ∙ asked ask flushing (per_page r.mapping) k r.mapping.moved r'.mapping.moved (is_marked r k) (is_marked r' k) others mark
+      let mark : is_translation_marked r' k ≡ is_translation_marked r k = ap (λ l. get_or l k false) f.marks ∙ marked_other flushing r.geometry n k r.pin.marks ne in
+      ap (λ p. ask (length (moved_in p k r'.mapping.moved)) || (flushing && is_translation_marked r' k)) pp'_is ∙ asked ask flushing (per_page r.mapping) k r.mapping.moved r'.mapping.moved (is_translation_marked r k) (is_translation_marked r' k) others mark
 
   -- a page of a sector that was copied has no other translation page written
   pub other_due : is_due flushing r' k ≡ is_due flushing r k
-  other_due = ap (λ share. nat_lt share (length (moved_in (per_page r'.mapping) k r'.mapping.moved)) || (flushing && is_marked r' k)) f.mapping.limits.share ∙ other_asked (nat_lt r.mapping.share)
+  other_due = ap (λ share. nat_lt share (length (moved_in (per_page r'.mapping) k r'.mapping.moved)) || (flushing && is_translation_marked r' k)) f.mapping.limits.share ∙ other_asked (nat_lt r.mapping.share)
 
   pub other_owed : is_owed flushing r' k ≡ is_owed flushing r k
   other_owed = other_asked (λ m. not (m == 0))
@@ -133,7 +133,7 @@ copied_refreshes (Sector n) row r r' s lt f = record {
         let no : ⊥ = cc in absurd no
     | inr ne ↦
         let pp : per_page r'.mapping ≡ entries r.geometry = ap entries f.mapping.limits.geometry ∙ ap entries s.mapping_of in
-        let was_unmarked : is_marked r t ≡ false = sym (ap (λ l. get_or l t false) f.marks ∙ marked_other true r.geometry n t r.pin.marks ne) ∙ unmarked in
+        let was_unmarked : is_translation_marked r t ≡ false = sym (ap (λ l. get_or l t false) f.marks ∙ marked_other true r.geometry n t r.pin.marks ne) ∙ unmarked in
         let apart : k ≢ n = λ e. ne (sym of_page ∙ (ap (λ p. k / p) pp ∙ ap (λ j. j / entries r.geometry) e)) in
         f.mapping.pending_others k apart ∙ fresh was_unmarked k (ap (λ p. k / p) (ap entries (sym f.mapping.limits.geometry)) ∙ of_page)
   ];
@@ -157,18 +157,18 @@ module _ (t : ℕ) (r r' : Ram) (s : IsRam r) (lt : t < translation_pages r.geom
 
   module _ (flushing : Bool) (ask : ℕ → Bool) (asks_some : ask 0 ≡ false) where
     abbrev asks : Ram → ℕ → Bool
-    asks q k = ask (length (moved_in (per_page q.mapping) k q.mapping.moved)) || (flushing && is_marked q k)
+    asks q k = ask (length (moved_in (per_page q.mapping) k q.mapping.moved)) || (flushing && is_translation_marked q k)
 
     written_asked : asks r t ≡ true → count_by (asks r') (range_with_len 0 (translation_pages r'.geometry)) + 1 ≤ count_by (asks r) (range_with_len 0 (translation_pages r.geometry))
     written_asked was =
         let same : (k : ℕ) → k ≢ t → asks r' k ≡ asks r k = λ k ne.
-        ap (λ (m : MappingState). ask (length (moved_in (per_page m) k m.moved)) || (flushing && is_marked r' k)) f.mapping
-        ∙ asked ask flushing (per_page r.mapping) k r.mapping.moved (without_page (per_page r.mapping) t r.mapping.moved) (is_marked r k)
-        (is_marked r' k) (left_others (per_page r.mapping) t k r.mapping.moved ne) (mark_there k ne) in
+        ap (λ (m : MappingState). ask (length (moved_in (per_page m) k m.moved)) || (flushing && is_translation_marked r' k)) f.mapping
+        ∙ asked ask flushing (per_page r.mapping) k r.mapping.moved (without_page (per_page r.mapping) t r.mapping.moved) (is_translation_marked r k)
+        (is_translation_marked r' k) (left_others (per_page r.mapping) t k r.mapping.moved ne) (mark_there k ne) in
         let now : asks r' t ≡ false =
-        ap (λ (m : MappingState). ask (length (moved_in (per_page m) t m.moved)) || (flushing && is_marked r' t)) f.mapping
-        ∙ (ap (λ l. ask (length l) || (flushing && is_marked r' t)) (left_none (per_page r.mapping) t r.mapping.moved)
-        ∙ none flushing (is_marked r' t) mark_here) in
+        ap (λ (m : MappingState). ask (length (moved_in (per_page m) t m.moved)) || (flushing && is_translation_marked r' t)) f.mapping
+        ∙ (ap (λ l. ask (length l) || (flushing && is_translation_marked r' t)) (left_none (per_page r.mapping) t r.mapping.moved)
+        ∙ none flushing (is_translation_marked r' t) mark_here) in
         let e = one_less (asks r) (asks r') t (translation_pages r.geometry) same lt was now in
         rw f.geometry e
       where
@@ -180,7 +180,7 @@ module _ (t : ℕ) (r r' : Ram) (s : IsRam r) (lt : t < translation_pages r.geom
   written_due flushing was =
       let less = written_asked flushing (nat_lt r.mapping.share) (le-ltb _ _ (omega arith)) was in
       let same : r'.mapping.share ≡ r.mapping.share = ap (λ m. m.share) f.mapping in
-      (let P : ℕ → Type 0 = λ share. count_by (λ k. nat_lt share (length (moved_in (per_page r'.mapping) k r'.mapping.moved)) || (flushing && is_marked r' k)) (range_with_len 0 (translation_pages r'.geometry)) + 1 ≤ due_count flushing r in subst P (sym same) less)
+      (let P : ℕ → Type 0 = λ share. count_by (λ k. nat_lt share (length (moved_in (per_page r'.mapping) k r'.mapping.moved)) || (flushing && is_translation_marked r' k)) (range_with_len 0 (translation_pages r'.geometry)) + 1 ≤ due_count flushing r in subst P (sym same) less)
 
   pub written_owed : (flushing : Bool) → is_owed flushing r t ≡ true → owed_count flushing r' + 1 ≤ owed_count flushing r
   written_owed flushing was = written_asked flushing (λ m. not (m == 0)) refl was
@@ -204,19 +204,19 @@ pub record HasCleaned (t : ℕ) (r r' : Ram) : Type 0 where
   pub marks : r'.pin.marks ≡ r.pin.marks
 
 module _ (t : ℕ) (r r' : Ram) (f : HasCleaned t r r') where
-  stays_marked : (k : ℕ) → is_marked r' k ≡ is_marked r k
+  stays_marked : (k : ℕ) → is_translation_marked r' k ≡ is_translation_marked r k
   stays_marked k = ap (λ l. get_or l k false) f.marks
 
-  stays_asked : (flushing : Bool) (ask : ℕ → Bool) (k : ℕ) → k ≢ t → (ask (length (moved_in (per_page r'.mapping) k r'.mapping.moved)) || (flushing && is_marked r' k))
-      ≡ (ask (length (moved_in (per_page r.mapping) k r.mapping.moved)) || (flushing && is_marked r k))
-  stays_asked flushing ask k ne = ap (λ (m : MappingState). ask (length (moved_in (per_page m) k m.moved)) || (flushing && is_marked r' k)) f.mapping
-      ∙ asked ask flushing (per_page r.mapping) k r.mapping.moved (without_page (per_page r.mapping) t r.mapping.moved) (is_marked r k)
-      (is_marked r' k) (left_others (per_page r.mapping) t k r.mapping.moved ne) (stays_marked k)
+  stays_asked : (flushing : Bool) (ask : ℕ → Bool) (k : ℕ) → k ≢ t → (ask (length (moved_in (per_page r'.mapping) k r'.mapping.moved)) || (flushing && is_translation_marked r' k))
+      ≡ (ask (length (moved_in (per_page r.mapping) k r.mapping.moved)) || (flushing && is_translation_marked r k))
+  stays_asked flushing ask k ne = ap (λ (m : MappingState). ask (length (moved_in (per_page m) k m.moved)) || (flushing && is_translation_marked r' k)) f.mapping
+      ∙ asked ask flushing (per_page r.mapping) k r.mapping.moved (without_page (per_page r.mapping) t r.mapping.moved) (is_translation_marked r k)
+      (is_translation_marked r' k) (left_others (per_page r.mapping) t k r.mapping.moved ne) (stays_marked k)
 
   pub cleaned_due : (flushing : Bool) → t < translation_pages r.geometry → due_count flushing r' ≤ due_count flushing r + 1
   cleaned_due flushing lt =
       let same : (k : ℕ) → k ≢ t → is_due flushing r' k ≡ is_due flushing r k = λ k ne.
-      ap (λ share. nat_lt share (length (moved_in (per_page r'.mapping) k r'.mapping.moved)) || (flushing && is_marked r' k)) (ap (λ (m : MappingState). m.share) f.mapping)
+      ap (λ share. nat_lt share (length (moved_in (per_page r'.mapping) k r'.mapping.moved)) || (flushing && is_translation_marked r' k)) (ap (λ (m : MappingState). m.share) f.mapping)
       ∙ stays_asked flushing (nat_lt r.mapping.share) k ne in
       let e = one_more (is_due flushing r) (is_due flushing r') t (translation_pages r.geometry) same lt in
       rw f.geometry e
@@ -227,8 +227,8 @@ module _ (t : ℕ) (r r' : Ram) (f : HasCleaned t r r') where
     | inl here ↦
         let none : moved_in (per_page r'.mapping) k r'.mapping.moved ≡ [] = ap (λ (m : MappingState). moved_in (per_page m) k m.moved) f.mapping
         ∙ (ap (λ j. moved_in (per_page r.mapping) j (without_page (per_page r.mapping) t r.mapping.moved)) here ∙ left_none (per_page r.mapping) t r.mapping.moved) in
-        let only : (flushing && is_marked r' k) ≡ true = sym (ap (λ l. not (length l == 0) || (flushing && is_marked r' k)) none) ∙ owed in
-        by_mark (not (length (moved_in (per_page r.mapping) k r.mapping.moved) == 0)) (flushing && is_marked r k) (ap (λ b. flushing && b) (sym (stays_marked k)) ∙ only)
+        let only : (flushing && is_translation_marked r' k) ≡ true = sym (ap (λ l. not (length l == 0) || (flushing && is_translation_marked r' k)) none) ∙ owed in
+        by_mark (not (length (moved_in (per_page r.mapping) k r.mapping.moved) == 0)) (flushing && is_translation_marked r k) (ap (λ b. flushing && b) (sym (stays_marked k)) ∙ only)
     | inr ne ↦ sym (stays_asked flushing (λ m. not (m == 0)) k ne) ∙ owed
   ]
     where

@@ -20,7 +20,7 @@ use Rattle.bad_blocks.specs.declared.table.TableRow.{TableRow}
 use Rattle.bad_blocks.specs.declared.class.Class.TheVariants.{Grown}
 use Rattle.bad_blocks.specs.Table.{is_good, is_good_at, wear_at, class_at, most_wear, no_table_row}
 use Rattle.promises.specs.Log.{passed_erases_of}
-use Rattle.promises.specs.Legal.{Account, account_at, noted, accounted, LegalFrom}
+use Rattle.promises.specs.Legal.{Account, account_at, account_after, accounted, LegalFrom}
 use Rattle.promises.proofs.AccountLemmas.{length-accounted, accounted-same, accounted-other}
 use Rattle.allocation.specs.declared.fill.Fill.{Fill}
 use Rattle.allocation.specs.declared.blocks.Blocks.{Blocks}
@@ -34,8 +34,8 @@ use Rattle.collection.specs.State.{Ram}
 use Rattle.collection.specs.Safe.{IsRam, IsSafe, ram, image_in}
 use Rattle.collection.specs.declared.engine.Engine.{Engine}
 use Rattle.collection.specs.Acts.{EngineActs}
-use Rattle.collection.specs.Truth.{IsTrue, AreFilled, HasTable}
-use Rattle.collection.specs.Log.{IsAccounted, Follows, Went}
+use Rattle.collection.specs.Truth.{IsTrue, AreFilled, HasFormedTablePage}
+use Rattle.collection.specs.Log.{IsAccounted, FollowsLog, Went}
 use Rattle.collection.specs.Maps.{Maps}
 use Rattle.collection.specs.Results.{IsImageKept}
 use Rattle.collection.specs.Collect.{GoesBut, IsReleased}
@@ -48,14 +48,14 @@ use Rattle.collection.proofs.Truths.{sound_same, erased_same, tables_kept}
 
 -- ---- the blocks
 
-pub made_erased : (s : State) (block : ℕ) → blocks.IsSafe (free_count s) s → block < s.geometry.blocks → is_closed s block ≡ true → IsMade block s (erased block s)
+pub made_erased : (s : State) (block : ℕ) → blocks.AreBlocksSafe (free_count s) s → block < s.geometry.blocks → is_closed s block ≡ true → IsMade block s (erased block s)
 made_erased s block safe within closed = record {
   geometry = refl;
   safe = safe_counted _ (erased block s) (safe_erased (free_count s) s block within closed safe);
   others = λ c ne. (let o = erased_others s block c ne in record { row = o.row; pointer = o.pointer; closed = o.closed });
 }
 
-pub made_without : (s : State) (block : ℕ) → blocks.IsSafe (free_count s) s → block < s.geometry.blocks → IsMade block s (without block s)
+pub made_without : (s : State) (block : ℕ) → blocks.AreBlocksSafe (free_count s) s → block < s.geometry.blocks → IsMade block s (without block s)
 made_without s block safe within = record {
   geometry = refl;
   safe = safe_counted _ (without block s) (safe_without (free_count s) s block within safe);
@@ -100,7 +100,7 @@ pub record HasEnded (block : ℕ) (passed : Bool) (old new : State) : Type 0 whe
   pub wear : wear_at new.table block ≡ worn_by passed (wear_at old.table block)
   pub live : (b : ℕ) → live_at new b ≡ live_at old b
 
-pub has_ended : (passed : Bool) (s : State) (block : ℕ) → blocks.IsSafe (free_count s) s → block < s.geometry.blocks → is_closed s block ≡ true → HasEnded block passed s (ended passed block s)
+pub has_ended : (passed : Bool) (s : State) (block : ℕ) → blocks.AreBlocksSafe (free_count s) s → block < s.geometry.blocks → is_closed s block ≡ true → HasEnded block passed s (ended passed block s)
 has_ended true s block safe within closed = record {
   is_block = within;
   was_good = closed_good s block closed;
@@ -170,7 +170,7 @@ module _ (pages block : ℕ) (passed : Bool) (left : List Page) (old new : State
       after : ℕ → Account
       after b = account_at (accounted pages accounts (Erase block passed left)) b
 
-      here : after block ≡ noted (account_at accounts block) (Erase block passed left)
+      here : after block ≡ account_after (account_at accounts block) (Erase block passed left)
       here = accounted-same pages accounts (Erase block passed left) block refl (omega (arith, a.size, h.is_block))
 
       there : (b : ℕ) → b ≢ block → after b ≡ account_at accounts b
@@ -187,7 +187,7 @@ module _ (pages block : ℕ) (passed : Bool) (left : List Page) (old new : State
         | inr ne ↦ ap (λ (x : Account). x.next) (there b ne) ∙ (a.next b within (ap is_good (sym (h.made.others b ne).row) ∙ good) ∙ sym (h.made.others b ne).pointer)
       ]
 
-  pub erase_follows : Follows pages (Erase block passed left ∷ []) old new
+  pub erase_follows : FollowsLog pages (Erase block passed left ∷ []) old new
   erase_follows = record { legal = erase_legal; accounted = erase_accounted }
 
 worn_once : (passed : Bool) (w v : ℕ) → v ≡ worn_by passed w → w ≤ most_wear → v ≡ min (w + (0 + one_if (passed && true))) most_wear
@@ -313,7 +313,7 @@ ended_kept r r' before after block passed left s w same none step whole t h = re
       live = (let P : Geometry → Type 0 = λ g. (b : ℕ) → b < g.blocks → live_at r'.blocks b ≡ Rattle.page_layout.specs.Live.live g (marks after.image) b in
           subst P (sym h.made.geometry) (λ b lb. h.live b ∙ (w.live b lb ∙ sym (live_kept b))));
       worn = worn_grown r.blocks r'.blocks before.image after.image h.made.geometry (ended_most block passed r.blocks r'.blocks h w.worn.most) (ended_grows block passed r.blocks r'.blocks h w.worn.most) k.records w.worn;
-      tables = (let e : (u : ℕ) → u < table_pages r.geometry → HasTable r.geometry after.image u = λ u lt. tables_kept r.geometry before.image after.image u k (w.tables u lt) in rw t.geometry e);
+      tables = (let e : (u : ℕ) → u < table_pages r.geometry → HasFormedTablePage r.geometry after.image u = λ u lt. tables_kept r.geometry before.image after.image u k (w.tables u lt) in rw t.geometry e);
       maps = (let e : Maps None r.geometry after.image r.directory r.mapping = maps_stays None r.geometry before.image after.image r.directory r.mapping k w.maps in rw (t.geometry, t.directory, t.mapping) e);
     }
       where

@@ -42,7 +42,7 @@ use Rattle.collection.specs.Pages.{newest_row}
 use Rattle.collection.specs.Safe.{IsRam, IsSafe, IsBuffer, ram, is_shut}
 use Rattle.collection.specs.Truth.{IsTrue}
 use Rattle.collection.specs.Cost.{PageCosts, WriteBackCosts}
-use Rattle.collection.specs.Live.{HoldsNoneIn, IsLivePage, IsTaken, LooksAt, IsFirstLive, FindsFirst, PointsTo, IsFoundIn}
+use Rattle.collection.specs.Live.{HoldsNoneIn, IsLivePage, StandsInRow, LooksAt, IsFirstLive, FindsFirst, PointsTo, IsFoundIn}
 use Rattle.collection.specs.Looks.{IsReadFault, IsPageOf, GivesRow}
 use Rattle.collection.specs.Results.{IsLastPage, IsWritten, Refused, Goes}
 use Rattle.collection.specs.Settle.{BringsOut, HasNoMore, HasSettled}
@@ -285,7 +285,7 @@ module _ (row : ℕ) (found : Record) (taken : Option Record) (key : Key) (newes
       let R : Record → Type 0 = λ y. IsFoundIn r q s row y in
       subst R (some_same found x is) (subst Q same one)
 
-  pub live_here : (image : Image) (body body1 : List ℕ) → IsTaken row taken body image → body1 ≡ body → newest ≡ newest_row image key → IsLivePage row body1 found image
+  pub live_here : (image : Image) (body body1 : List ℕ) → StandsInRow row taken body image → body1 ≡ body → newest ≡ newest_row image key → IsLivePage row body1 found image
   live_here image body body1 t same is = record {
     mark = t.mark ∙ got;
     newest = ap (newest_row image) (sym of_key) ∙ (sym is ∙ is_row newest row b compared so);

@@ -20,7 +20,7 @@ use Rattle.page_layout.proofs.ArrayLemmas.{mark-page, body_page}
 use Rattle.collection.specs.State.{Ram}
 use Rattle.collection.specs.Pages.{newest_row}
 use Rattle.collection.specs.Truth.{IsTrue}
-use Rattle.collection.specs.Live.{NotAt, HoldsNoneIn, IsTaken, IsLivePage, LooksAt}
+use Rattle.collection.specs.Live.{NotAt, HoldsNoneIn, StandsInRow, IsLivePage, LooksAt}
 
 -- ---- a row
 
@@ -56,7 +56,7 @@ not_same o row b is unequal e =
     let absurd_is : ⊥ = cc in
     absurd_is
 
-pub taken_page : (image : Image) (row : ℕ) (p : Page) (found : Option Record) → slice_get image row ≡ Some p → found ≡ record_of p → IsTaken row found p.body image
+pub taken_page : (image : Image) (row : ℕ) (p : Page) (found : Option Record) → slice_get image row ≡ Some p → found ≡ record_of p → StandsInRow row found p.body image
 taken_page image row p found at is = record { mark = mark-page image row p at ∙ sym is; holds = body_page image row p at }
 
 -- ---- a block

@@ -8,7 +8,7 @@ use Rattle.std.proofs.lemmas.Bool.{eq-eqb}
 use Rattle.page_layout.specs.declared.record.Key.{Key}
 use Rattle.page_layout.specs.declared.record.Key.TheVariants.{Sector, Translation, Table}
 use Rattle.page_layout.specs.Geometry.{entries}
-use Rattle.mapping_cache.specs.Mapping.{MappingState, slot_of, per_page, without, without_page}
+use Rattle.mapping_cache.specs.Mapping.{MappingState, slot_of, per_page, without_sector, without_page}
 use Rattle.collection.specs.State.{Ram}
 use Rattle.collection.specs.Settle.{SetsMapping}
 use Rattle.collection.specs.Results.{Goes}

@@ -31,9 +31,9 @@ use Rattle.collection.specs.Log.{Went}
 use Rattle.collection.specs.Room.{IsFundedOn, IsWorth, Collects}
 use Rattle.collection.specs.Truth.{IsTrue}
 use Rattle.collection.specs.Results.{IsSame, Refused}
-use Rattle.collection.specs.Collect.{is_over, is_marked, is_due, due_count, waiting, GoesBut, Refreshes, LeadTo, Ledger, CollectCosts, HasCollected, CollectsFew, CollectCounts, IsEmptied, IsRearranged, RoomRefused, RoomTells, RoomCounts}
+use Rattle.collection.specs.Collect.{is_over, is_translation_marked, is_due, due_count, waiting, GoesBut, Refreshes, LeadTo, Ledger, CollectCosts, HasCollected, CollectsFew, CollectCounts, IsEmptied, IsRearranged, RoomRefused, RoomTells, RoomCounts}
 use Rattle.collection.specs.Whole.{next_of}
-use Rattle.collection.specs.Left.{IdleLaw, IsHalfDone, IsCalm, IsFew, HasPassed, PinIsFew, pin_after, pinned_to}
+use Rattle.collection.specs.Left.{IdleLaw, IsHalfDone, IsCalm, IsFew, HasPassedNoNewest, PinIsFew, pin_after, pinned_to}
 use Rattle.std.proofs.lemmas.Bool.{ltb-true}
 use Rattle.collection.proofs.Dues.{moved_count, length_keys}
 use Rattle.collection.proofs.Lowest.{shut_closed}
@@ -43,7 +43,7 @@ use Rattle.collection.proofs.Acts.{acts_but}
 
 -- ---- what is due at first
 
-unmarked_at : (r : Ram) (t : ℕ) → r.pin.marks ≡ replicate (translation_pages r.geometry) false → is_marked r t ≡ false
+unmarked_at : (r : Ram) (t : ℕ) → r.pin.marks ≡ replicate (translation_pages r.geometry) false → is_translation_marked r t ≡ false
 unmarked_at r t unmarked = ap (λ l. get_or l t false) unmarked ∙ elim (cases_lt t (translation_pages r.geometry)) [
   | inl below ↦ get_or-replicate (translation_pages r.geometry) t false false below
   | inr past ↦ get_or_past (replicate (translation_pages r.geometry) false) t false (omega (arith, length-replicate (translation_pages r.geometry) false))
@@ -58,7 +58,7 @@ due_moved false false m none is = is
 pub due_few : (flushing : Bool) (r : Ram) → r.pin.marks ≡ replicate (translation_pages r.geometry) false → due_count flushing r ≤ length r.mapping.moved
 due_few flushing r unmarked =
     let has : (t : ℕ) → t < translation_pages r.geometry → is_due flushing r t ≡ true → 0 < count_by (λ n. n / per_page r.mapping == t) (keys_of r.mapping.moved) = λ t below is.
-    let over : is_over r.mapping t ≡ true = due_moved (is_over r.mapping t) flushing (is_marked r t) (unmarked_at r t unmarked) is in
+    let over : is_over r.mapping t ≡ true = due_moved (is_over r.mapping t) flushing (is_translation_marked r t) (unmarked_at r t unmarked) is in
     let some : r.mapping.share < length (moved_in (per_page r.mapping) t r.mapping.moved) = ltb-true _ _ over in
     omega (arith, some, moved_count (per_page r.mapping) t r.mapping.moved) in
     let e = touched_pages (per_page r.mapping) (translation_pages r.geometry) (keys_of r.mapping.moved) (is_due flushing r) has in
@@ -194,7 +194,7 @@ acts_from a b to result p = acts_but a b a.page to b.pinned b.marks result resul
 pub idle_half : (r : Ram) (block : ℕ) (to : Option Pinned) → IsIdle r → block < r.geometry.blocks → is_closed r.blocks block ≡ true → IsHalfDone (pinned_to to r) (record { block = block; first = 0 })
 idle_half r block to idle lt closed = record { within = lt; closed = closed; passed = (let few = idle.moved in omega arith); on_die = omega arith }
 
-pub passed_none : (r : Ram) (x : Image) (block : ℕ) → HasPassed r x (record { block = block; first = 0 })
+pub passed_none : (r : Ram) (x : Image) (block : ℕ) → HasPassedNoNewest r x (record { block = block; first = 0 })
 passed_none r x block = none_yet r.geometry.pages block x 0
 
 pub idle_few : (r : Ram) (block : ℕ) (to : Option Pinned) → block < r.geometry.blocks → IsIdle r → live_at r.blocks block ≤ vmax_at r.geometry r.mapping.share → IsFew 0 (pinned_to to r) (record { block = block; first = 0 })

@@ -12,7 +12,7 @@ use Rattle.mapping_cache.specs.Mapping.{MappingState}
 use Rattle.page_layout.specs.Counter.{counted}
 use Rattle.budget.specs.declared.stream.Stream.{Stream}
 use Rattle.budget.specs.declared.stream.Stream.TheVariants.{Data, Meta}
-use Rattle.budget.specs.Counts.{Counts, Fits, Erased}
+use Rattle.budget.specs.Counts.{Counts, FitsGoodBlocks, Erased}
 use Rattle.budget.specs.Put.{StreamPut}
 use Rattle.budget.specs.Spending.{data_of, meta_of, Collected, Stuck}
 use Rattle.budget.proofs.AccountLemmas.{no_page, one_page, collected, stuck}
@@ -49,8 +49,8 @@ use Rattle.collection.proofs.Puts.{same_then}
 use Rattle.collection.proofs.Finds.{none_of_all}
 use Rattle.collection.proofs.Lowest.{same_here, holds_none, shut_closed}
 
-pub fit : (r : Ram) → IsRam r → Fits r.geometry.pages (counts_of r.blocks)
-fit r s = (let P : Geometry → Type 0 = λ g. Fits g.pages (counts_of r.blocks) in subst P s.blocks_of (fits (free_count r.blocks) r.blocks s.blocks))
+pub fit : (r : Ram) → IsRam r → FitsGoodBlocks r.geometry.pages (counts_of r.blocks)
+fit r s = (let P : Geometry → Type 0 = λ g. FitsGoodBlocks g.pages (counts_of r.blocks) in subst P s.blocks_of (fits (free_count r.blocks) r.blocks s.blocks))
 
 free_within : (r : Ram) → IsRam r → (counts_of r.blocks).free ≤ r.geometry.blocks
 free_within r s = (let x = free_fits (free_count r.blocks) r.blocks s.blocks in rw (← s.blocks_of) x)
@@ -335,7 +335,7 @@ counts_collected flushing block first old now new known x y s same k small begin
     let w = u.truth k in
     let le : u.ledger.copies ≤ live_at old.blocks block = omega (arith, w.copies_left) in
     let f = few_pages block old u.ledger.copies u.ledger.written small le (last_of flushing old now u.ledger.copies u.ledger.written begin u.ledger.account) (let o = u.ledger.account.once in omega arith) in
-    let fits_new : Fits old.geometry.pages (counts_of new.blocks) = (let P : Geometry → Type 0 = λ g. Fits g.pages (counts_of new.blocks) in subst P same (fit new s)) in
+    let fits_new : FitsGoodBlocks old.geometry.pages (counts_of new.blocks) = (let P : Geometry → Type 0 = λ g. FitsGoodBlocks g.pages (counts_of new.blocks) in subst P same (fit new s)) in
     collected old.geometry.pages e.failures u.ledger.data_pages u.ledger.meta_pages (counts_of old.blocks) (counts_of now.blocks) (counts_of new.blocks) u.ledger.programmed.account (omega (arith, u.ledger.pages, f)) e.counts fits_new
 
 pub counts_stuck : (flushing : Bool) (block first : ℕ) (old now new : Ram) (known : Type 0) (x y : Image) → now.geometry ≡ old.geometry → known

@@ -29,7 +29,7 @@ use Rattle.collection.specs.Truth.{IsTrue}
 use Rattle.collection.specs.Live.{NotAt, HoldsNoneIn}
 use Rattle.collection.specs.Results.{LeavesNewest}
 use Rattle.collection.specs.Collect.{has_moved, is_owed, owed_count, waiting, HasWritten}
-use Rattle.collection.specs.Left.{sectors_in, is_of_some, is_touched, touched_count, batches, moves_in, write_backs_in, left_in, IsHalfDone, IsCalm, LeavesPin, TouchesNoMore}
+use Rattle.collection.specs.Left.{sectors_in_block, is_of_some, is_touched, touched_count, batches, moves_in, write_backs_in, left_to_program, IsHalfDone, IsCalm, LeavesPin, TouchesNoMore}
 use Rattle.collection.proofs.Copies.{exact_at}
 use Rattle.collection.proofs.Dues.{HasFollowed, HasCleaned, cleaned_owed, other_owed, same_owed, unmarked_key, one_less, some_positive, moved_count, length_keys}
 use Rattle.collection.proofs.Batches.{div_ceil_le, batches_le, batches_less}
@@ -81,7 +81,7 @@ positive_some n e = ap not (ne_eqb n 0 (λ z. (let no : ⊥ = absurd (omega arit
 
 -- ---- the sectors in a block
 
-sectors_live : (g : Geometry) (image : Image) (block : ℕ) → length (sectors_in g image block) ≤ live g (marks image) block
+sectors_live : (g : Geometry) (image : Image) (block : ℕ) → length (sectors_in_block g image block) ≤ live g (marks image) block
 unfolding live keys
 sectors_live g image block =
     let p : Key → Bool = λ key. is_in_block g.pages block (newest (marks image) key) in
@@ -90,7 +90,7 @@ sectors_live g image block =
     let a = count_by-append p (map Sector (range_with_len 0 g.sectors)) (map Translation (range_with_len 0 (translation_pages g)) ++ map Table (range_with_len 0 (table_pages g))) in
     omega (arith, e, m, a)
 
-exact_live : (r : Ram) (image : Image) (block : ℕ) → IsRam r → IsTrue None r image → block < r.geometry.blocks → length (sectors_in r.geometry image block) ≤ live_at r.blocks block
+exact_live : (r : Ram) (image : Image) (block : ℕ) → IsRam r → IsTrue None r image → block < r.geometry.blocks → length (sectors_in_block r.geometry image block) ≤ live_at r.blocks block
 exact_live r image block s w lt = omega (arith, sectors_live r.geometry image block, exact_at r image block s w lt)
 
 -- no newest page comes into a shut block
@@ -106,15 +106,15 @@ stays_in r r' x y block n same shut l is =
     ]
 
 some_stays : (r r' : Ram) (x y : Image) (block t : ℕ) → r'.geometry ≡ r.geometry → is_shut r.blocks block ≡ true → LeavesNewest r x y
-    → is_of_some (entries r'.geometry) (sectors_in r'.geometry y block) t ≡ true
-    → is_of_some (entries r.geometry) (sectors_in r.geometry x block) t ≡ true
+    → is_of_some (entries r'.geometry) (sectors_in_block r'.geometry y block) t ≡ true
+    → is_of_some (entries r.geometry) (sectors_in_block r.geometry x block) t ≡ true
 some_stays r r' x y block t same shut l is =
-    let here : is_of_some (entries r.geometry) (sectors_in r.geometry y block) t ≡ true = (let P : Geometry → Type 0 = λ g. is_of_some (entries g) (sectors_in g y block) t ≡ true in subst P same is) in
+    let here : is_of_some (entries r.geometry) (sectors_in_block r.geometry y block) t ≡ true = (let P : Geometry → Type 0 = λ g. is_of_some (entries g) (sectors_in_block g y block) t ≡ true in subst P same is) in
     let fewer = count_filter (λ n. n / entries r.geometry == t) (λ n. is_in_block r.geometry.pages block (newest_row x (Sector n)))
     (λ n. is_in_block r.geometry.pages block (newest_row y (Sector n))) (range_with_len 0 r.geometry.sectors)
     (λ n now. stays_in r r' x y block n same shut l now) in
-    let some = some_positive (count_by (λ n. n / entries r.geometry == t) (sectors_in r.geometry y block)) here in
-    positive_some (count_by (λ n. n / entries r.geometry == t) (sectors_in r.geometry x block)) (omega arith)
+    let some = some_positive (count_by (λ n. n / entries r.geometry == t) (sectors_in_block r.geometry y block)) here in
+    positive_some (count_by (λ n. n / entries r.geometry == t) (sectors_in_block r.geometry x block)) (omega arith)
 
 -- as many translation pages are touched, or fewer
 pub touched_kept : (flushing : Bool) (r r' : Ram) (x y : Image) (block : ℕ) → r'.geometry ≡ r.geometry → is_shut r.blocks block ≡ true
@@ -123,9 +123,9 @@ pub touched_kept : (flushing : Bool) (r r' : Ram) (x y : Image) (block : ℕ) �
 touched_kept flushing r r' x y block same shut l due =
     let e : count_by (is_touched flushing r' y block) (range_with_len 0 (translation_pages r.geometry)) ≤ touched_count flushing r x block =
     count_less (is_touched flushing r x block) (is_touched flushing r' y block) (range_with_len 0 (translation_pages r.geometry))
-    (λ t is. elim (or_cases (is_owed flushing r' t) (is_of_some (entries r'.geometry) (sectors_in r'.geometry y block) t) is) [
+    (λ t is. elim (or_cases (is_owed flushing r' t) (is_of_some (entries r'.geometry) (sectors_in_block r'.geometry y block) t) is) [
       | inl first ↦ due t first
-      | inr second ↦ or_right (is_owed flushing r t) (is_of_some (entries r.geometry) (sectors_in r.geometry x block) t) (some_stays r r' x y block t same shut l second)
+      | inr second ↦ or_right (is_owed flushing r t) (is_of_some (entries r.geometry) (sectors_in_block r.geometry x block) t) (some_stays r r' x y block t same shut l second)
     ]) in
     let P : Geometry → Type 0 = λ g. count_by (is_touched flushing r' y block) (range_with_len 0 (translation_pages g)) ≤ touched_count flushing r x block in
     subst P (sym same) e
@@ -152,13 +152,13 @@ count_both c p [] = refl
 count_both c p (x ∷ xs) = omega (arith, count_both c p xs, both_step c p x xs (p x) refl, count_by-cons (λ z. p z && c z) x xs)
 
 -- a sector of the page has its newest page there
-of_some_here : (g : Geometry) (image : Image) (block n : ℕ) → n < g.sectors → is_in_block g.pages block (newest_row image (Sector n)) ≡ true → is_of_some (entries g) (sectors_in g image block) (n / entries g) ≡ true
+of_some_here : (g : Geometry) (image : Image) (block n : ℕ) → n < g.sectors → is_in_block g.pages block (newest_row image (Sector n)) ≡ true → is_of_some (entries g) (sectors_in_block g image block) (n / entries g) ≡ true
 of_some_here g image block n lt here =
     let c : ℕ → Bool = λ k. k / entries g == n / entries g in
     let p : ℕ → Bool = λ k. is_in_block g.pages block (newest_row image (Sector k)) in
     let both : (p n && c n) ≡ true = ap (λ b. b && c n) here ∙ eq-eqb (n / entries g) (n / entries g) refl in
     let some = count_has (λ k. p k && c k) n 0 g.sectors both (omega arith) (omega arith) in
-    positive_some (count_by c (sectors_in g image block)) (omega (arith, some, count_both c p (range_with_len 0 g.sectors)))
+    positive_some (count_by c (sectors_in_block g image block)) (omega (arith, some, count_both c p (range_with_len 0 g.sectors)))
 
 copied_pages : (flushing : Bool) (key : Key) (row at : ℕ) (r r' : Ram) (image : Image) → IsRam r → IsKeyOf r.geometry key → newest_row image key ≡ Some row → HasFollowed flushing key at r r'
     → (t : ℕ) → is_owed flushing r' t ≡ true → is_touched flushing r image (row / r.geometry.pages) t ≡ true
@@ -166,26 +166,26 @@ copied_pages flushing (Sector n) row at r r' image s of_key is f t due = elim (c
   | inl here ↦
       let block : ℕ = row / r.geometry.pages in
       let in_block : is_in_block r.geometry.pages block (newest_row image (Sector n)) ≡ true = ap (is_in_block r.geometry.pages block) is ∙ eq-eqb block block refl in
-      or_right (is_owed flushing r t) (is_of_some (entries r.geometry) (sectors_in r.geometry image block) t) (ap (is_of_some (entries r.geometry) (sectors_in r.geometry image block)) here ∙ of_some_here r.geometry image block n of_key in_block)
-  | inr ne ↦ or_left (is_owed flushing r t) (is_of_some (entries r.geometry) (sectors_in r.geometry image (row / r.geometry.pages)) t) (sym (other_owed flushing n at r r' s f t ne) ∙ due)
+      or_right (is_owed flushing r t) (is_of_some (entries r.geometry) (sectors_in_block r.geometry image block) t) (ap (is_of_some (entries r.geometry) (sectors_in_block r.geometry image block)) here ∙ of_some_here r.geometry image block n of_key in_block)
+  | inr ne ↦ or_left (is_owed flushing r t) (is_of_some (entries r.geometry) (sectors_in_block r.geometry image (row / r.geometry.pages)) t) (sym (other_owed flushing n at r r' s f t ne) ∙ due)
 ]
 copied_pages flushing (Translation u) row at r r' image s of_key is f t due = or_left (is_owed flushing r t)
-    (is_of_some (entries r.geometry) (sectors_in r.geometry image (row / r.geometry.pages)) t)
+    (is_of_some (entries r.geometry) (sectors_in_block r.geometry image (row / r.geometry.pages)) t)
     (sym (same_owed flushing r r' f.mapping (f.marks ∙ unmarked_key flushing r.geometry (Translation u) r.pin.marks (λ n x. (let no : ⊥ = cc in no))) t) ∙ due)
 copied_pages flushing (Table u) row at r r' image s of_key is f t due = or_left (is_owed flushing r t)
-    (is_of_some (entries r.geometry) (sectors_in r.geometry image (row / r.geometry.pages)) t)
+    (is_of_some (entries r.geometry) (sectors_in_block r.geometry image (row / r.geometry.pages)) t)
     (sym (same_owed flushing r r' f.mapping (f.marks ∙ unmarked_key flushing r.geometry (Table u) r.pin.marks (λ n x. (let no : ⊥ = cc in no))) t) ∙ due)
 
 -- the sectors that have their newest page in a shut block after a copy had it there before
-kept_sectors : (r r' : Ram) (x y : Image) (block : ℕ) → r'.geometry ≡ r.geometry → is_shut r.blocks block ≡ true → LeavesNewest r x y → length (sectors_in r'.geometry y block) ≤ length (sectors_in r.geometry x block)
+kept_sectors : (r r' : Ram) (x y : Image) (block : ℕ) → r'.geometry ≡ r.geometry → is_shut r.blocks block ≡ true → LeavesNewest r x y → length (sectors_in_block r'.geometry y block) ≤ length (sectors_in_block r.geometry x block)
 kept_sectors r r' x y block same shut l =
     let p : ℕ → Bool = λ n. is_in_block r.geometry.pages block (newest_row x (Sector n)) in
     let q : ℕ → Bool = λ n. is_in_block r.geometry.pages block (newest_row y (Sector n)) in
     let fewer = count_less p q (range_with_len 0 r.geometry.sectors) (λ n now. stays_in r r' x y block n same shut l now) in
     let before = length_filter p (range_with_len 0 r.geometry.sectors) in
     let after = length_filter q (range_with_len 0 r.geometry.sectors) in
-    let here : length (sectors_in r.geometry y block) ≤ length (sectors_in r.geometry x block) = omega arith in
-    (let P : Geometry → Type 0 = λ g. length (sectors_in g y block) ≤ length (sectors_in r.geometry x block) in subst P (sym same) here)
+    let here : length (sectors_in_block r.geometry y block) ≤ length (sectors_in_block r.geometry x block) = omega arith in
+    (let P : Geometry → Type 0 = λ g. length (sectors_in_block g y block) ≤ length (sectors_in_block r.geometry x block) in subst P (sym same) here)
 
 -- a sector whose page was copied out of it is not one of them
 out_of_block : (r r' : Ram) (x y : Image) (row n : ℕ) → r'.geometry ≡ r.geometry → is_shut r.blocks (row / r.geometry.pages) ≡ true → LeavesNewest r x y → NotAt row y → newest_row x (Sector n) ≡ Some row
@@ -204,7 +204,7 @@ out_of_block r r' x y row n same shut l gone is = elim (cases_Bool (is_in_block 
 ]
 
 fewer_sectors : (r r' : Ram) (x y : Image) (row n : ℕ) → r'.geometry ≡ r.geometry → is_shut r.blocks (row / r.geometry.pages) ≡ true → LeavesNewest r x y → NotAt row y → n < r.geometry.sectors → newest_row x (Sector n) ≡ Some row
-    → length (sectors_in r'.geometry y (row / r.geometry.pages)) + 1 ≤ length (sectors_in r.geometry x (row / r.geometry.pages))
+    → length (sectors_in_block r'.geometry y (row / r.geometry.pages)) + 1 ≤ length (sectors_in_block r.geometry x (row / r.geometry.pages))
 fewer_sectors r r' x y row n same shut l gone lt is =
     let block : ℕ = row / r.geometry.pages in
     let p : ℕ → Bool = λ k. is_in_block r.geometry.pages block (newest_row x (Sector k)) in
@@ -221,8 +221,8 @@ fewer_sectors r r' x y row n same shut l gone lt is =
     let less = one_less p but n r.geometry.sectors (λ k ne. and_true (p k) (not (k == n)) (ap not (ne_eqb k n ne))) lt here gone_now in
     let before = length_filter p all in
     let after = length_filter q all in
-    let less_here : length (sectors_in r.geometry y block) + 1 ≤ length (sectors_in r.geometry x block) = omega arith in
-    (let P : Geometry → Type 0 = λ g. length (sectors_in g y block) + 1 ≤ length (sectors_in r.geometry x block) in subst P (sym same) less_here)
+    let less_here : length (sectors_in_block r.geometry y block) + 1 ≤ length (sectors_in_block r.geometry x block) = omega arith in
+    (let P : Geometry → Type 0 = λ g. length (sectors_in_block g y block) + 1 ≤ length (sectors_in_block r.geometry x block) in subst P (sym same) less_here)
   where
     and_true : (a b : Bool) → b ≡ true → (a && b) ≡ a
     and_true true b is = is
@@ -246,15 +246,15 @@ copied_touches flushing key row at r r' x y s of_key is f shut l gone more = rec
 pub cleaned_touches : (flushing : Bool) (t block : ℕ) (r r' : Ram) (x y : Image) → HasCleaned t r r' → length r'.mapping.moved ≤ length r.mapping.moved
     → is_shut r.blocks block ≡ true → LeavesNewest r x y → TouchesNoMore flushing block r x r' y
 cleaned_touches flushing t block r r' x y f fewer shut l = record {
-  pages = λ k owed. or_left (is_owed flushing r k) (is_of_some (entries r.geometry) (sectors_in r.geometry x block) k) (cleaned_owed t r r' f flushing k owed);
+  pages = λ k owed. or_left (is_owed flushing r k) (is_of_some (entries r.geometry) (sectors_in_block r.geometry x block) k) (cleaned_owed t r r' f flushing k owed);
   share = ap (λ m. m.share) f.mapping;
   moves = (let kept = kept_sectors r r' x y block f.geometry shut l in omega (arith, kept, fewer));
 }
 
 -- ---- once no newest page is left
 
-none_in_block : (r : Ram) (x : Image) (block t : ℕ) → IsRam r → IsTrue None r x → block < r.geometry.blocks → live_at r.blocks block ≡ 0 → is_of_some (entries r.geometry) (sectors_in r.geometry x block) t ≡ false
-none_in_block r x block t s w lt zero_is = at (sectors_in r.geometry x block) (omega (arith, exact_live r x block s w lt, zero_is))
+none_in_block : (r : Ram) (x : Image) (block t : ℕ) → IsRam r → IsTrue None r x → block < r.geometry.blocks → live_at r.blocks block ≡ 0 → is_of_some (entries r.geometry) (sectors_in_block r.geometry x block) t ≡ false
+none_in_block r x block t s w lt zero_is = at (sectors_in_block r.geometry x block) (omega (arith, exact_live r x block s w lt, zero_is))
   where
     at : (ns : List ℕ) → length ns ≤ 0 → is_of_some (entries r.geometry) ns t ≡ false
     at [] le = refl
@@ -267,7 +267,7 @@ or_none false b e = e
 touched_at_end : (flushing : Bool) (r : Ram) (x : Image) (block : ℕ) → IsRam r → IsTrue None r x → block < r.geometry.blocks → live_at r.blocks block ≡ 0 → touched_count flushing r x block ≡ owed_count flushing r
 touched_at_end flushing r x block s w lt zero_is = Rattle.page_layout.proofs.CountLemmas.count_by-same (is_touched flushing r x block)
     (is_owed flushing r) (range_with_len 0 (translation_pages r.geometry))
-    (λ t. or_none (is_owed flushing r t) (is_of_some (entries r.geometry) (sectors_in r.geometry x block) t) (none_in_block r x block t s w lt zero_is))
+    (λ t. or_none (is_owed flushing r t) (is_of_some (entries r.geometry) (sectors_in_block r.geometry x block) t) (none_in_block r x block t s w lt zero_is))
 
 -- a translation page that is written back is owed no more
 touched_less : (flushing : Bool) (r r' : Ram) (x y : Image) (block : ℕ) → IsRam r' → IsTrue None r' y → block < r.geometry.blocks → r'.geometry ≡ r.geometry → live_at r'.blocks block ≡ 0
@@ -275,17 +275,17 @@ touched_less : (flushing : Bool) (r r' : Ram) (x y : Image) (block : ℕ) → Is
 touched_less flushing r r' x y block s' w' lt same now cost =
     let a : owed_count flushing r ≤ touched_count flushing r x block = count_less (is_touched flushing r x block) (is_owed flushing r)
     (range_with_len 0 (translation_pages r.geometry))
-    (λ t owed. or_left (is_owed flushing r t) (is_of_some (entries r.geometry) (sectors_in r.geometry x block) t) owed) in
+    (λ t owed. or_left (is_owed flushing r t) (is_of_some (entries r.geometry) (sectors_in_block r.geometry x block) t) owed) in
     let b = touched_at_end flushing r' y block s' w' (rw same lt) now in
     let c = cost.owed in
     omega arith
 
-pub write_law : Rattle.collection.specs.Left.WriteLaw
+pub write_law : Rattle.collection.specs.Left.TranslationWriteLaw
 write_law flushing r r' x y block s' w' lt same now cost =
     let touched = touched_less flushing r r' x y block s' w' lt same now cost in
     by flushing refl touched
   where
-    none_left : length (sectors_in r'.geometry y block) ≤ 0
+    none_left : length (sectors_in_block r'.geometry y block) ≤ 0
     none_left = (let few = exact_live r' y block s' w' (rw same lt) in omega arith)
 
     by : (b : Bool) → flushing ≡ b → touched_count b r' y block + 1 ≤ touched_count b r x block → live_at r'.blocks block + write_backs_in b r' y block + 1 ≤ live_at r.blocks block + write_backs_in b r x block
@@ -308,7 +308,7 @@ or_false false e = e
 module _ (r : Ram) (x : Image) (block : ℕ) (s : IsRam r) where
   touched_all : touched_count false r x block ≤ min (moves_in r x block) (translation_pages r.geometry)
   touched_all =
-      let own : List ℕ = sectors_in r.geometry x block in
+      let own : List ℕ = sectors_in_block r.geometry x block in
       let all : List ℕ = own ++ keys_of r.mapping.moved in
       let page : ℕ → ℕ → Bool = λ t n. n / entries r.geometry == t in
       let pp : per_page r.mapping ≡ entries r.geometry = ap entries s.mapping_of in
@@ -329,7 +329,7 @@ module _ (r : Ram) (x : Image) (block : ℕ) (s : IsRam r) where
   touched_few w lt = (let all = touched_all in let few = exact_live r x block s w lt in omega arith)
 
 -- with share 0 each moved sector is a batch
-pub touched_law : Rattle.collection.specs.Left.TouchedLaw
+pub touched_law : Rattle.collection.specs.Left.UnsharedTouchedLaw
 touched_law r x block s unshared =
     let touched = touched_all r x block s in
     let may : waiting r ≡ 0 = rw unshared (omega arith) in
@@ -386,12 +386,12 @@ pin_law r p lt none small = record { within = lt; small = small; moved = omega (
 -- a call that leaves the pin touches no more
 kept_touches : (r r' : Ram) (x y : Image) (block : ℕ) → is_shut r.blocks block ≡ true → LeavesPin r r' → LeavesNewest r x y → TouchesNoMore false block r x r' y
 kept_touches r r' x y block shut f l = record {
-  pages = λ t owed. or_left (is_owed false r t) (is_of_some (entries r.geometry) (sectors_in r.geometry x block) t) (or_left (has_moved r.mapping t) false (f.moved t (or_false (has_moved r'.mapping t) owed)));
+  pages = λ t owed. or_left (is_owed false r t) (is_of_some (entries r.geometry) (sectors_in_block r.geometry x block) t) (or_left (has_moved r.mapping t) false (f.moved t (or_false (has_moved r'.mapping t) owed)));
   share = f.share;
   moves = (let fewer = f.fewer in let kept = kept_sectors r r' x y block f.goes.geometry shut l in omega arith);
 }
 
-pub kept_law : Rattle.collection.specs.Left.KeptLaw
+pub kept_law : Rattle.collection.specs.Left.LeftNeverRisesLaw
 kept_law r r' x y block s s' w w' lt closed f l =
     let shut : is_shut r.blocks block ≡ true = shut_closed r.blocks block closed in
     let e = written_kept false r r' x y block f.goes.geometry shut l (kept_touches r r' x y block shut f l) in
@@ -413,7 +413,7 @@ half_kept r r' p f h = record {
   on_die = (let e = h.on_die in rw f.goes.geometry e);
 }
 
-pub calm_law : Rattle.collection.specs.Left.CalmLaw
+pub calm_law : Rattle.collection.specs.Left.StaysCalmLaw
 calm_law r r' f calm = record {
   unmarked = ap (λ (z : Pin). z.marks) f.pin ∙ (calm.unmarked ∙ ap (λ g. replicate (translation_pages g) false) (sym f.goes.geometry));
   pinned = (let P : Option Pinned → Type 0 = λ o. MatchOption o (length r'.mapping.moved ≤ waiting r') (IsHalfDone r') in subst P (ap (λ (z : Pin). z.block) (sym f.pin)) (by r.pin.block calm.pinned));
@@ -431,7 +431,7 @@ passed_law r r' x y calm f l h = λ p is.
     let P : Geometry → Type 0 = λ g. HoldsNoneIn g.pages p.block 0 p.first y in
     subst P (sym f.goes.geometry) e
 
-pub few_law : Rattle.collection.specs.Left.FewLaw
+pub few_law : Rattle.collection.specs.Left.StaysFewLaw
 few_law extra r r' x y s s' w w' calm f l few = λ p is.
     let was : r.pin.block ≡ Some p = was_pinned r r' p f.pin is in
     let half : IsHalfDone r p = calm_half r p calm was in

@@ -12,14 +12,14 @@ use Rattle.bad_blocks.specs.declared.table.TableRow.{TableRow}
 use Rattle.bad_blocks.specs.Table.{is_good, is_good_at, wear_at, most_wear}
 use Rattle.allocation.specs.State.{State, pointer_at}
 use Rattle.promises.specs.Log.{passed_erases_of, programs_in}
-use Rattle.promises.specs.Legal.{Account, account_at, noted, accounted, accounted_all, LegalFrom}
+use Rattle.promises.specs.Legal.{Account, account_at, account_after, accounted, accounted_all, LegalFrom}
 use Rattle.promises.proofs.LogLemmas.{counts}
 use Rattle.promises.proofs.AccountLemmas.{length-accounted, accounted-same, accounted-other}
 use Rattle.promises.proofs.LegalLemmas.{accounts_join, legal_append}
 use Rattle.onfi_cycles.specs.declared.nand.Outcome.{Outcome}
 use Rattle.onfi_cycles.specs.Outcomes.{is_passed}
 use Rattle.collection.specs.State.{Ram}
-use Rattle.collection.specs.Log.{IsAccounted, Follows, NumbersFrom, NumbersJoinLaw, Went}
+use Rattle.collection.specs.Log.{IsAccounted, FollowsLog, NumbersFrom, NumbersJoinLaw, Went}
 use Rattle.collection.specs.Results.{IsStep}
 use Rattle.collection.proofs.Blocks.{IsMade}
 
@@ -72,7 +72,7 @@ module _ (block row : ℕ) (p left : Page) (passed : Bool) (old new : State) (h 
       after : ℕ → Account
       after b = account_at (accounted old.geometry.pages accounts (Program row p passed left)) b
 
-      here : after block ≡ noted (account_at accounts block) (Program row p passed left)
+      here : after block ≡ account_after (account_at accounts block) (Program row p passed left)
       here = accounted-same old.geometry.pages accounts (Program row p passed left) block block_is (omega (arith, a.size, h.is_block))
 
       there : (b : ℕ) → b ≢ block → after b ≡ account_at accounts b
@@ -87,7 +87,7 @@ module _ (block row : ℕ) (p left : Page) (passed : Bool) (old new : State) (h 
         | inr ne ↦ ap (λ (x : Account). x.next) (there b ne) ∙ (a.next b within (ap is_good (sym (h.made.others b ne).row) ∙ good) ∙ sym (h.made.others b ne).pointer)
       ]
 
-  pub program_follows : Follows old.geometry.pages (Program row p passed left ∷ []) old new
+  pub program_follows : FollowsLog old.geometry.pages (Program row p passed left ∷ []) old new
   program_follows = record { legal = program_legal; accounted = program_accounted }
 
 -- ---- logs
@@ -120,7 +120,7 @@ went_one old new before after told told' block row outcome step same h row_is ne
   log = Program row step.its (is_passed outcome) step.left ∷ [];
   leads = Leads-one before after (Program row step.its (is_passed outcome) step.left) step.step;
   records = step.records;
-  follows = (let P : Geometry → Type 0 = λ g. Follows g.pages (Program row step.its (is_passed outcome) step.left ∷ []) old.blocks new.blocks in subst P same (program_follows block row step.its step.left (is_passed outcome) old.blocks new.blocks h row_is));
+  follows = (let P : Geometry → Type 0 = λ g. FollowsLog g.pages (Program row step.its (is_passed outcome) step.left ∷ []) old.blocks new.blocks in subst P same (program_follows block row step.its step.left (is_passed outcome) old.blocks new.blocks h row_is));
   next = next;
   wears = record {
     worn = λ b most. elim (cases_eq b block) [
@@ -133,7 +133,7 @@ went_one old new before after told told' block row outcome step same h row_is ne
 
 pub went_then : (a b c : Ram) (x y z : Flash) (rx ry rz : Option Recording) → b.geometry ≡ a.geometry → Went a x rx b y ry → Went b y ry c z rz → Went a x rx c z rz
 went_then a b c x y z rx ry rz same v w =
-    let follows : Follows a.geometry.pages w.log b.blocks c.blocks = (let P : Geometry → Type 0 = λ g. Follows g.pages w.log b.blocks c.blocks in subst P same w.follows) in
+    let follows : FollowsLog a.geometry.pages w.log b.blocks c.blocks = (let P : Geometry → Type 0 = λ g. FollowsLog g.pages w.log b.blocks c.blocks in subst P same w.follows) in
     record {
       log = v.log ++ w.log;
       leads = Leads-append x y z v.log w.log v.leads w.leads;

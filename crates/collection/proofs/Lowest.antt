@@ -18,7 +18,7 @@ use Rattle.collection.specs.Truth.{IsTrue}
 use Rattle.collection.specs.Cost.{HasPut}
 use Rattle.collection.specs.Live.{NotAt, HoldsNoneIn, IsLivePage, FindsFirst, IsFirstLive}
 use Rattle.collection.specs.Results.{IsSame, LeavesNewest}
-use Rattle.collection.specs.Collect.{is_over, is_marked, is_due, due_count, excess, waiting, OwesPage, IsLowestDue, OwesNone, IsMovedOut, IsCopied, HasWritten}
+use Rattle.collection.specs.Collect.{is_over, is_translation_marked, is_due, due_count, excess, waiting, OwesPage, IsLowestDue, OwesNone, IsMovedOut, IsCopied, HasWritten}
 use Rattle.collection.specs.Settle.{HasNoMore}
 use Rattle.mapping_cache.specs.Mapping.{MappingState, per_page, moved_in, without_page, cleaned}
 use Rattle.std.proofs.lemmas.Bool.{ltb-true, ne_eqb, cases_Bool}
@@ -158,11 +158,11 @@ written_cost flushing t r b p s low cost more same mapping marks = record {
   moved = more.moved;
   many = λ off. fewer_moved t r b mapping (over off);
   due = written_due t r (record b { pin = p }) s low.within left flushing low.due;
-  owed = written_owed t r (record b { pin = p }) s low.within left flushing (owed_by r.mapping.share (length (moved_in (per_page r.mapping) t r.mapping.moved)) (flushing && is_marked r t) low.due);
+  owed = written_owed t r (record b { pin = p }) s low.within left flushing (owed_by r.mapping.share (length (moved_in (per_page r.mapping) t r.mapping.moved)) (flushing && is_translation_marked r t) low.due);
 }
   where
     left : HasLeft t r (record b { pin = p })
     left = record { geometry = same; mapping = mapping; marks = marks }
 
     over : flushing ≡ false → is_over r.mapping t ≡ true
-    over = moved_only (is_over r.mapping t) flushing (is_marked r t) low.due
+    over = moved_only (is_over r.mapping t) flushing (is_translation_marked r t) low.due

@@ -40,12 +40,12 @@ pub shut_same : (a b : State) (k : ℕ) → IsLeftButLive a b k → is_shut b k 
 shut_same a b k l = ap (λ (r : TableRow). not (is_good r) || is_closed b k) l.row ∙ ap (λ c. not (is_good_at a.table k) || c) l.closed
 
 -- the block that is programmed next is neither
-pub next_not_shut : (s : State) (stream : Stream) (block : ℕ) → blocks.IsSafe (free_count s) s → IsNextBlock s stream block → is_shut s block ≡ false
+pub next_not_shut : (s : State) (stream : Stream) (block : ℕ) → blocks.AreBlocksSafe (free_count s) s → IsNextBlock s stream block → is_shut s block ≡ false
 next_not_shut s stream block safe next =
     let closed : is_closed s block ≡ false = next_not_closed (free_count s) s stream block safe next in
     ap (λ g. not g || is_closed s block) next.good ∙ closed
 
-pub apart_from_next : (s : State) (stream : Stream) (block b : ℕ) → blocks.IsSafe (free_count s) s → IsNextBlock s stream block → is_shut s b ≡ true → b ≢ block
+pub apart_from_next : (s : State) (stream : Stream) (block b : ℕ) → blocks.AreBlocksSafe (free_count s) s → IsNextBlock s stream block → is_shut s b ≡ true → b ≢ block
 apart_from_next s stream block b safe next is same =
     let e : is_shut s block ≡ true = ap (is_shut s) (sym same) ∙ is in
     let f : is_shut s block ≡ false = next_not_shut s stream block safe next in

@@ -33,7 +33,7 @@ use Rattle.collection.specs.Safe.{IsRam}
 use Rattle.collection.specs.Maps.{Maps}
 use Rattle.collection.specs.Collect.{waiting}
 use Rattle.collection.specs.Stops.{room_of}
-use Rattle.collection.specs.Truth.{IsTrue, HasTable}
+use Rattle.collection.specs.Truth.{IsTrue, HasFormedTablePage}
 use Rattle.collection.proofs.MapLemmas.{none_not}
 use Rattle.collection.proofs.Memory.{few_moved}
 
@@ -115,7 +115,7 @@ few_stale r image s w =
 
 -- ---- a certificate is to be had
 
-pub tables_are : (g : Geometry) (image : Image) → ((u : ℕ) → u < table_pages g → HasTable g image u) → HasTables g image
+pub tables_are : (g : Geometry) (image : Image) → ((u : ℕ) → u < table_pages g → HasFormedTablePage g image u) → HasTables g image
 tables_are g image has = record {
   formatted = λ u lt. (let t = has u lt in record { row = t.row; newest_is = t.newest_is });
   formed = λ u lt. (let t = has u lt in subst (IsWellFormed (entries g) g.blocks u) (sym (table_is image u t.row t.newest_is)) t.formed);

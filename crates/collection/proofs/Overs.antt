@@ -11,7 +11,7 @@ use Rattle.mapping_cache.specs.Mapping.{MappingState, IsBySector, IsEntryOf, IsL
 use Rattle.allocation.proofs.CountLemmas.{count_has}
 use Rattle.collection.specs.State.{Ram}
 use Rattle.collection.specs.Safe.{IsRam}
-use Rattle.collection.specs.Collect.{is_over, is_marked, is_due, due_count, waiting, IsLowestDue, OwesNone}
+use Rattle.collection.specs.Collect.{is_over, is_translation_marked, is_due, due_count, waiting, IsLowestDue, OwesNone}
 use Rattle.collection.proofs.Dues.{moved_count, length_keys}
 
 -- ---- each moved sector is of a translation page of the die
@@ -58,7 +58,7 @@ module _ (r : Ram) (s : IsRam r) (many : waiting r < length r.mapping.moved) whe
   some_due flushing =
       let page = over_page in
       let over : is_over r.mapping page.0 ≡ true = lt-ltb _ _ page.2 in
-      let due : is_due flushing r page.0 ≡ true = ap (λ b. b || (flushing && is_marked r page.0)) over in
+      let due : is_due flushing r page.0 ≡ true = ap (λ b. b || (flushing && is_translation_marked r page.0)) over in
       let lt = page.1 in
       count_has (is_due flushing r) page.0 0 (translation_pages r.geometry) due (omega arith) (omega arith)
 
@@ -93,12 +93,12 @@ none_due r s none = record {
     | inl many ↦
         let page = over_page r s many in
         let over : is_over r.mapping page.0 ≡ true = lt-ltb _ _ page.2 in
-        let due : is_due true r page.0 ≡ true = ap (λ b. b || is_marked r page.0) over in
+        let due : is_due true r page.0 ≡ true = ap (λ b. b || is_translation_marked r page.0) over in
         let no : true ≡ false = sym due ∙ none page.0 page.1 in
         let never : ⊥ = cc in absurd never
     | inr few ↦ few
   ];
-  unmarked = λ on t lt. right_false (is_over r.mapping t) (is_marked r t) (none t lt);
+  unmarked = λ on t lt. right_false (is_over r.mapping t) (is_translation_marked r t) (none t lt);
 }
   where
     right_false : (a b : Bool) → (a || b) ≡ false → b ≡ false

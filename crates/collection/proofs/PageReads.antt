@@ -9,14 +9,14 @@ use Rattle.std.proofs.Math.Nat.{mul-add, mul_comm, mul-le-mul_right}
 use Rattle.std.proofs.lemmas.Bool.{cases_Bool, cases_lt}
 use Rattle.collection.specs.Safe.{IsRam}
 use Rattle.collection.specs.Collect.{due_count, excess, waiting, StepCosts}
-use Rattle.collection.specs.Whole.{next_of, HasRead}
+use Rattle.collection.specs.Whole.{next_of, HasReadFewPages}
 use Rattle.collection.specs.declared.engine.collect_steps.Progress.{Progress}
 use Rattle.collection.specs.declared.engine.collect_steps.Progress.TheVariants as step_is
 use Rattle.collection.proofs.Ledgers.{due_most, ok_step, brings_share, waiting_same}
 use Rattle.collection.proofs.Overs.{some_due}
 use Rattle.collection.proofs.Batches.{one_more}
 
-pub none_read : (flushing : Bool) (first : ℕ) (r : Ram) (reads : ℕ) → (flushing ≡ true → due_count flushing r ≤ first) → length r.mapping.moved ≤ waiting r + first → first ≤ r.geometry.pages → HasRead flushing first first r r reads reads
+pub none_read : (flushing : Bool) (first : ℕ) (r : Ram) (reads : ℕ) → (flushing ≡ true → due_count flushing r ≤ first) → length r.mapping.moved ≤ waiting r + first → first ≤ r.geometry.pages → HasReadFewPages flushing first first r r reads reads
 none_read flushing first r reads due passed within =
     let most : due_count flushing r ≤ translation_pages r.geometry = due_most flushing r r refl in
     record {
@@ -49,11 +49,11 @@ few_last share first written le = elim (cases_lt first written) [
 ]
 
 pub read_more : (flushing : Bool) (block start first next : ℕ) (old now new : Ram) (before middle after : ℕ) (step : Progress)
-    → now.geometry ≡ old.geometry → new.geometry ≡ old.geometry → HasRead flushing start first old now before middle
+    → now.geometry ≡ old.geometry → new.geometry ≡ old.geometry → HasReadFewPages flushing start first old now before middle
     → next_of old.geometry.pages step ≡ Some next → StepCosts flushing block first now new (Ok step)
     → after ≤ middle + (2 * (now.geometry.pages - first) + min (excess flushing now) 1)
     → ((page : ℕ) → ok_step step ≡ ok_step (step_is.Copied page) → after ≤ middle + 2 * (page + 1 - first))
-    → HasRead flushing start next old new before after
+    → HasReadFewPages flushing start next old new before after
 read_more flushing block start first next old now new before middle after (step_is.Copied page) same still h is cost most copied =
     let e : page + 1 ≡ next = cc in
     let pages : now.geometry.pages ≡ old.geometry.pages = ap (λ (g : Geometry). g.pages) same in
@@ -90,7 +90,7 @@ read_more flushing block start first next old now new before middle after step_i
 
 -- with the last step
 pub read_all : (flushing : Bool) (start first : ℕ) (old now : Ram) (before middle after : ℕ) → IsRam now → now.geometry ≡ old.geometry
-    → HasRead flushing start first old now before middle → after ≤ middle + (2 * (now.geometry.pages - first) + min (excess flushing now) 1)
+    → HasReadFewPages flushing start first old now before middle → after ≤ middle + (2 * (now.geometry.pages - first) + min (excess flushing now) 1)
     → after ≤ before + (2 * (old.geometry.pages - start) + min old.geometry.pages (translation_pages old.geometry))
 read_all flushing start first old now before middle after s same h most =
     let pages : now.geometry.pages ≡ old.geometry.pages = ap (λ (g : Geometry). g.pages) same in

@@ -25,7 +25,7 @@ use Rattle.collection.proofs.Moves.{moves_found}
 use Rattle.collection.specs.Pages.{newest_row}
 use Rattle.collection.specs.Truth.{IsTrue}
 use Rattle.collection.specs.Live.{NotAt, IsLivePage}
-use Rattle.collection.specs.Renew.{is_table, is_due_page, HasNoneDue, IsDuePage, LooksAtDue, IsNextDue, IsRenewedAt}
+use Rattle.collection.specs.Renew.{is_table_key, is_due_page, HasNoneDue, IsDuePage, LooksAtDue, IsNextDue, IsRenewedAt}
 use Rattle.collection.proofs.Lowest.{same_here}
 use Rattle.collection.proofs.Truths.{newest_in}
 
@@ -52,19 +52,19 @@ none_at image row gone key no_table at = gone key at.newest_is
 
 pub due_page : (image : Image) (row : ℕ) (p : Page) (r : Record) (body : List ℕ) → slice_get image row ≡ Some p → IsLivePage row body r image → is_due_page r p ≡ true → IsDuePage row body r image
 due_page image row p r body at live due =
-    let parts = and_parts (not (is_table (key_of r))) (is_1 (version_of p)) due in
+    let parts = and_parts (not (is_table_key (key_of r))) (is_1 (version_of p)) due in
     record {
       live = live;
-      no_table = not_true (is_table (key_of r)) parts.0;
+      no_table = not_true (is_table_key (key_of r)) parts.0;
       old = record { newest_is = live.newest; version = version_page image row p at ∙ is_1-true (version_of p) parts.1 };
     }
 
 pub no_due_page : (image : Image) (row : ℕ) (p : Page) (r : Record) (body : List ℕ) → slice_get image row ≡ Some p → IsLivePage row body r image → is_due_page r p ≡ false → HasNoneDue row image
 no_due_page image row p r body at live no_due key no_table old =
     let same : key_of r ≡ key = one_key image key row r body live old.newest_is in
-    let none : not (is_table (key_of r)) ≡ true = not_from_false (is_table (key_of r)) (ap is_table same ∙ no_table) in
+    let none : not (is_table_key (key_of r)) ≡ true = not_from_false (is_table_key (key_of r)) (ap is_table_key same ∙ no_table) in
     let version : is_1 (version_of p) ≡ true = ap is_1 (sym (version_page image row p at) ∙ old.version) in
-    let due : is_due_page r p ≡ true = and_from (not (is_table (key_of r))) (is_1 (version_of p)) none version in
+    let due : is_due_page r p ≡ true = and_from (not (is_table_key (key_of r))) (is_1 (version_of p)) none version in
     let never : true ≡ false = sym due ∙ no_due in
     cc
 

@@ -18,7 +18,7 @@ use Rattle.collection.specs.Live.{NotAt}
 use Rattle.collection.specs.Settle.{SetsMapping}
 use Rattle.collection.specs.Collect.{PutsBehind, IsFollowed, IsAiling, HasRescuedPage, LeavesLowest}
 use Rattle.collection.specs.Renew.{HasNoneDue, IsRenewedAt}
-use Rattle.collection.specs.Rescued.{LazyLaw, FollowedLaw, AloneLaw, OneLowestLaw, OneAnswerLaw}
+use Rattle.collection.specs.Rescued.{LazyLaw, FollowedLaw, RescueLeavesOthersLaw, OneLowestLaw, OneRenewalLaw}
 use Rattle.collection.proofs.Follows.{slot_by, some_or_none}
 use Rattle.collection.proofs.Lowest.{some_pages}
 use Rattle.collection.proofs.Rescues.{cached_behind}
@@ -56,7 +56,7 @@ lazy_law old new rescued n is some = lazy_by old new rescued n is some
 pub followed_law : FollowedLaw
 followed_law old new rescued n is none = followed_by old new rescued n is none
 
-pub alone_law : AloneLaw
+pub alone_law : RescueLeavesOthersLaw
 alone_law old before after rescued n is some other apart = rescued.others other apart (cached_behind rescued.key n old is some other)
 
 -- ---- the page of lowest row
@@ -79,7 +79,7 @@ one_lowest old before after other s first second = elim (cases_lt first.row seco
 
 -- ---- a renewal
 
-pub one_answer : OneAnswerLaw
+pub one_answer : OneRenewalLaw
 one_answer row old new new' before after after' true true x y = refl
 one_answer row old new new' before after after' true false x y = absurd (y.0 x.key x.no_table x.due)
 one_answer row old new new' before after after' false true x y = absurd (x.0 y.key y.no_table y.due)

@@ -14,10 +14,10 @@ use Rattle.page_layout.specs.Newest.{newest}
 use Rattle.page_layout.proofs.CountLemmas.{bit, count_by-cons, count_by_none, count_in_range}
 use Rattle.bad_blocks.specs.Table.{is_good, is_good_at, good_count}
 use Rattle.page_layout.specs.declared.record.Record.{Record}
-use Rattle.budget.specs.Counts.{Fits}
+use Rattle.budget.specs.Counts.{FitsGoodBlocks}
 use Rattle.budget.specs.Spending.{Collected, IsFunded}
 use Rattle.budget.proofs.RoomLemmas.{collected_funded, never_stuck, free_at}
-use Rattle.allocation.specs.State.{State, live_at, pointer_at, holds, free_count, is_free, is_closed}
+use Rattle.allocation.specs.State.{State, live_at, pointer_at, is_open_block, free_count, is_free, is_closed}
 use Rattle.allocation.proofs.TallyLemmas.{good_by_number}
 use Rattle.page_layout.specs.Count.{blocks_that}
 use Rattle.std.specs.List.{range_with_len}
@@ -58,8 +58,8 @@ part_of true false true m = omega arith
 part_of true false false true = omega arith
 part_of true false false false = omega arith
 
-parts_at : (s : State) (b : ℕ) → bit (is_good_at s.table b) ≤ bit (is_free s b) + bit (holds s.data_open b) + bit (holds s.meta_open b) + bit (is_closed s b)
-parts_at s b = part_of (is_good_at s.table b) (pointer_at s b == 0) (holds s.data_open b) (holds s.meta_open b)
+parts_at : (s : State) (b : ℕ) → bit (is_good_at s.table b) ≤ bit (is_free s b) + bit (is_open_block s.data_open b) + bit (is_open_block s.meta_open b) + bit (is_closed s b)
+parts_at s b = part_of (is_good_at s.table b) (pointer_at s b == 0) (is_open_block s.data_open b) (is_open_block s.meta_open b)
 
 count_four : (good p q r t : ℕ → Bool) (a n : ℕ) → ((b : ℕ) → bit (good b) ≤ bit (p b) + bit (q b) + bit (r b) + bit (t b))
     → count_by good (range_with_len a n) ≤ count_by p (range_with_len a n) + count_by q (range_with_len a n) + count_by r (range_with_len a n) +
@@ -79,13 +79,13 @@ count_four good p q r t a (suc n) le =
           good p q r t (a + 1) n le,
     )
 
-held_most : (o : Option ℕ) (n : ℕ) → count_by (holds o) (range_with_len 0 n) ≤ 1
-held_most None n = omega (arith, count_by_none (holds None) (range_with_len 0 n) (λ b. refl))
+held_most : (o : Option ℕ) (n : ℕ) → count_by (is_open_block o) (range_with_len 0 n) ≤ 1
+held_most None n = omega (arith, count_by_none (is_open_block None) (range_with_len 0 n) (λ b. refl))
 held_most (Some b) n = count_in_range b 0 n
 
-good_most : (s : State) → length s.table ≡ s.geometry.blocks → good_count s.table ≤ free_count s + (count_by (holds s.data_open) (range_with_len 0 s.geometry.blocks) + count_by (holds s.meta_open) (range_with_len 0 s.geometry.blocks)) + blocks_that s.geometry (is_closed s)
+good_most : (s : State) → length s.table ≡ s.geometry.blocks → good_count s.table ≤ free_count s + (count_by (is_open_block s.data_open) (range_with_len 0 s.geometry.blocks) + count_by (is_open_block s.meta_open) (range_with_len 0 s.geometry.blocks)) + blocks_that s.geometry (is_closed s)
 good_most s whole =
-    let four = count_four (is_good_at s.table) (is_free s) (holds s.data_open) (holds s.meta_open) (is_closed s) 0 s.geometry.blocks (parts_at s) in
+    let four = count_four (is_good_at s.table) (is_free s) (is_open_block s.data_open) (is_open_block s.meta_open) (is_closed s) 0 s.geometry.blocks (parts_at s) in
     let all : count_by (is_good_at s.table) (range_with_len 0 s.geometry.blocks) ≡ good_count s.table = ap (λ n. count_by (is_good_at s.table) (range_with_len 0 n)) (sym whole) ∙ good_by_number s.table in
     omega (arith, four, all)
 
@@ -95,7 +95,7 @@ none_enough many r safe none ms exact enough =
     let s : State = r.blocks in
     let asked : need_at s.geometry r.mapping.share + many ≤ good_count s.table + (9 + flush_blocks_at s.geometry r.mapping.share) = rw safe.blocks_of enough in
     free_at s.geometry r.mapping.share ms (is_closed s) many (free_count s)
-    (count_by (holds s.data_open) (range_with_len 0 s.geometry.blocks) + count_by (holds s.meta_open) (range_with_len 0 s.geometry.blocks))
+    (count_by (is_open_block s.data_open) (range_with_len 0 s.geometry.blocks) + count_by (is_open_block s.meta_open) (range_with_len 0 s.geometry.blocks))
     (omega (arith, good_most s safe.blocks.table_whole, asked))
     (omega (arith, held_most s.data_open s.geometry.blocks, held_most s.meta_open s.geometry.blocks)) (λ b lt closed.
     let below : b < r.geometry.blocks = (let P : Geometry → Type 0 = λ g. b < g.blocks in subst P safe.blocks_of lt) in
@@ -226,7 +226,7 @@ funded_then failures a b c same f k =
 
 pub refused_room : (many failures : ℕ) (a b c : Ram) (fault : EngineFault) → IsRam b → b.geometry ≡ a.geometry → IsFundedOn failures a b → CollectCounts b c (Err fault) → RoomCounts many failures a c (Err fault)
 refused_room many failures a b c ReadOnly s same f k =
-    let fits_b : Fits a.geometry.pages (counts_of b.blocks) = (let P : Geometry → Type 0 = λ g. Fits g.pages (counts_of b.blocks) in subst P same (fit b s)) in
+    let fits_b : FitsGoodBlocks a.geometry.pages (counts_of b.blocks) = (let P : Geometry → Type 0 = λ g. FitsGoodBlocks g.pages (counts_of b.blocks) in subst P same (fit b s)) in
     let n = never_stuck a.geometry.pages (failures + f.its_failures) (counts_of b.blocks) (counts_of c.blocks) fits_b f.funded k in
     inr (omega (arith, n, f.good))
 refused_room many failures a b c SequenceSpent s same f k = tt

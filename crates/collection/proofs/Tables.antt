@@ -9,7 +9,7 @@ use Rattle.page_layout.specs.Page.{Image}
 use Rattle.page_layout.specs.Geometry.{entries}
 use Rattle.page_layout.proofs.StepLemmas.{array_unwritten}
 use Rattle.bad_blocks.specs.declared.table.TableRow.{TableRow}
-use Rattle.bad_blocks.specs.Table.{IsCounted, no_table_row}
+use Rattle.bad_blocks.specs.Table.{HasFittingWear, no_table_row}
 use Rattle.bad_blocks.specs.TablePage.{IsWellFormed, table_bytes}
 use Rattle.bad_blocks.proofs.PageLemmas.{table_bytes_page, right_word}
 use Rattle.allocation.specs.State.{State}
@@ -21,11 +21,11 @@ use Rattle.collection.specs.Safe.{IsRam, IsOutside}
 use Rattle.collection.specs.Results.{MayPut, IsReplaced, IsTabled}
 use Rattle.collection.proofs.Puts.{leaves_written}
 
-pub counted_rows : (image : Image) (s : State) → AreWorn image s → All IsCounted s.table
+pub counted_rows : (image : Image) (s : State) → AreWorn image s → All HasFittingWear s.table
 counted_rows image s w k d lt = record { most = (let e : get_or s.table k d ≡ get_or s.table k no_table_row = get_or_default s.table k d no_table_row lt in omega (arith, ap (λ (x : TableRow). x.wear) e, w.most k)) }
 
 -- a page that the table spells is well formed
-pub bytes_formed : (n blocks u : ℕ) (rows : List TableRow) → length rows ≡ blocks → All IsCounted rows → IsWellFormed n blocks u (table_bytes n rows u)
+pub bytes_formed : (n blocks u : ℕ) (rows : List TableRow) → length rows ≡ blocks → All HasFittingWear rows → IsWellFormed n blocks u (table_bytes n rows u)
 bytes_formed n blocks u rows size counted = record {
   right = λ i lt. (let word = (table_bytes_page n rows u counted).words i lt in rw (word, ← size) (right_word rows (u * n + i)));
 }

@@ -28,7 +28,7 @@ use Rattle.allocation.specs.State.{State, pointer_at, live_at}
 use Rattle.collection.specs.State.{Ram}
 use Rattle.collection.specs.Pages.{newest_row}
 use Rattle.collection.specs.Maps.{Maps, IsPageFor}
-use Rattle.collection.specs.Truth.{IsTrue, AreFilled, HasTable}
+use Rattle.collection.specs.Truth.{IsTrue, AreFilled, HasFormedTablePage}
 use Rattle.collection.specs.Safe.{IsRam}
 use Rattle.collection.specs.Results.{CanProgram}
 use Rattle.budget.specs.declared.stream.Stream.{Stream}
@@ -167,10 +167,10 @@ filled_passed block row s t old new y pointer here f =
 
 -- ---- table pages
 
-pub tables_kept : (g : Geometry) (old new : Image) (u : ℕ) → Keeps g old new → HasTable g old u → HasTable g new u
+pub tables_kept : (g : Geometry) (old new : Image) (u : ℕ) → Keeps g old new → HasFormedTablePage g old u → HasFormedTablePage g new u
 tables_kept g old new u k h = record { row = h.row; newest_is = k.newest_same (Table u) ∙ h.newest_is; formed = rw (k.bodies (Table u) h.row h.newest_is) h.formed }
 
-pub tables_put : (g : Geometry) (rec : Record) (row : ℕ) (body : List ℕ) (old new : Image) (u : ℕ) → Writes g rec row body old new → (key_of rec ≡ Table u → IsWellFormed (entries g) g.blocks u body) → HasTable g old u → HasTable g new u
+pub tables_put : (g : Geometry) (rec : Record) (row : ℕ) (body : List ℕ) (old new : Image) (u : ℕ) → Writes g rec row body old new → (key_of rec ≡ Table u → IsWellFormed (entries g) g.blocks u body) → HasFormedTablePage g old u → HasFormedTablePage g new u
 tables_put g rec row body old new u w fits h = elim (cases_key (key_of rec) (Table u)) [
   | inl same ↦ record { row = row; newest_is = ap (newest_row new) (sym same) ∙ w.newest_now; formed = rw w.here (fits same) }
   | inr other ↦ record { row = h.row; newest_is = w.newest_others (Table u) other ∙ h.newest_is; formed = rw (w.bodies (Table u) h.row other h.newest_is) h.formed }
@@ -198,7 +198,7 @@ module _ (but : Option Key) (stream : Stream) (block row : ℕ) (r r' : Ram) (ol
         filled = rw is (filled_failed block row r.blocks (without block (taken stream block r.blocks)) old new (a_try _ made) (failed_bad (free_count r.blocks) stream block r.blocks s.blocks n) w.filled);
         worn = rw is (worn_kept r.blocks (without block (taken stream block r.blocks)) old new (taken_geometry stream r.blocks block) (failed_wear stream block r.blocks s.blocks n) k.records w.worn);
         live = rw is (live_failed stream block r.blocks old new in_fills kept w.live);
-        tables = (let e : (u : ℕ) → u < table_pages r.geometry → HasTable r.geometry new u = λ u lt. tables_kept r.geometry old new u k (w.tables u lt) in rw t.geometry e);
+        tables = (let e : (u : ℕ) → u < table_pages r.geometry → HasFormedTablePage r.geometry new u = λ u lt. tables_kept r.geometry old new u k (w.tables u lt) in rw t.geometry e);
         maps = (let e : Maps but r.geometry new r.directory r.mapping = maps_stays but r.geometry old new r.directory r.mapping k w.maps in rw (t.geometry, t.directory, t.mapping) e);
       }
 
@@ -234,7 +234,7 @@ module _ (stream : Stream) (block row : ℕ) (rec : Record) (body : List ℕ) (o
             (let z : q / r.blocks.geometry.pages < length r.blocks.fills = omega arith in z))) counted small old_is written w.live
             made.geometry);
         tables =
-            (let e : (u : ℕ) → u < table_pages r.geometry → HasTable r.geometry new u = λ u lt. tables_put r.geometry rec row body old new u p
+            (let e : (u : ℕ) → u < table_pages r.geometry → HasFormedTablePage r.geometry new u = λ u lt. tables_put r.geometry rec row body old new u p
             (λ key. (let P : Key → Type 0 = λ k. IsPageFor r.geometry old r.mapping body k in subst P key fits)) (w.tables u lt) in rw t.geometry
             e);
         maps = (let e : Maps (Some (key_of rec)) r.geometry new r.directory r.mapping = maps_put r.geometry rec row body old new r.directory r.mapping p fits w.maps in rw (t.geometry, t.directory, t.mapping) e);

@@ -24,7 +24,7 @@ use Rattle.collection.specs.Live.{HoldsNoneIn, IsLivePage, FindsFirst, IsFirstLi
 use Rattle.collection.specs.Results.{Goes, fault_after}
 use Rattle.collection.specs.Collect.{waiting, HasBroughtOut, IsBroughtOut, HasWritten, HasErased, Refreshes, StepCosts, FaultCosts, IsStepped}
 use Rattle.collection.specs.Whole.{erases_after}
-use Rattle.collection.specs.Left.{IsHalfDone, IsCalm, IsFew, HasPassed, TouchesNoMore, HasStepped, StepsOn, told, pin_after, pinned_to}
+use Rattle.collection.specs.Left.{IsHalfDone, IsCalm, IsFew, HasPassedNoNewest, TouchesNoMore, HasStepped, StepsOn, told, pin_after, pinned_to}
 use Rattle.collection.specs.Turns.{Advances, erases_told}
 use Rattle.collection.proofs.Gates.{goes_noted, refused_noted}
 use Rattle.collection.proofs.Noted.{but_noted, fresh_noted}
@@ -189,14 +189,14 @@ pub steps_on : (flushing : Bool) (p : Pinned) (r b : Ram) (x y : Image) (done : 
     → ((page : ℕ) → done ≡ step.Copied page → TouchesNoMore flushing p.block r x b y) → StepsOn flushing p r x b y (told done)
 steps_on flushing p r b x y (step.Copied page) s' h same (low, high, c, f) next s touched =
     let to : Pinned = record { block = p.block; first = page + 1 } in
-    let passed : HasPassed b y to = (let P : Geometry → Type 0 = λ g. HoldsNoneIn g.pages p.block 0 (page + 1) y in subst P (sym same) s.none) in
+    let passed : HasPassedNoNewest b y to = (let P : Geometry → Type 0 = λ g. HoldsNoneIn g.pages p.block 0 (page + 1) y in subst P (sym same) s.none) in
     let fewer = s.fewer in
     let moved = c.moved in
     record {
       same = s.same;
       fewer = λ is. fewer;
       none = λ ne. absurd (ne refl);
-      passed = λ q is. subst (HasPassed b y) (some_same to q (sym next ∙ is)) passed;
+      passed = λ q is. subst (HasPassedNoNewest b y) (some_same to q (sym next ∙ is)) passed;
       left = λ ne. copy_law flushing r b x y p.block h.within h.closed same s.same.leaves (touched page refl) fewer;
       few = λ few q is. subst (IsFew 0 b) (some_same to q (sym next ∙ is)) (few_on r b p to refl same (touched page refl).share (omega arith) (omega arith) few);
     }
@@ -204,14 +204,14 @@ steps_on flushing p r b x y step.WroteBack s' h same c next s touched =
     let to : Pinned = record { block = p.block; first = r.geometry.pages } in
     let within : p.block < b.geometry.blocks = (let e = h.within in rw same e) in
     let all : HoldsNoneIn b.geometry.pages p.block 0 b.geometry.pages y = none_in b.geometry.pages p.block y (holds_none b y p.block s' s.same.truth within s.none) in
-    let passed : HasPassed b y to = (let P : Geometry → Type 0 = λ g. HoldsNoneIn b.geometry.pages p.block 0 g.pages y in subst P same all) in
+    let passed : HasPassedNoNewest b y to = (let P : Geometry → Type 0 = λ g. HoldsNoneIn b.geometry.pages p.block 0 g.pages y in subst P same all) in
     let none = s.none in
     let moved = c.moved in
     record {
       same = s.same;
       fewer = λ is. (let no : ⊥ = cc in absurd no);
       none = λ ne. none;
-      passed = λ q is. subst (HasPassed b y) (some_same to q (sym next ∙ is)) passed;
+      passed = λ q is. subst (HasPassedNoNewest b y) (some_same to q (sym next ∙ is)) passed;
       left = λ ne. write_law flushing r b x y p.block s' s.same.truth h.within same none c;
       few = λ few q is. subst (IsFew 0 b) (some_same to q (sym next ∙ is)) (few_on r b p to refl same (ap (λ m. m.share) c.mapping) (omega arith) (omega arith) few);
     }

@@ -10,7 +10,7 @@ use Rattle.bad_blocks.specs.declared.table.TableRow.{TableRow}
 use Rattle.bad_blocks.specs.declared.class.Class.TheVariants.{Grown}
 use Rattle.bad_blocks.specs.Table.{wear_at, retired, no_table_row, most_wear}
 use Rattle.budget.specs.declared.stream.Stream.{Stream}
-use Rattle.allocation.specs.State.{State, free_count, IsSafe}
+use Rattle.allocation.specs.State.{State, free_count, AreBlocksSafe}
 use Rattle.allocation.specs.Step.{IsNextBlock, taken, without}
 use Rattle.collection.specs.Cost.{moved_live}
 use Rattle.collection.specs.Truth.{AreWorn}
@@ -26,7 +26,7 @@ wear_retired rows b c lt =
       | inr other ↦ ap (λ (x : TableRow). x.wear) (get_or-set_other rows b c new no_table_row other)
     ]
 
-pub failed_wear : (stream : Stream) (block : ℕ) (s : State) → IsSafe (free_count s) s → IsNextBlock s stream block → (c : ℕ) → wear_at (without block (taken stream block s)).table c ≡ wear_at s.table c
+pub failed_wear : (stream : Stream) (block : ℕ) (s : State) → AreBlocksSafe (free_count s) s → IsNextBlock s stream block → (c : ℕ) → wear_at (without block (taken stream block s)).table c ≡ wear_at s.table c
 failed_wear stream block s safe next c =
     let same : length (taken stream block s).table ≡ length s.table = ap length (taken_table stream s block) in
     wear_retired (taken stream block s).table block c (omega (arith, safe.table_whole, next.within)) ∙ ap (λ x. wear_at x c) (taken_table stream s block)

@@ -25,7 +25,7 @@ use Rattle.collection.specs.State.{Ram}
 use Rattle.translation_pages.specs.Entry.{entry_of}
 use Rattle.collection.specs.Pages.{newest_row}
 use Rattle.collection.specs.Maps.{Maps}
-use Rattle.collection.specs.Looks.{IsLoaded, HoldsNewest, IsFilled, IsPadded, StartsFrom, IsBroughtUp, IsReadFault}
+use Rattle.collection.specs.Looks.{IsLoaded, HoldsNewest, HasRightEntries, IsPadded, StartsFrom, IsBroughtUp, IsReadFault}
 use Rattle.collection.specs.Truth.{IsTrue}
 use Rattle.collection.specs.Safe.{IsOutside}
 use Rattle.collection.specs.Cost.{HasPut, HasRunOut, HasSpent, PageCosts, WriteBackCosts}
@@ -75,7 +75,7 @@ at_place e t n some same = grind (arith, div-add-mod' n e)
 pub brought_up : (g : Geometry) (image : Image) (directory : List (Option ℕ)) (m : MappingState) (t : ℕ) (body body' : List ℕ)
     → Maps None g image directory m → IsLoaded t body g image
     → ((i : ℕ) → i < entries g → t * entries g + i < g.sectors → entry_at body' i ≡ unwrap_or (pending m (t * entries g + i)) (entry_at body i))
-    → IsPadded g t body' → IsFilled t body' g image
+    → IsPadded g t body' → HasRightEntries t body' g image
 brought_up g image directory m t body body' w loaded written padded = record {
   padded = padded;
   right = λ n lt of_page.
@@ -91,7 +91,7 @@ pub brought_up_by : (r r1 : Ram) (image : Image) (t : ℕ) (body lent body' : Li
     → IsLoaded t body r.geometry image
     → ((i : ℕ) → i < entries r1.geometry → t * entries r1.geometry + i < r1.geometry.sectors
     → entry_at body' i ≡ unwrap_or (pending r1.mapping (t * entries r1.geometry + i)) (entry_at lent i)) → IsPadded r1.geometry t body'
-    → IsFilled t body' r.geometry image
+    → HasRightEntries t body' r.geometry image
 brought_up_by r r1 image t body lent body' w same is_lent loaded rows padded =
     let P : Ram → Type 0 = λ z. (i : ℕ) → i < entries z.geometry → t * entries z.geometry + i < z.geometry.sectors → entry_at body' i ≡ unwrap_or (pending z.mapping (t * entries z.geometry + i)) (entry_at lent i) in
     let Q : Ram → Type 0 = λ z. IsPadded z.geometry t body' in
@@ -103,10 +103,10 @@ pub filled_at : (r : Ram) (image : Image) (t : ℕ) (row : Option ℕ) (body ite
     → HoldsNewest t row body r.geometry image → lent ≡ body → items ≡ body'
     → ((i : ℕ) → i < entries r.geometry → t * entries r.geometry + i < r.geometry.sectors
     → entry_at body' i ≡ unwrap_or (pending r.mapping (t * entries r.geometry + i)) (entry_at lent i)) → IsPadded r.geometry t body'
-    → IsFilled t items r.geometry image
+    → HasRightEntries t items r.geometry image
 filled_at r image t row body items lent body' w holds is_lent same rows padded =
-    let filled : IsFilled t body' r.geometry image = brought_up_by r r image t body lent body' w refl is_lent holds.loaded rows padded in
-    subst (λ (b : List ℕ). IsFilled t b r.geometry image) (sym same) filled
+    let filled : HasRightEntries t body' r.geometry image = brought_up_by r r image t body lent body' w refl is_lent holds.loaded rows padded in
+    subst (λ (b : List ℕ). HasRightEntries t b r.geometry image) (sym same) filled
 
 -- also where the page before was any
 pub brought_at : (t : ℕ) (row : Option ℕ) (g : Geometry) (m : MappingState) (before : Page) (items lent body' : List ℕ) → items ≡ body' → lent ≡ before.body → StartsFrom t row before
@@ -155,7 +155,7 @@ written_loaded a b c x y z t result same still w =
     let Q : Image → Type 0 = λ i. MatchResult result (λ _. IsWrittenBack t b i c z) (Refused b i c z) in
     subst P same (subst Q still w)
 
-pub may_write_back : (r r1 : Ram) (x x1 : Image) (t : ℕ) (row : Option ℕ) (body : List ℕ) → IsTrue None r x → r1 ≡ r → x1 ≡ x → IsFilled t body r.geometry x → newest_row x (Translation t) ≡ row → MayPut kind.Translation t row body r1 x1
+pub may_write_back : (r r1 : Ram) (x x1 : Image) (t : ℕ) (row : Option ℕ) (body : List ℕ) → IsTrue None r x → r1 ≡ r → x1 ≡ x → HasRightEntries t body r.geometry x → newest_row x (Translation t) ≡ row → MayPut kind.Translation t row body r1 x1
 may_write_back r r1 x x1 t row body w same still filled newest_is = rw (same, still) (record {
   truth = w;
   page_for = λ n lt of_page none. filled.right n lt of_page;
@@ -167,7 +167,7 @@ may_write_back r r1 x x1 t row body w same still filled newest_is = rw (same, st
 pub cleans_by : (m0 m2 m3 : MappingState) (t : ℕ) → m2 ≡ m0 → Cleans (per_page m2) t m2 m3 → Cleans (per_page m0) t m0 m3
 cleans_by m0 m2 m3 t same cleans = (let P : MappingState → Type 0 = λ m. Cleans (per_page m) t m m3 in subst P same cleans)
 
-module _ (r r2 : Ram) (m3 : MappingState) (x x2 : Image) (t row : ℕ) (body : List ℕ) (filled : IsFilled t body r.geometry x) (p : IsReplaced kind.Translation t row body r x r2 x2) (g_is : r2.geometry ≡ r.geometry) (cleans : Cleans (entries r2.geometry) t r2.mapping m3) where
+module _ (r r2 : Ram) (m3 : MappingState) (x x2 : Image) (t row : ℕ) (body : List ℕ) (filled : HasRightEntries t body r.geometry x) (p : IsReplaced kind.Translation t row body r x r2 x2) (g_is : r2.geometry ≡ r.geometry) (cleans : Cleans (entries r2.geometry) t r2.mapping m3) where
   apart : (n : ℕ) → Translation t ≢ Sector n
   apart n e = (let never : ⊥ = cc in never)
 
@@ -209,7 +209,7 @@ module _ (r r2 : Ram) (m3 : MappingState) (x x2 : Image) (t row : ℕ) (body : L
   }
 
 pub written_back_by : (r r1 r2 : Ram) (m3 : MappingState) (x x1 x2 : Image) (t row : ℕ) (body : List ℕ) → r1 ≡ r → x1 ≡ x
-    → IsFilled t body r.geometry x → IsReplaced kind.Translation t row body r1 x1 r2 x2 → r2.geometry ≡ r1.geometry
+    → HasRightEntries t body r.geometry x → IsReplaced kind.Translation t row body r1 x1 r2 x2 → r2.geometry ≡ r1.geometry
     → r2.mapping.geometry ≡ r2.geometry → Cleans (per_page r2.mapping) t r2.mapping m3 → IsOutside r1 row
     → IsWrittenBack t r x (record r2 { mapping = m3 }) x2
 written_back_by r r1 r2 m3 x x1 x2 t row body same still filled p g_is of cleans out =

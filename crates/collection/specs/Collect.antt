@@ -51,8 +51,8 @@ has_moved m t = not (length (moved_in (per_page m) t m.moved) == 0)
 abbrev pub is_over : MappingState → ℕ → Bool
 is_over m t = nat_lt m.share (length (moved_in (per_page m) t m.moved))
 
-abbrev pub is_marked : Ram → ℕ → Bool
-is_marked r t = get_or r.pin.marks t false
+abbrev pub is_translation_marked : Ram → ℕ → Bool
+is_translation_marked r t = get_or r.pin.marks t false
 
 -- how many moved sectors may wait for their translation pages once a collection has ended
 abbrev pub waiting : Ram → ℕ
@@ -60,11 +60,11 @@ waiting r = waiting_at r.geometry r.mapping.share
 
 -- it is due before the block is erased: more than the share of its sectors are on the moved list or, in a flush, it is marked
 abbrev pub is_due : Bool → Ram → ℕ → Bool
-is_due flushing r t = is_over r.mapping t || (flushing && is_marked r t)
+is_due flushing r t = is_over r.mapping t || (flushing && is_translation_marked r t)
 
 -- it may come to be: some sector of it is on the moved list or, in a flush, it is marked
 abbrev pub is_owed : Bool → Ram → ℕ → Bool
-is_owed flushing r t = has_moved r.mapping t || (flushing && is_marked r t)
+is_owed flushing r t = has_moved r.mapping t || (flushing && is_translation_marked r t)
 
 abbrev pub owed_count : Bool → Ram → ℕ
 owed_count flushing r = count_by (is_owed flushing r) (range_with_len 0 (translation_pages r.geometry))
@@ -83,7 +83,7 @@ pub record IsLowestDue (flushing : Bool) (r : Ram) (t : ℕ) : Type 0 where
 -- none has to be written back: no more sectors are moved than may wait and, in a flush, no translation page is marked
 pub record OwesNone (flushing : Bool) (r : Ram) : Type 0 where
   pub few : length r.mapping.moved ≤ waiting r
-  pub unmarked : flushing ≡ true → (t : ℕ) → t < translation_pages r.geometry → is_marked r t ≡ false
+  pub unmarked : flushing ≡ true → (t : ℕ) → t < translation_pages r.geometry → is_translation_marked r t ≡ false
 
 -- the marks after a copy of a page of this key: in a flush the translation page of a sector is marked
 abbrev pub marks_after : Bool → Geometry → Key → List Bool → List Bool
@@ -98,7 +98,7 @@ IsUpToDate m t = (n : ℕ) → n / per_page m ≡ t → pending m n ≡ None
 
 -- it lacks none, unless it is marked
 abbrev pub IsUpToDateUnmarked : Ram → ℕ → Type 0
-IsUpToDateUnmarked r t = is_marked r t ≡ false → IsUpToDate r.mapping t
+IsUpToDateUnmarked r t = is_translation_marked r t ≡ false → IsUpToDate r.mapping t
 
 -- IN A FLUSH: each translation page that lacked no row, or was marked, lacks none or is marked
 pub record Refreshes (old new : Ram) : Type 0 where

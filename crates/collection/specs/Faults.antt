@@ -3,8 +3,8 @@ use Rattle.std.specs.Prelude.{ℕ}
 use Rattle.collection.specs.declared.fault.EngineFault.{EngineFault}
 use Rattle.collection.specs.declared.fault.EngineFault.TheVariants.{ReadOnly, SequenceSpent, Damaged, Bus}
 
-abbrev pub number_of : EngineFault → ℕ
-number_of ReadOnly = 2
-number_of SequenceSpent = 3
-number_of Damaged = 5
-number_of Bus = 6
+abbrev pub engine_fault_number : EngineFault → ℕ
+engine_fault_number ReadOnly = 2
+engine_fault_number SequenceSpent = 3
+engine_fault_number Damaged = 5
+engine_fault_number Bus = 6

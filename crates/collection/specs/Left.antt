@@ -25,8 +25,8 @@ use Rattle.collection.specs.Collect.{has_moved, is_owed, waiting, OwesNone, HasC
 -- ---- how much is left
 
 -- the sectors whose newest pages are in the block
-abbrev pub sectors_in : Geometry → Image → ℕ → List ℕ
-sectors_in g image block = filter (λ n. is_in_block g.pages block (newest_row image (Sector n))) (range_with_len 0 g.sectors)
+abbrev pub sectors_in_block : Geometry → Image → ℕ → List ℕ
+sectors_in_block g image block = filter (λ n. is_in_block g.pages block (newest_row image (Sector n))) (range_with_len 0 g.sectors)
 
 -- one of these sectors is of translation page t
 abbrev pub is_of_some : ℕ → List ℕ → ℕ → Bool
@@ -34,7 +34,7 @@ is_of_some per_page sectors t = not (count_by (λ n. n / per_page == t) sectors 
 
 -- translation page t is owed, or a sector of it has its newest page in the block
 abbrev pub is_touched : Bool → Ram → Image → ℕ → ℕ → Bool
-is_touched flushing r image block t = is_owed flushing r t || is_of_some (entries r.geometry) (sectors_in r.geometry image block) t
+is_touched flushing r image block t = is_owed flushing r t || is_of_some (entries r.geometry) (sectors_in_block r.geometry image block) t
 
 abbrev pub touched_count : Bool → Ram → Image → ℕ → ℕ
 touched_count flushing r image block = count_by (is_touched flushing r image block) (range_with_len 0 (translation_pages r.geometry))
@@ -45,7 +45,7 @@ batches share may_wait n = div_ceil (n - may_wait) (share + 1)
 
 -- the sectors that are moved, or will be once the block is copied out
 abbrev pub moves_in : Ram → Image → ℕ → ℕ
-moves_in r image block = length r.mapping.moved + length (sectors_in r.geometry image block)
+moves_in r image block = length r.mapping.moved + length (sectors_in_block r.geometry image block)
 
 -- THE TRANSLATION PAGES THAT ARE LEFT TO WRITE BACK before the block is erased, at most: those that are touched and, unless flushing, no more than
 -- so many batches
@@ -54,16 +54,16 @@ write_backs_in true r image block = touched_count true r image block
 write_backs_in false r image block = min (touched_count false r image block) (batches r.mapping.share (waiting r) (moves_in r image block))
 
 -- THE PAGES THAT ARE LEFT TO PROGRAM, at most: with its newest pages
-abbrev pub left_in : Bool → Ram → Image → ℕ → ℕ
-left_in flushing r image block = live_at r.blocks block + write_backs_in flushing r image block
+abbrev pub left_to_program : Bool → Ram → Image → ℕ → ℕ
+left_to_program flushing r image block = live_at r.blocks block + write_backs_in flushing r image block
 
 -- the number left of a device: one less than a block has pages where none is pinned, and never more
-abbrev pub left_of : Option Pinned → Ram → Image → ℕ
-left_of None r image = r.geometry.pages - 1
-left_of (Some p) r image = min (left_in false r image p.block) (r.geometry.pages - 1)
+abbrev pub left_by_pin : Option Pinned → Ram → Image → ℕ
+left_by_pin None r image = r.geometry.pages - 1
+left_by_pin (Some p) r image = min (left_to_program false r image p.block) (r.geometry.pages - 1)
 
 abbrev pub left : Ram → Image → ℕ
-left r image = left_of r.pin.block r image
+left r image = left_by_pin r.pin.block r image
 
 -- ---- what holds between calls
 
@@ -87,12 +87,12 @@ pub record IsFew (extra : ℕ) (r : Ram) (p : Pinned) : Type 0 where
   pub moved : live_at r.blocks p.block + length r.mapping.moved ≤ vmax_at r.geometry r.mapping.share + waiting r + extra
 
 -- where the die is honest: none of the pages that were passed is a newest page
-abbrev pub HasPassed : Ram → Image → Pinned → Type 0
-HasPassed r image p = HoldsNoneIn r.geometry.pages p.block 0 p.first image
+abbrev pub HasPassedNoNewest : Ram → Image → Pinned → Type 0
+HasPassedNoNewest r image p = HoldsNoneIn r.geometry.pages p.block 0 p.first image
 
 -- of the block that is pinned, if one is
 abbrev pub PinHasPassed : Ram → Image → Type 0
-PinHasPassed r image = ForSome r.pin.block (HasPassed r image)
+PinHasPassed r image = ForSome r.pin.block (HasPassedNoNewest r image)
 
 abbrev pub PinIsFew : ℕ → Ram → Type 0
 PinIsFew extra r = ForSome r.pin.block (IsFew extra r)
@@ -156,7 +156,7 @@ pub record StepsOn (flushing : Bool) (p : Pinned) (old : Ram) (before : Image) (
   pub fewer : step ≡ Copied → live_at new.blocks p.block + 1 ≡ live_at old.blocks p.block
   pub none : step ≢ Copied → live_at new.blocks p.block ≡ 0
   pub passed : PinHasPassed new after
-  pub left : step ≢ Erased → left_in flushing new after p.block + 1 ≤ left_in flushing old before p.block
+  pub left : step ≢ Erased → left_to_program flushing new after p.block + 1 ≤ left_to_program flushing old before p.block
   pub few : IsFew 0 old p → PinIsFew 0 new
 
 -- ---- laws
@@ -167,50 +167,50 @@ IdleLaw = (flushing : Bool) (r : Ram) → IsIdle r → OwesNone flushing r
 
 -- THE NUMBER LEFT IS BELOW THE PAGES OF A BLOCK of a victim that was worth collecting
 abbrev pub LeftLaw : Type 0
-LeftLaw = (r : Ram) (image : Image) (p : Pinned) → IsRam r → IsTrue None r image → IsFew 0 r p → left_in false r image p.block < r.geometry.pages
+LeftLaw = (r : Ram) (image : Image) (p : Pinned) → IsRam r → IsTrue None r image → IsFew 0 r p → left_to_program false r image p.block < r.geometry.pages
 
 -- with share 0 also where a rescue has moved one sector more and then found no sequence
 abbrev pub UnsharedLeftLaw : Type 0
-UnsharedLeftLaw = (r : Ram) (image : Image) (p : Pinned) → IsRam r → IsTrue None r image → r.mapping.share ≡ 0 → IsFew 1 r p → left_in false r image p.block < r.geometry.pages
+UnsharedLeftLaw = (r : Ram) (image : Image) (p : Pinned) → IsRam r → IsTrue None r image → r.mapping.share ≡ 0 → IsFew 1 r p → left_to_program false r image p.block < r.geometry.pages
 
 -- WITH SHARE 0 each touched translation page is left to write back
-abbrev pub TouchedLaw : Type 0
-TouchedLaw = (r : Ram) (image : Image) (block : ℕ) → IsRam r → r.mapping.share ≡ 0 → write_backs_in false r image block ≡ touched_count false r image block
+abbrev pub UnsharedTouchedLaw : Type 0
+UnsharedTouchedLaw = (r : Ram) (image : Image) (block : ℕ) → IsRam r → r.mapping.share ≡ 0 → write_backs_in false r image block ≡ touched_count false r image block
 
 -- as few as of a victim worth collecting, where no more are moved yet than may wait
 abbrev pub PinLaw : Type 0
 PinLaw = (r : Ram) (p : Pinned) → p.block < r.geometry.blocks → length r.mapping.moved ≤ waiting r → live_at r.blocks p.block ≤ vmax_at r.geometry r.mapping.share → IsFew 0 r p
 
 -- ANOTHER CALL NEVER RAISES IT
-abbrev pub KeptLaw : Type 0
-KeptLaw = (old new : Ram) (before after : Image) (block : ℕ) → IsRam old → IsRam new → IsTrue None old before → IsTrue None new after
+abbrev pub LeftNeverRisesLaw : Type 0
+LeftNeverRisesLaw = (old new : Ram) (before after : Image) (block : ℕ) → IsRam old → IsRam new → IsTrue None old before → IsTrue None new after
     → block < old.geometry.blocks → is_closed old.blocks block ≡ true → LeavesPin old new → LeavesNewest old before after
-    → left_in false new after block ≤ left_in false old before block
+    → left_to_program false new after block ≤ left_to_program false old before block
 
 -- memory stays calm in it
-abbrev pub CalmLaw : Type 0
-CalmLaw = (old new : Ram) → LeavesPin old new → IsCalm old → IsCalm new
+abbrev pub StaysCalmLaw : Type 0
+StaysCalmLaw = (old new : Ram) → LeavesPin old new → IsCalm old → IsCalm new
 
 -- pages that were passed stay so
 abbrev pub PassedLaw : Type 0
 PassedLaw = (old new : Ram) (before after : Image) → IsCalm old → LeavesPin old new → LeavesNewest old before after → PinHasPassed old before → PinHasPassed new after
 
 -- and few pages stay few
-abbrev pub FewLaw : Type 0
-FewLaw = (extra : ℕ) (old new : Ram) (before after : Image) → IsRam old → IsRam new → IsTrue None old before → IsTrue None new after → IsCalm old
+abbrev pub StaysFewLaw : Type 0
+StaysFewLaw = (extra : ℕ) (old new : Ram) (before after : Image) → IsRam old → IsRam new → IsTrue None old before → IsTrue None new after → IsCalm old
     → LeavesPin old new → LeavesNewest old before after → PinIsFew extra old → PinIsFew extra new
 
 -- EACH PAGE THAT IS BROUGHT OUT LOWERS IT: where another sector is moved, its newest page was in the block
 abbrev pub CopyLaw : Type 0
 CopyLaw = (flushing : Bool) (old new : Ram) (before after : Image) (block : ℕ) → block < old.geometry.blocks → is_closed old.blocks block ≡ true
     → new.geometry ≡ old.geometry → LeavesNewest old before after → TouchesNoMore flushing block old before new after
-    → live_at new.blocks block + 1 ≡ live_at old.blocks block → left_in flushing new after block + 1 ≤ left_in flushing old before block
+    → live_at new.blocks block + 1 ≡ live_at old.blocks block → left_to_program flushing new after block + 1 ≤ left_to_program flushing old before block
 
 -- EACH TRANSLATION PAGE THAT IS WRITTEN LOWERS IT, where no newest page is left then
-abbrev pub WriteLaw : Type 0
-WriteLaw = (flushing : Bool) (old new : Ram) (before after : Image) (block : ℕ) → IsRam new → IsTrue None new after → block < old.geometry.blocks
+abbrev pub TranslationWriteLaw : Type 0
+TranslationWriteLaw = (flushing : Bool) (old new : Ram) (before after : Image) (block : ℕ) → IsRam new → IsTrue None new after → block < old.geometry.blocks
     → new.geometry ≡ old.geometry → live_at new.blocks block ≡ 0 → HasWritten flushing old new
-    → left_in flushing new after block + 1 ≤ left_in flushing old before block
+    → left_to_program flushing new after block + 1 ≤ left_to_program flushing old before block
 
 -- WITH SHARE 0 EACH PAGE THAT IS BROUGHT OUT IS COPIED, as it stands
 abbrev pub UnsharedCopyLaw : Type 0

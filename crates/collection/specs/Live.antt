@@ -28,7 +28,7 @@ pub record IsLivePage (row : ℕ) (body : List ℕ) (r : Record) (image : Image)
   pub holds : body_at image row ≡ body
 
 -- the page that stands in a row
-pub record IsTaken (row : ℕ) (found : Option Record) (body : List ℕ) (image : Image) : Type 0 where
+pub record StandsInRow (row : ℕ) (found : Option Record) (body : List ℕ) (image : Image) : Type 0 where
   pub mark : get_or (marks image) row None ≡ found
   pub holds : body_at image row ≡ body
 

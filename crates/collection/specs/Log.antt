@@ -17,7 +17,7 @@ pub record IsAccounted (accounts : List Account) (s : State) : Type 0 where
   pub next : (b : ℕ) → b < s.geometry.blocks → is_good_at s.table b ≡ true → (account_at accounts b).next ≡ pointer_at s b
 
 -- a log that is legal by accounts that agree with the memory leaves accounts that agree with it
-pub record Follows (pages : ℕ) (log : List Operation) (old new : State) : Type 0 where
+pub record FollowsLog (pages : ℕ) (log : List Operation) (old new : State) : Type 0 where
   pub legal : (accounts : List Account) → IsAccounted accounts old → LegalFrom pages accounts log
   pub accounted : (accounts : List Account) → IsAccounted accounts old → IsAccounted (accounted_all pages accounts log) new
 
@@ -37,7 +37,7 @@ pub record Went (old : Ram) (before : Flash) (told : Option Recording) (new : Ra
   pub log : List Operation
   pub leads : Leads before log after
   pub records : Records told log told'
-  pub follows : Follows old.geometry.pages log old.blocks new.blocks
+  pub follows : FollowsLog old.geometry.pages log old.blocks new.blocks
   pub next : new.next ≡ old.next + programs_in log
   pub wears : Wears log old.blocks new.blocks
   pub numbers : NumbersFrom old.next log

@@ -31,7 +31,7 @@ pub record IsPadded (g : Geometry) (t : ℕ) (body : List ℕ) : Type 0 where
   pub past : (i : ℕ) → i < entries g → g.sectors ≤ t * entries g + i → entry_at body i ≡ None
 
 -- a page of translation page t in which every entry is right, and those past the last sector are empty
-pub record IsFilled (t : ℕ) (body : List ℕ) (g : Geometry) (image : Image) : Type 0 where
+pub record HasRightEntries (t : ℕ) (body : List ℕ) (g : Geometry) (image : Image) : Type 0 where
   pub right : (n : ℕ) → n < g.sectors → n / entries g ≡ t → entry_at body (n % entries g) ≡ newest_row image (Sector n)
   pub padded : IsPadded g t body
 
@@ -72,7 +72,7 @@ pub record IsRead (n : ℕ) (row : Option ℕ) (bytes : List ℕ) (g : Geometry)
   pub sector : bytes ≡ sector_of g image n
 
 -- the page is sound and of the sector, and the bytes are its data area, or zeros where it is a trim
-pub record HoldsSector (g : Geometry) (n : ℕ) (p : Page) (bytes : List ℕ) : Type 0 where
+pub record HoldsSectorContent (g : Geometry) (n : ℕ) (p : Page) (bytes : List ℕ) : Type 0 where
   pub its : Record
   pub checked : IsPageOf (Sector n) its p
   pub holds : bytes ≡ content_of_kind g its.kind p.body
@@ -80,7 +80,7 @@ pub record HoldsSector (g : Geometry) (n : ℕ) (p : Page) (bytes : List ℕ) : 
 -- WHAT A READ GIVES: zeros where the look-up found no row, and else what a page of the sector holds
 abbrev pub GivesSector : Geometry → ℕ → Option ℕ → Page → List ℕ → Type 0
 GivesSector g n None p bytes = bytes ≡ zeros g
-GivesSector g n (Some row) p bytes = HoldsSector g n p bytes
+GivesSector g n (Some row) p bytes = HoldsSectorContent g n p bytes
 
 -- the faults of a read: it programs nothing, so there is always room and a sequence for it
 abbrev pub IsReadFault : EngineFault → Type 0

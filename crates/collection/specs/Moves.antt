@@ -12,7 +12,7 @@ use Rattle.collection.specs.declared.engine.Engine.{Engine}
 use Rattle.collection.specs.declared.fault.EngineFault.{EngineFault}
 use Rattle.collection.specs.declared.fault.EngineFault.TheVariants.{Damaged, Bus}
 use Rattle.collection.specs.State.{Ram}
-use Rattle.collection.specs.Safe.{ram, image_in, page_in, is_shut}
+use Rattle.collection.specs.Safe.{ram, image_in, page_in_buffer, is_shut}
 use Rattle.collection.specs.Truth.{IsTrue}
 use Rattle.collection.specs.Live.{NotAt, IsLivePage}
 use Rattle.collection.specs.Results.{IsSame, IsLastPage, KeepsPage, Refused, Goes}
@@ -35,7 +35,7 @@ pub record LeavesRow {N : Type 0} (view : View N) (flushing : Bool) (found : Rec
   pub touched : view.honest old.nand ≡ true → IsTrue None (ram old) (image_in view.flash old) → is_shut (ram old).blocks (row / old.geometry.pages) ≡ true
       → IsLivePage row old.page.body.items found (image_in view.flash old)
       → OnOk result (TouchesNoMore flushing (row / old.geometry.pages) (ram old) (image_in view.flash old) (ram new) (image_in view.flash new))
-  pub programmed : OnOk result (IsLastPage found.kind found.number (ram new) (page_in new.page))
+  pub programmed : OnOk result (IsLastPage found.kind found.number (ram new) (page_in_buffer new.page))
   pub truth : view.honest old.nand ≡ true → IsTrue None (ram old) (image_in view.flash old) → is_shut (ram old).blocks (row / old.geometry.pages) ≡ true
       → IsLivePage row old.page.body.items found (image_in view.flash old)
       → MatchResult result

@@ -13,29 +13,29 @@ use Rattle.collection.specs.Results.{IsSame, KeepsPage}
 use Rattle.collection.specs.Collect.{FollowsCopy}
 
 -- whether it is the key of a table page: those are written anew with each flush
-abbrev pub is_table : Key → Bool
-is_table (Sector n) = false
-is_table (Translation t) = false
-is_table (Table u) = true
+abbrev pub is_table_key : Key → Bool
+is_table_key (Sector n) = false
+is_table_key (Translation t) = false
+is_table_key (Table u) = true
 
 -- whether a page with this record has to be renewed where it is the newest of its key: it is of version 1, and no table page
 abbrev pub is_due_page : Record → Page → Bool
-is_due_page r p = not (is_table (key_of r)) && is_1 (version_of p)
+is_due_page r p = not (is_table_key (key_of r)) && is_1 (version_of p)
 
 -- no newest page of version 1 is in the row, but a table page
 abbrev pub HasNoneDue : ℕ → Image → Type 0
-HasNoneDue row image = (key : Key) → is_table key ≡ false → ¬ HasOldAt image key row
+HasNoneDue row image = (key : Key) → is_table_key key ≡ false → ¬ HasOldAt image key row
 
 -- such a page is in the row
 pub record HasDue (row : ℕ) (image : Image) : Type 0 where
   pub key : Key
-  pub no_table : is_table key ≡ false
+  pub no_table : is_table_key key ≡ false
   pub old : HasOldAt image key row
 
 -- the page in the row is such a page, with this record and this data area
 pub record IsDuePage (row : ℕ) (body : List ℕ) (r : Record) (image : Image) : Type 0 where
   pub live : IsLivePage row body r image
-  pub no_table : is_table (key_of r) ≡ false
+  pub no_table : is_table_key (key_of r) ≡ false
   pub old : HasOldAt image (key_of r) row
 
 -- what a look at a row finds
@@ -58,7 +58,7 @@ FindsDue from image (Some row) = IsNextDue from row image
 -- Where the die has version 2 both are of it, and no page that has to be renewed is in the row.
 pub record IsRenewedPage (row : ℕ) (old : Ram) (before : Image) (new : Ram) (after : Image) : Type 0 where
   pub key : Key
-  pub no_table : is_table key ≡ false
+  pub no_table : is_table_key key ≡ false
   pub due : HasOldAt before key row
   pub same : IsSame old before new after
   pub renewed : version_for old.geometry ≡ 2 → is_old after key ≡ false

@@ -22,8 +22,8 @@ FollowedLaw = (old new : Ram) (rescued : HasRescuedPage old new) (n : ℕ) → r
     → HasPut Meta rescued.mid new × (new.mapping ≡ cleaned rescued.mid.mapping (n / per_page rescued.mid.mapping))
 
 -- and so, in the image, a rescue of a cached sector's page leaves each other newest page where it is
-abbrev pub AloneLaw : Type 0
-AloneLaw = (old : Ram) (before after : Image) (rescued : LeavesLowest old before after) (n : ℕ) → rescued.key ≡ Sector n → IsSome (slot_of old.mapping n)
+abbrev pub RescueLeavesOthersLaw : Type 0
+RescueLeavesOthersLaw = (old : Ram) (before after : Image) (rescued : LeavesLowest old before after) (n : ℕ) → rescued.key ≡ Sector n → IsSome (slot_of old.mapping n)
     → (other : Key) → newest_row before other ≢ Some rescued.row → newest_row after other ≡ newest_row before other
 
 -- ONE PAGE IS THAT OF LOWEST ROW: two rescues from one memory and one image take the same
@@ -31,6 +31,6 @@ abbrev pub OneLowestLaw : Type 0
 OneLowestLaw = (old : Ram) (before after other : Image) → IsRam old → (first : LeavesLowest old before after) (second : LeavesLowest old before other) → first.row ≡ second.row
 
 -- A RENEWAL HAS ONE ANSWER: the row has a page that has to be copied, or it has none
-abbrev pub OneAnswerLaw : Type 0
-OneAnswerLaw = (row : ℕ) (old new new' : Ram) (before after after' : Image) (found found' : Bool)
+abbrev pub OneRenewalLaw : Type 0
+OneRenewalLaw = (row : ℕ) (old new new' : Ram) (before after after' : Image) (found found' : Bool)
     → IsRenewedAt row old before new after found → IsRenewedAt row old before new' after' found' → found ≡ found'

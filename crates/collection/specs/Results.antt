@@ -27,7 +27,7 @@ use Rattle.collection.specs.declared.fault.EngineFault.TheVariants.{ReadOnly, Se
 use Rattle.collection.specs.State.{Ram}
 use Rattle.collection.specs.Pages.{newest_row}
 use Rattle.collection.specs.Maps.{IsPageFor}
-use Rattle.collection.specs.Looks.{IsFilled}
+use Rattle.collection.specs.Looks.{HasRightEntries}
 use Rattle.collection.specs.Truth.{IsTrue}
 use Rattle.collection.specs.Tables.{SpellsTable}
 use Rattle.collection.specs.Safe.{is_shut}
@@ -135,7 +135,7 @@ pub record IsWrittenBack (t : ℕ) (old : Ram) (before : Image) (new : Ram) (aft
   pub others : (key : Key) → key ≢ Translation t → KeepsPage key before after
   pub row : ℕ
   pub newest_is : newest_row after (Translation t) ≡ Some row
-  pub filled : IsFilled t (body_at after row) old.geometry after
+  pub filled : HasRightEntries t (body_at after row) old.geometry after
   pub renewed : version_for old.geometry ≡ 2 → is_old after (Translation t) ≡ false
 
 -- the array is as it was, the newest table page u spells the table that was, in version 2 where the die has it, and each other one spells what

@@ -34,7 +34,7 @@ pub record IsRam (r : Ram) : Type 0 where
   pub directory_rows : (k row : ℕ) → slice_get r.directory k ≡ Some (Some row) → row < row_count r.geometry
   pub mapping : IsMapping r.mapping
   pub mapping_of : r.mapping.geometry ≡ r.geometry
-  pub blocks : blocks.IsSafe (free_count r.blocks) r.blocks
+  pub blocks : blocks.AreBlocksSafe (free_count r.blocks) r.blocks
   pub blocks_of : r.blocks.geometry ≡ r.geometry
   pub next : r.next < 2 ^ 64
   pub marks : length r.pin.marks ≡ translation_pages r.geometry
@@ -50,8 +50,8 @@ pub record IsBuffer (g : Geometry) (b : Buffer) : Type 0 where
   pub spare : length b.spare.items ≡ g.spare_bytes
 
 -- the page that a buffer holds
-abbrev pub page_in : Buffer → Page
-page_in b = page b.body.items b.spare.items
+abbrev pub page_in_buffer : Buffer → Page
+page_in_buffer b = page b.body.items b.spare.items
 
 pub record IsSafe {N : Type 0} (flash : N → Flash) (e : Engine N) : Type 0 where
   pub memory : IsRam (ram e)

@@ -28,7 +28,7 @@ pub record AreWorn (image : Image) (s : State) : Type 0 where
   pub told : (row : ℕ) (x : Record) → get_or (marks image) row None ≡ Some x → min x.wear most_wear ≤ wear_at s.table (row / s.geometry.pages)
 
 -- there is a table page of this number, and the newest is well formed
-pub record HasTable (g : Geometry) (image : Image) (u : ℕ) : Type 0 where
+pub record HasFormedTablePage (g : Geometry) (image : Image) (u : ℕ) : Type 0 where
   pub row : ℕ
   pub newest_is : newest_row image (Table u) ≡ Some row
   pub formed : IsWellFormed (entries g) g.blocks u (body_at image row)
@@ -41,5 +41,5 @@ pub record IsTrue (but : Option Key) (r : Ram) (image : Image) : Type 0 where
   pub filled : AreFilled image r.blocks
   pub live : IsLiveExact r.blocks (marks image)
   pub worn : AreWorn image r.blocks
-  pub tables : (u : ℕ) → u < table_pages r.geometry → HasTable r.geometry image u
+  pub tables : (u : ℕ) → u < table_pages r.geometry → HasFormedTablePage r.geometry image u
   pub maps : Maps but r.geometry image r.directory r.mapping

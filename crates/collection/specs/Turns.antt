@@ -8,11 +8,11 @@ use Rattle.collection.specs.declared.engine.Pinned.{Pinned}
 use Rattle.collection.specs.declared.engine.collect_in_turns.Step.{Step}
 use Rattle.collection.specs.declared.engine.collect_in_turns.Step.TheVariants.{Copied, WroteBack, Erased}
 use Rattle.collection.specs.declared.fault.EngineFault.{EngineFault}
-use Rattle.collection.specs.Safe.{IsIdle, ram, image_in, page_in}
+use Rattle.collection.specs.Safe.{IsIdle, ram, image_in, page_in_buffer}
 use Rattle.collection.specs.Truth.{IsTrue}
 use Rattle.collection.specs.Results.{Goes, Refused}
 use Rattle.collection.specs.Collect.{excess, GoesBut, KeepsKeys, Refreshes, IsReleased, IsBroughtOut, FaultCosts}
-use Rattle.collection.specs.Left.{IsHalfDone, IsCalm, HasPassed, HasStepped, StepsOn}
+use Rattle.collection.specs.Left.{IsHalfDone, IsCalm, HasPassedNoNewest, HasStepped, StepsOn}
 
 -- the count of erases after a step
 abbrev pub erases_told : Step → ℕ → ℕ
@@ -29,7 +29,7 @@ pub record Advances {N : Type 0} (view : View N) (flushing : Bool) (p : Pinned) 
   -- one page at most was programmed, but for those that failed
   pub cost : MatchResult result (HasStepped flushing p (ram old) (ram new)) (FaultCosts (ram old) (ram new))
   -- the page in the buffer is the one that was brought out
-  pub brought : result ≡ Ok Copied → IsBroughtOut (ram old) (ram new) (page_in new.page)
+  pub brought : result ≡ Ok Copied → IsBroughtOut (ram old) (ram new) (page_in_buffer new.page)
   pub stays : OnErr result ((new.pinned ≡ old.pinned) × (new.mapping ≡ old.mapping))
   pub half_done : OnOk result (ForSome (ram new).pin.block (IsHalfDone (ram new)))
   pub calm : flushing ≡ false → IsCalm (ram old) → OnOk result (IsCalm (ram new))
@@ -40,7 +40,7 @@ pub record Advances {N : Type 0} (view : View N) (flushing : Bool) (p : Pinned) 
   -- a page that is brought out is the last one read, from the cursor on
   pub copied_reads : result ≡ Ok Copied → (page : ℕ) × (new.pinned ≡ Some (record { block = p.block; first = page + 1 })) × (view.reads new.nand ≤ view.reads old.nand + 2 * (page + 1 - p.first))
   pub erases_are : IfOk result (λ step. view.erases new.nand ≡ erases_told step (view.erases old.nand))
-  pub truth : view.honest old.nand ≡ true → IsTrue None (ram old) (image_in view.flash old) → HasPassed (ram old) (image_in view.flash old) p
+  pub truth : view.honest old.nand ≡ true → IsTrue None (ram old) (image_in view.flash old) → HasPassedNoNewest (ram old) (image_in view.flash old) p
       → MatchResult result
       (StepsOn flushing p (ram old) (image_in view.flash old) (ram new) (image_in view.flash new))
       (Refused (ram old) (image_in view.flash old) (ram new) (image_in view.flash new))

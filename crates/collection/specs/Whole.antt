@@ -50,7 +50,7 @@ pub record IsSoFar (block first copies : ℕ) (old : Ram) (before : Image) (now 
 -- WHATEVER THE DIE DOES A COLLECTION READS FEW PAGES: so far two for each page that it is past, and one for each translation page that it has
 -- written back once none was left to bring out. Of these there were no more than the pages that it is past: in a flush with those that are due, and else each was written for more
 -- than the share of the moved sectors, and only while more were moved than may wait. And no more than there are.
-pub record HasRead (flushing : Bool) (start first : ℕ) (old now : Ram) (before after : ℕ) : Type 0 where
+pub record HasReadFewPages (flushing : Bool) (start first : ℕ) (old now : Ram) (before after : ℕ) : Type 0 where
   pub written : ℕ
   pub flushed : flushing ≡ true → written + due_count flushing now ≤ first
   pub share : now.mapping.share ≡ old.mapping.share

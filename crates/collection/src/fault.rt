@@ -1,6 +1,6 @@
 //! Why a call of the engine was refused.
 ghost use Rattle.std.specs.Prelude.{◌≡◌};
-ghost use Rattle.collection.specs.Faults.{number_of};
+ghost use Rattle.collection.specs.Faults.{engine_fault_number};
 
 use thiserror::Error;
 
@@ -28,7 +28,7 @@ pub enum EngineFault {
 impl EngineFault {
     /// The fault's number among those of a device. (This project.)
     pub fn number(self) -> u8
-        ensures { result ≡ number_of self }
+        ensures { result ≡ engine_fault_number self }
     {
         self as u8
     }

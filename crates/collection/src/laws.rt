@@ -1,7 +1,7 @@
 //! What calls of the engine come to, each as one statement.
-ghost use Rattle.collection.specs.Left.{IdleLaw, PinLaw, LeftLaw, UnsharedLeftLaw, TouchedLaw, KeptLaw, CalmLaw, PassedLaw, FewLaw, CopyLaw, WriteLaw, UnsharedCopyLaw};
+ghost use Rattle.collection.specs.Left.{IdleLaw, PinLaw, LeftLaw, UnsharedLeftLaw, UnsharedTouchedLaw, LeftNeverRisesLaw, StaysCalmLaw, PassedLaw, StaysFewLaw, CopyLaw, TranslationWriteLaw, UnsharedCopyLaw};
 ghost use Rattle.collection.specs.Stops.{OneGainLaw};
-ghost use Rattle.collection.specs.Rescued.{LazyLaw, FollowedLaw, AloneLaw, OneLowestLaw, OneAnswerLaw};
+ghost use Rattle.collection.specs.Rescued.{LazyLaw, FollowedLaw, RescueLeavesOthersLaw, OneLowestLaw, OneRenewalLaw};
 
 /// How much is left of a collection that goes from turn to turn: less than a block's pages where a
 /// victim worth collecting was pinned; each page that is brought out and each translation page that is
@@ -12,13 +12,13 @@ pub fn left_laws()
     ensures pinned { PinLaw }
     ensures below { LeftLaw }
     ensures unshared { UnsharedLeftLaw }
-    ensures touched { TouchedLaw }
-    ensures kept { KeptLaw }
-    ensures calm { CalmLaw }
+    ensures touched { UnsharedTouchedLaw }
+    ensures kept { LeftNeverRisesLaw }
+    ensures calm { StaysCalmLaw }
     ensures passed { PassedLaw }
-    ensures few { FewLaw }
+    ensures few { StaysFewLaw }
     ensures copied { CopyLaw }
-    ensures written { WriteLaw }
+    ensures written { TranslationWriteLaw }
 {}
 
 /// With share 0 a collection copies each page that it brings out of its block, a translation page too.
@@ -32,9 +32,9 @@ pub fn bring_out_laws()
 pub fn rescue_laws()
     ensures lazy { LazyLaw }
     ensures followed { FollowedLaw }
-    ensures alone { AloneLaw }
+    ensures alone { RescueLeavesOthersLaw }
     ensures lowest { OneLowestLaw }
-    ensures answer { OneAnswerLaw }
+    ensures answer { OneRenewalLaw }
 {}
 
 /// What a stop in a call leaves is said by a log, and so is what went on in the call. Both are what the

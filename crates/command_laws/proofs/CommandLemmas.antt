@@ -4,7 +4,7 @@ use Rattle.commands.specs.declared.files.FileFault.{FileFault}
 use Rattle.command_laws.specs.Loads.{KnownLaw, InputLaw}
 use Rattle.image_check.specs.declared.refusal.Refusal.{Refusal}
 use Rattle.image_check.specs.declared.refusal.Refusal.TheVariants as refusals
-use Rattle.command_laws.specs.Images.{HeldLaw, OtherGeometryLaw, OnlyOtherLaw, AcceptedLaw, SpelledLaw, FormattedLaw, ServedLaw}
+use Rattle.command_laws.specs.Images.{HeldCertificateLaw, OtherGeometryLaw, OnlyOtherLaw, AcceptedAsAskedLaw, ClaimSpelledLaw, FormatStoresLaw, ServerStoresLaw}
 use Rattle.request_stream.proofs.Writing.{never_all}
 use Rattle.commands.specs.declared.text.CommandFault.TheVariants as fault
 use Rattle.commands.specs.Text.{told_line}
@@ -20,7 +20,7 @@ known gives tells store path bytes opened tell = known_as (λ xs. gives store pa
 pub input : {F : Type 0} (gives : F → List ℕ → Result (List ℕ) FileFault → Type 0) → InputLaw gives
 input gives store words g bytes has = has.given
 
-pub held : HeldLaw
+pub held : HeldCertificateLaw
 held g capacity bytes c is = (is.whole, is.agrees)
 
 -- a refusal is of another geometry, or it is not
@@ -40,16 +40,16 @@ other_geometry g capacity path known c _ unheld unasked = absurd unheld
 pub only_other : OnlyOtherLaw
 only_other g capacity path known c unheld = unheld.0.other refl
 
-pub accepted : AcceptedLaw
+pub accepted : AcceptedAsAskedLaw
 accepted g capacity known c is = is.asked
 
-pub spelled : SpelledLaw
+pub spelled : ClaimSpelledLaw
 spelled c written is = is.spelled
 
-pub formatted : FormattedLaw
+pub formatted : FormatStoresLaw
 formatted g before after good f = (f.passed, f.bytes, f.pages)
 
-pub served : ServedLaw
+pub served : ServerStoresLaw
 served g capacity c s after unread left out out' result h = (h.bytes, h.pages, h.passed)
 
 pub told : ToldLaw

@@ -20,11 +20,11 @@ use Rattle.commands.specs.declared.files.FileFault.{FileFault}
 use Rattle.commands.specs.declared.text.CommandFault.{CommandFault}
 use Rattle.commands.specs.declared.text.CommandFault.TheVariants as fault
 use Rattle.commands.specs.Files.{Stored}
-use Rattle.commands.specs.Migrate.{EndsShort, Renews}
+use Rattle.commands.specs.Migrate.{EndsShort, RenewsInCalls}
 use Rattle.commands.specs.Serve.{flash_behind, driver_view}
 use Rattle.commands.proofs.MigrateLemmas.{has_room}
 use Rattle.commands.specs.Text.{device_words}
-use Rattle.command_laws.specs.Migrations.{CallsCountedLaw, RenewsWithRoom, FirstPageLaw, NumberLaw, HasTried, MigrateDoneLaw, MigratedLaw, MigrateStopsLaw, SettledLaw, ShortLaw, TellsRefusal}
+use Rattle.command_laws.specs.Migrations.{CallsCountedLaw, RenewsWithRoom, FirstBringsLowestLaw, NumberLaw, HasTriedToStore, MigrateDoneLaw, MigratedLaw, MigrateStopsLaw, SettledLaw, EndsShortLaw, TellsRefusal}
 
 pub migrated : MigratedLaw
 migrated g capacity c s after came m = (m.bytes, m.pages, m.array, m.mountable, m.went.leads, m.legal, m.passed)
@@ -49,7 +49,7 @@ same_refusal came one other is also = (let same : refused_as one ≡ refused_as 
 tells : (one other : DeviceFault) → one ≡ other → TellsRefusal other (fault.Migrate one)
 tells one other same = ([], ap (λ l. codes "refused migrate " ++ l) (ap device_words same ∙ sym (append-nil (device_words other))))
 
-pub short : ShortLaw
+pub short : EndsShortLaw
 short path image came before after (fault.Migrate one) (is, stored) =
     (λ refused asked. (tells one refused (same_refusal came one refused is asked), inl stored), λ count asked. absurd (no_other came count one asked is))
 short path image came before after (fault.MigrateUnstored one text) (is, at, inl tried) = (
@@ -65,7 +65,7 @@ short path image came before after fault.OutOfMemory (done, none) = (λ refused 
 short path image came before after _ ends = absurd ends
 
 -- however it did, the image was stored, or that was tried
-tried : (path image : List ℕ) (came : Result ℕ DeviceFault) (before after : Option (List Stored)) (stop : CommandFault) → EndsShort path image came before after stop → HasTried path image before after
+tried : (path image : List ℕ) (came : Result ℕ DeviceFault) (before after : Option (List Stored)) (stop : CommandFault) → EndsShort path image came before after stop → HasTriedToStore path image before after
 tried path image came before after (fault.Migrate one) (is, stored) = inl stored
 tried path image came before after (fault.MigrateUnstored one text) (is, at, ends) = inr ends
 tried path image came before after (fault.Write text) (done, at, none) = inr (inl none)
@@ -100,7 +100,7 @@ module _ {N : Type 0} (view : View N) where
   image_of d = image_in view.flash d.engine
 
   abbrev Each : ℕ → Device N → Device N → Type 0
-  Each count a b = Renews view count a b
+  Each count a b = RenewsInCalls view count a b
 
   sized_each : (count : ℕ) (a b : Device N) → Each count a b → b.engine.geometry ≡ a.engine.geometry
   sized_each zero a b same = ap (λ (d : Device N). d.engine.geometry) same
@@ -137,7 +137,7 @@ from_zero : (row : ℕ) (image : Image) → FindsFrom 0 image (Some row) → IsN
 from_zero row image (inl next) = next
 from_zero row image (inr behind) = behind.first
 
-pub first_page : FirstPageLaw
+pub first_page : FirstBringsLowestLaw
 first_page g capacity c s after count m =
     let one = first_call driver_view count m.first m.comes.1.0 m.comes.1.1 in
     let held : (flash_behind m.first.engine.nand).image ≡ s.image = ap (λ (f : Flash). f.image) (m.starts.begun.same refl ∙ m.held) in

@@ -15,13 +15,13 @@ use Rattle.request_stream.specs.declared.reply.ServeFault.{ServeFault}
 use Rattle.block_server.specs.declared.server.Served.{Served}
 use Rattle.commands.specs.declared.text.CommandFault.{CommandFault}
 use Rattle.commands.specs.declared.text.CommandFault.TheVariants.{Check}
-use Rattle.commands.specs.Check.{IsSpelled, IsHeld, IsHeldAs, IsUnheld}
+use Rattle.commands.specs.Check.{IsClaimSpelled, IsHeld, IsHeldAs, IsUnheld}
 use Rattle.commands.specs.Format.{IsFormattedImage}
 use Rattle.commands.specs.Serve.{ServesDie, bad_in, flash_behind}
 
 -- A CERTIFICATE THAT WAS HELD agrees with the image, which is as long as the die's pages
-abbrev pub HeldLaw : Type 0
-HeldLaw = (g : Geometry) (capacity : ℕ) (bytes : List ℕ) (c : Claim) → IsHeld g capacity bytes c
+abbrev pub HeldCertificateLaw : Type 0
+HeldCertificateLaw = (g : Geometry) (capacity : ℕ) (bytes : List ℕ) (c : Claim) → IsHeld g capacity bytes c
     → (length bytes ≡ row_count g * page_bytes g) × Agrees g capacity (raw_image g bytes) c
 
 -- OF A CERTIFICATE OF ANOTHER GEOMETRY or another capacity `check` tells that, and nothing else
@@ -34,21 +34,21 @@ abbrev pub OnlyOtherLaw : Type 0
 OnlyOtherLaw = (g : Geometry) (capacity : ℕ) (path : List ℕ) (known : Option (List ℕ)) (c : Claim) → IsUnheld g capacity path known c (Check GeometryDiffers) → ¬ IsAsked g capacity c
 
 -- ONE THAT WAS ACCEPTED is of the geometry and the capacity, whatever is known of the image's bytes
-abbrev pub AcceptedLaw : Type 0
-AcceptedLaw = (g : Geometry) (capacity : ℕ) (known : Option (List ℕ)) (c : Claim) → IsHeldAs g capacity known c → IsAsked g capacity c
+abbrev pub AcceptedAsAskedLaw : Type 0
+AcceptedAsAskedLaw = (g : Geometry) (capacity : ℕ) (known : Option (List ℕ)) (c : Claim) → IsHeldAs g capacity known c → IsAsked g capacity c
 
 -- ITS CLAIM spells the bytes that were read
-abbrev pub SpelledLaw : Type 0
-SpelledLaw = (c : Claim) (written : List ℕ) → IsSpelled c written → certificate_bytes c ≡ written
+abbrev pub ClaimSpelledLaw : Type 0
+ClaimSpelledLaw = (c : Claim) (written : List ℕ) → IsClaimSpelled c written → certificate_bytes c ≡ written
 
 -- A FORMAT STORES the bytes of the die that it formatted, and no program of it failed
-abbrev pub FormattedLaw : Type 0
-FormattedLaw = (g : Geometry) (before after : List ℕ) (good : ℕ) (f : IsFormattedImage g before after good)
+abbrev pub FormatStoresLaw : Type 0
+FormatStoresLaw = (g : Geometry) (before after : List ℕ) (good : ℕ) (f : IsFormattedImage g before after good)
     → (failures f.formatted.log ≡ 0) × (after ≡ raw_bytes f.flash.image) × (raw_image g after ≡ f.flash.image)
 
 -- A SERVER STORES the bytes of its die's pages, and of a die that was loaded with the certificate's bad blocks no program and no erase failed
-abbrev pub ServedLaw : Type 0
-ServedLaw = (g : Geometry) (capacity : ℕ) (c : Claim) (s : Flash) (after : List ℕ) (unread left out out' : Option (List ℕ)) (result : Result Served ServeFault)
+abbrev pub ServerStoresLaw : Type 0
+ServerStoresLaw = (g : Geometry) (capacity : ℕ) (c : Claim) (s : Flash) (after : List ℕ) (unread left out out' : Option (List ℕ)) (result : Result Served ServeFault)
     (served : ServesDie g capacity c s after unread left out out' result)
     → (after ≡ raw_bytes (flash_behind served.last.engine.nand).image) × (raw_image g after ≡ (flash_behind served.last.engine.nand).image)
     × ((before : List ℕ) → s ≡ loaded_flash g before (bad_in g c) → failures (log_of served.holds.headline.run.events) ≡ 0)

@@ -6,19 +6,19 @@ use Rattle.commands.specs.declared.text.CommandFault.{CommandFault}
 use Rattle.commands.specs.declared.text.ServeStop.{ServeStop}
 use Rattle.commands.specs.Files.{Stored, written_file, unwritten_file, with_store}
 use Rattle.commands.specs.Lines.{IsUnprinted}
-use Rattle.commands.specs.Text.{IsCommandFaultTold, told_line, status_of}
+use Rattle.commands.specs.Text.{IsCommandFaultTold, told_line, command_exit_status}
 use Rattle.commands.specs.Serve.{EndsServing}
 
 -- THE LINE OF A FAULT was written, and the status is the fault's; or a part of it was, and the status is 3
 abbrev pub ToldLaw : Type 0
 ToldLaw = (fault : CommandFault) (before after : Option (List ℕ)) (status : ℕ) → IsCommandFaultTold fault before after status
-    → (status ≢ 3 → (status ≡ status_of fault) × Appends before after (told_line fault))
-    × (status ≢ status_of fault → AppendsPart before after (told_line fault))
+    → (status ≢ 3 → (status ≡ command_exit_status fault) × Appends before after (told_line fault))
+    × (status ≢ command_exit_status fault → AppendsPart before after (told_line fault))
 
 -- A LINE THAT STANDS THERE WHOLE goes with its fault's own status
 abbrev pub WholeLineLaw : Type 0
 WholeLineLaw = (fault : CommandFault) (before : List ℕ) (after : Option (List ℕ)) (status : ℕ) → IsCommandFaultTold fault (Some before) after status
-    → Appends (Some before) after (told_line fault) → status ≡ status_of fault
+    → Appends (Some before) after (told_line fault) → status ≡ command_exit_status fault
 
 -- ON STANDARD OUTPUT too: a line that is told as unprinted does not stand there whole
 abbrev pub UnprintedLaw : Type 0

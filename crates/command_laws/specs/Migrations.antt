@@ -30,7 +30,7 @@ use Rattle.commands.specs.Check.{AsksForCapacity}
 use Rattle.commands.specs.Files.{Left, Stored, with_store, written_file, unwritten_file}
 use Rattle.commands.specs.Migrate.{CallsMigrate, DoesMigrate, EndsShort, MigratesDie, migrated_line}
 use Rattle.commands.specs.Serve.{Driver, bad_in, checked_words, flash_behind, driver_view}
-use Rattle.commands.specs.Text.{device_words, line_of}
+use Rattle.commands.specs.Text.{device_words, command_fault_line}
 
 -- WHATEVER CAME OF THE CALLS, the bytes are those of the die's pages. Its array is that of the image before, and it mounts. One legal log leads to the die,
 -- and of a die that was loaded with the certificate's bad blocks no program and no erase in it failed.
@@ -50,17 +50,17 @@ SettledLaw = (g : Geometry) (capacity : ℕ) (c : Claim) (s : Flash) (after : Li
 
 -- its line begins with the device's refusal
 abbrev pub TellsRefusal : DeviceFault → CommandFault → Type 0
-TellsRefusal refused stop = (more : List ℕ) × (line_of stop ≡ codes "refused migrate " ++ (device_words refused ++ more))
+TellsRefusal refused stop = (more : List ℕ) × (command_fault_line stop ≡ codes "refused migrate " ++ (device_words refused ++ more))
 
 -- one file was handed over to be written after the others, whether it was, or not, or none was
-abbrev pub HasTried : List ℕ → List ℕ → Option (List Stored) → Option (List Stored) → Type 0
-HasTried path image before after = (after ≡ with_store before (written_file path image)) ⊎ (after ≡ with_store before (unwritten_file path image)) ⊎ (after ≡ before)
+abbrev pub HasTriedToStore : List ℕ → List ℕ → Option (List Stored) → Option (List Stored) → Type 0
+HasTriedToStore path image before after = (after ≡ with_store before (written_file path image)) ⊎ (after ≡ with_store before (unwritten_file path image)) ⊎ (after ≡ before)
 
 -- HOW IT ENDS SHORT: a call that was refused is told, and the image is stored all the same, or that is tried; where none was, it ends short since the
 -- image could not be stored
-abbrev pub ShortLaw : Type 0
-ShortLaw = (path image : List ℕ) (came : Result ℕ DeviceFault) (before after : Option (List Stored)) (stop : CommandFault) → EndsShort path image came before after stop
-    → ((refused : DeviceFault) → came ≡ Err refused → TellsRefusal refused stop × HasTried path image before after)
+abbrev pub EndsShortLaw : Type 0
+EndsShortLaw = (path image : List ℕ) (came : Result ℕ DeviceFault) (before after : Option (List Stored)) (stop : CommandFault) → EndsShort path image came before after stop
+    → ((refused : DeviceFault) → came ≡ Err refused → TellsRefusal refused stop × HasTriedToStore path image before after)
     × ((count : ℕ) → came ≡ Ok count → (after ≡ with_store before (unwritten_file path image)) ⊎ (after ≡ before))
 
 -- the words ask for this geometry and capacity, and a load of IMAGE may answer these bytes
@@ -79,7 +79,7 @@ abbrev pub MigrateStopsLaw : {F : Type 0} → (F → List ℕ → Result (List �
 MigrateStopsLaw {F} gives = (store : F) (words : ServeWords) (before after : Left) (stop : CommandFault) → DoesMigrate (gives store) words before after (Err stop)
     → ((after.stores ≡ before.stores) × Keeps before.out after.out)
     ⊎ ((g : Geometry) × (capacity : ℕ) × (bytes image : List ℕ) × ReadsImage gives store words g capacity bytes
-    × (array_of g (raw_image g image) ≡ array_of g (raw_image g bytes)) × HasTried words.output.now image before.stores after.stores)
+    × (array_of g (raw_image g image) ≡ array_of g (raw_image g bytes)) × HasTriedToStore words.output.now image before.stores after.stores)
 
 -- ---- the number that is printed
 
@@ -105,6 +105,6 @@ NumberLaw = (g : Geometry) (capacity : ℕ) (c : Claim) (s : Flash) (after : Lis
     → (count ≤ old_pages g s.image) × (HasOldTablesOnly s.image → count ≡ 0)
 
 -- THE FIRST CALL begins with the lowest row of IMAGE that has a page to be brought forward
-abbrev pub FirstPageLaw : Type 0
-FirstPageLaw = (g : Geometry) (capacity : ℕ) (c : Claim) (s : Flash) (after : List ℕ) (count : ℕ) → (m : MigratesDie g capacity c s after (Ok (suc count)))
+abbrev pub FirstBringsLowestLaw : Type 0
+FirstBringsLowestLaw = (g : Geometry) (capacity : ℕ) (c : Claim) (s : Flash) (after : List ℕ) (count : ℕ) → (m : MigratesDie g capacity c s after (Ok (suc count)))
     → (next : Device Driver) × (one : BringsOne driver_view m.first next) × IsNextDue 0 one.row s.image

@@ -9,5 +9,5 @@ abbrev pub RefusedBytesLaw : Type 0
 RefusedBytesLaw = (sector : ℕ) (fault : DeviceFault) (old new : List ℕ) → KeepsBytes (step.Read sector) (Err fault) old new → new ≡ old
 
 -- and so does each other command, refused or not
-abbrev pub OtherBytesLaw : Type 0
-OtherBytesLaw = (command : step.Command) (result : Result (Unit {0}) DeviceFault) (old new : List ℕ) → is_read command ≡ false → KeepsBytes command result old new → new ≡ old
+abbrev pub OtherCommandBytesLaw : Type 0
+OtherCommandBytesLaw = (command : step.Command) (result : Result (Unit {0}) DeviceFault) (old new : List ℕ) → is_read command ≡ false → KeepsBytes command result old new → new ≡ old

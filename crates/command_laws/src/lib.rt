@@ -4,11 +4,11 @@
 
 ghost use Rattle.command_laws.specs.Records.{ServedTellsLaw};
 ghost use Rattle.command_laws.specs.Rescues.{NoGainLaw, NoneAilsLaw, RescuedEventLaw};
-ghost use Rattle.command_laws.specs.Queued.{RefusedBytesLaw, OtherBytesLaw};
+ghost use Rattle.command_laws.specs.Queued.{RefusedBytesLaw, OtherCommandBytesLaw};
 ghost use Rattle.command_laws.specs.Loads.{KnownLaw, InputLaw};
-ghost use Rattle.command_laws.specs.Images.{HeldLaw, OtherGeometryLaw, OnlyOtherLaw, AcceptedLaw, SpelledLaw, FormattedLaw, ServedLaw};
+ghost use Rattle.command_laws.specs.Images.{HeldCertificateLaw, OtherGeometryLaw, OnlyOtherLaw, AcceptedAsAskedLaw, ClaimSpelledLaw, FormatStoresLaw, ServerStoresLaw};
 ghost use Rattle.commands.specs.Serve.{driver_view};
-ghost use Rattle.command_laws.specs.Migrations.{CallsCountedLaw, MigratedLaw, FirstPageLaw, NumberLaw, SettledLaw, ShortLaw, MigrateDoneLaw, MigrateStopsLaw};
+ghost use Rattle.command_laws.specs.Migrations.{CallsCountedLaw, MigratedLaw, FirstBringsLowestLaw, NumberLaw, SettledLaw, EndsShortLaw, MigrateDoneLaw, MigrateStopsLaw};
 ghost use Rattle.command_laws.specs.Lines.{ToldLaw, WholeLineLaw, UnprintedLaw, FailedStoreLaw, StoresInOrderLaw, UnstoredLaw};
 
 use commands::FileStore;
@@ -23,13 +23,13 @@ pub fn file_laws<F: FileStore>()
 /// A certificate that was held against an image agrees with it, and the image is whole; of one of another geometry that alone is told, and of no other; its claim spells the bytes that were read; and what a
 /// format or a server stores are the bytes of its die's pages. (This project.)
 pub fn image_laws()
-    ensures held { HeldLaw }
+    ensures held { HeldCertificateLaw }
     ensures other { OtherGeometryLaw }
     ensures only { OnlyOtherLaw }
-    ensures accepted { AcceptedLaw }
-    ensures spelled { SpelledLaw }
-    ensures formatted { FormattedLaw }
-    ensures served { ServedLaw }
+    ensures accepted { AcceptedAsAskedLaw }
+    ensures spelled { ClaimSpelledLaw }
+    ensures formatted { FormatStoresLaw }
+    ensures served { ServerStoresLaw }
 {}
 
 /// Of the line of a fault a part stands where it could not be written, and the status is the fault's or 3; a line that stands there whole has its fault's
@@ -50,9 +50,9 @@ pub fn line_laws()
 pub fn migration_laws()
     ensures migrated { MigratedLaw }
     ensures settled { SettledLaw }
-    ensures short { ShortLaw }
+    ensures short { EndsShortLaw }
     ensures number { NumberLaw }
-    ensures first { FirstPageLaw }
+    ensures first { FirstBringsLowestLaw }
     ensures calls { CallsCountedLaw driver_view }
 {}
 
@@ -73,7 +73,7 @@ pub fn rescue_laws()
 /// What a call of a queue leaves of the bytes that it was handed: only a read that is done changes them. (This project.)
 pub fn queue_laws()
     ensures refused { RefusedBytesLaw }
-    ensures other { OtherBytesLaw }
+    ensures other { OtherCommandBytesLaw }
 {}
 
 /// The driver of the die that the program serves tells a record of what it did, at each moment. (This project.)

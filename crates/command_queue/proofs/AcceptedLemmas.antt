@@ -21,14 +21,14 @@ use Rattle.promises.specs.Run.{Event, log_of}
 use Rattle.collection.specs.State.{Ram}
 use Rattle.collection.specs.Safe.{ram, image_in}
 use Rattle.collection.specs.Truth.{IsTrue}
-use Rattle.collection.specs.Log.{IsAccounted, Follows, Wears}
+use Rattle.collection.specs.Log.{IsAccounted, FollowsLog, Wears}
 use Rattle.ftl_device.specs.declared.device.Device.{Device}
 use Rattle.ftl_device.specs.declared.fault.DeviceFault.{DeviceFault}
 use Rattle.ftl_device.specs.declared.fault.DeviceFault.TheVariants.{OutOfRange, ReadOnly, SequenceSpent, OutOfMemory, Damaged, BusFault}
-use Rattle.ftl_device.specs.Begin.{begun_ram, is_bad_in, wear_in, free_in, is_scarce}
+use Rattle.ftl_device.specs.Begin.{begun_ram, is_bad_in, certified_wear, free_in, is_scarce}
 use Rattle.ftl_device.specs.Device.{IsAcceptedFor}
 use Rattle.ftl_device.specs.Calls.{stop_of, PinIsTrue, IsWell}
-use Rattle.ftl_device.specs.Counts.{is_bad_by, IsShortIn, IsShown, IsLeftReadOnly}
+use Rattle.ftl_device.specs.Counts.{is_bad_by, IsShortIn, IsShownByRefusal, IsLeftReadOnly}
 use Rattle.command_queue.specs.Exchanges.{Exchange}
 use Rattle.command_queue.specs.Tells.{die_in}
 use Rattle.command_queue.specs.Run.{AreFair, HasRun, HappensEach, Ran, accepted_device, RanFrom}
@@ -58,10 +58,10 @@ module _ (g : Geometry) (share : ℕ) (p q : ℕ → Bool) (u v : ℕ → ℕ) (
   good_so : (log : List Operation) (b : ℕ) → b < g.blocks → logs.good_of g.pages p log b ≡ logs.good_of g.pages q log b
   good_so log b lt = ap (λ x. not (x || failed_in g.pages log b)) (same b lt)
 
-  good_as : (log : List Operation) → logs.good_count g p log ≡ logs.good_count g q log
+  good_as : (log : List Operation) → logs.good_count_after g p log ≡ logs.good_count_after g q log
   good_as log = count_same (logs.good_of g.pages p log) (logs.good_of g.pages q log) 0 g.blocks (λ b low high. good_so log b (omega arith))
 
-  free_as : (log : List Operation) (image : Image) → logs.free_count g p log image ≡ logs.free_count g q log image
+  free_as : (log : List Operation) (image : Image) → logs.free_count_after g p log image ≡ logs.free_count_after g q log image
   free_as log image = count_same (logs.free_of g p log image) (logs.free_of g q log image) 0 g.blocks (λ b low high. ap (λ x. x && list_all is_erased_page (block_pages g image b)) (good_so log b (omega arith)))
 
   short_as : (log call : List Operation) (image : Image) (good wanted failed : ℕ) → IsShortIn g share p log call image good wanted failed → IsShortIn g share q log call image good wanted failed
@@ -85,7 +85,7 @@ module _ (g : Geometry) (share : ℕ) (p q : ℕ → Bool) (u v : ℕ → ℕ) (
   left_as command before call ro (Err Damaged) left = tt
   left_as command before call ro (Err BusFault) left = tt
 
-  shown_as : (next : ℕ) (before call : List Operation) (ro : Bool) (image : Image) (fault : DeviceFault) → IsShown g share p next before call ro image fault → IsShown g share q next before call ro image fault
+  shown_as : (next : ℕ) (before call : List Operation) (ro : Bool) (image : Image) (fault : DeviceFault) → IsShownByRefusal g share p next before call ro image fault → IsShownByRefusal g share q next before call ro image fault
   shown_as next before call ro image OutOfRange shown = tt
   shown_as next before call ro image (ReadOnly good wanted failed) shown = (short_as (before ++ call) call image good wanted failed shown.0, scarce_as before call ro shown.1)
   shown_as next before call ro image SequenceSpent shown = shown
@@ -131,7 +131,7 @@ bad_begun g share capacity image c stale agrees b lt =
     let here = given g capacity image c b agrees lt in
     ap not (good_same g image c b here) ∙ sym (bad_same g image c b here)
 
-wear_begun : (g : Geometry) (capacity : ℕ) (image : Image) (c : Claim) → Agrees g capacity image c → (b : ℕ) → b < g.blocks → wear_at (begun g c.blocks).table b ≡ min (wear_in c b) most_wear
+wear_begun : (g : Geometry) (capacity : ℕ) (image : Image) (c : Claim) → Agrees g capacity image c → (b : ℕ) → b < g.blocks → wear_at (begun g c.blocks).table b ≡ min (certified_wear c b) most_wear
 wear_begun g capacity image c agrees b lt =
     let state = agrees.wear.state b lt in
     begun_wear g c.blocks b (slice_get_within c.blocks b state.0 state.1)
@@ -142,7 +142,7 @@ record RanWith {N : Type 0} (view : View N) (d : Device N) (r : Ram) (old : runs
   pub legal : LegalFrom r.geometry.pages accounts (log_of run.events)
   pub next : new.engine.next ≡ r.next + programs_in (log_of run.events)
   pub each : HappensEach view d run.events calls new
-  pub follows : Follows r.geometry.pages (log_of run.events) (ram d.engine).blocks (ram new.engine).blocks
+  pub follows : FollowsLog r.geometry.pages (log_of run.events) (ram d.engine).blocks (ram new.engine).blocks
   pub wears : Wears (log_of run.events) (ram d.engine).blocks (ram new.engine).blocks
 
 pub ran_accepted : {N : Type 0} (view : View N) (s : Flash) (share : ℕ)
@@ -172,7 +172,7 @@ ran_accepted {N} view s share a d new calls die is accepted scarce accounts ran 
         commands = there.run.commands;
         replies = there.run.replies;
         run = there.run.run;
-        fair = fair_as s.geometry share (is_bad_by (begun_ram s.geometry share c a.stale)) (is_bad_in c) (wear_at (begun s.geometry c.blocks).table) (wear_in c)
+        fair = fair_as s.geometry share (is_bad_by (begun_ram s.geometry share c a.stale)) (is_bad_in c) (wear_at (begun s.geometry c.blocks).table) (certified_wear c)
             (bad_begun s.geometry share c.capacity s.image c a.stale accepted.accepted.agrees)
             (wear_begun s.geometry c.capacity s.image c accepted.accepted.agrees) c.capacity c.next first [] there.run.events calls there.run.fair;
       };

@@ -11,7 +11,7 @@ use Rattle.page_layout.proofs.RecordingLemmas.{records_join, records_none}
 use Rattle.promises.specs.Step.{ArrayRun}
 use Rattle.promises.specs.Log.{passed_erases_of}
 use Rattle.collection.specs.Safe.{ram, image_in}
-use Rattle.collection.specs.Log.{Follows}
+use Rattle.collection.specs.Log.{FollowsLog}
 use Rattle.bad_blocks.specs.Table.{wear_at, most_wear}
 use Rattle.promises.proofs.LogLemmas.{counts}
 use Rattle.command_queue.proofs.RunLemmas.{follows_then}
@@ -86,7 +86,7 @@ module _ {N : Type 0} (view : View N) where
     leads = Leads-append (view.flash old.engine.nand) (view.flash mid.engine.nand) (view.flash new.engine.nand) here.went.log log here.went.leads rest.leads;
     records = records_join (view.recorded old.engine.nand) (view.recorded mid.engine.nand) (view.recorded new.engine.nand) here.went.log log here.went.records rest.records;
     follows = follows_then old.engine.geometry.pages here.went.log log (ram old.engine).blocks (ram mid.engine).blocks (ram new.engine).blocks here.went.follows
-        (subst (λ (g : Geometry). Follows g.pages log (ram mid.engine).blocks (ram new.engine).blocks) here.sized rest.follows);
+        (subst (λ (g : Geometry). FollowsLog g.pages log (ram mid.engine).blocks (ram new.engine).blocks) here.sized rest.follows);
     next = omega (arith, here.went.next, rest.next, (counts old.engine.geometry.pages 0 here.went.log log).programs);
     wears = record {
       worn = λ b few.

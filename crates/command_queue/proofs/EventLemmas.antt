@@ -16,7 +16,7 @@ use Rattle.image_check.specs.Stale.{is_stale}
 use Rattle.collection.specs.Safe.{image_in}
 use Rattle.ftl_device.specs.declared.device.Device.{Device}
 use Rattle.ftl_device.specs.declared.fault.DeviceFault.TheVariants.{ReadOnly, SequenceSpent, Damaged}
-use Rattle.ftl_device.specs.Counts.{IsLeftReadOnly, IsShown}
+use Rattle.ftl_device.specs.Counts.{IsLeftReadOnly, IsShownByRefusal}
 use Rattle.ftl_device.specs.Changes.{MayPin}
 use Rattle.ftl_device.specs.Flush.{First}
 use Rattle.ftl_device.specs.Stopped.{changes_sector, HoldsEither}

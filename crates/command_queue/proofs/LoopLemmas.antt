@@ -9,7 +9,7 @@ use Rattle.ftl_device.specs.declared.device.Device.{Device}
 use Rattle.ftl_device.specs.declared.fault.DeviceFault.{DeviceFault}
 use Rattle.command_queue.specs.declared.command.Call.{Call}
 use Rattle.ftl_device.specs.Device.{IsDevice}
-use Rattle.command_queue.specs.Commands.{command_of, told_command, HasRoom, IsWhole, AreWhole, AreAnswered, KeepsBytes, HasKept}
+use Rattle.command_queue.specs.Commands.{promised_command, told_command, HasDataArea, IsCallWhole, AreWhole, AreAnswered, KeepsBytes, HasKept}
 use Rattle.command_queue.specs.Exchanges.{Exchange, exchange_of, exchanges_of}
 use Rattle.command_queue.specs.Commands.{HaveKept}
 use Rattle.command_queue.specs.Tells.{Tells}
@@ -80,7 +80,7 @@ running_none view old calls device whole = record {
 module _ {N : Type 0} (view : View N) (old now new : Device N) (before calls : List Call) (done : ℕ) (call after : Call) (result : Result (Unit {0}) DeviceFault)
     (safe : IsDevice view.flash old) (running : IsRunning view old now before calls done) (at : slice_get calls done ≡ Some call) (below : done < length calls)
     (command_is : after.command ≡ call.command) (replied : after.reply ≡ Some result)
-    (bytes : List ℕ) (bytes_are : after.bytes.items ≡ bytes) (room : HasRoom now.engine.geometry after.command bytes)
+    (bytes : List ℕ) (bytes_are : after.bytes.items ≡ bytes) (room : HasDataArea now.engine.geometry after.command bytes)
     (tells : Tells view now (record { command = told_command after; result = result; bytes = bytes }) new)
     (kept : KeepsBytes (told_command after) result call.bytes.items bytes) where
   its_take : take (done + 1) (set calls done after) ≡ take done calls ++ after ∷ []
@@ -104,8 +104,8 @@ module _ {N : Type 0} (view : View N) (old now new : Device N) (before calls : L
   pub running_more : IsRunning view old new before (set calls done after) (done + 1)
   running_more = record {
     was_told = subst (λ (cs : List Call). WasTold view old (exchanges_of cs) new) (sym its_take) told_on;
-    whole = all_set (IsWhole old.engine.geometry) calls done after (subst (λ bs. HasRoom old.engine.geometry after.command bs) (sym bytes_are) (subst (λ (g : Geometry). HasRoom g after.command bytes) running.was_told.calls.sized room)) running.whole;
-    told_is = map_set told_command calls done call after at (ap command_of command_is) ∙ running.told_is;
+    whole = all_set (IsCallWhole old.engine.geometry) calls done after (subst (λ bs. HasDataArea old.engine.geometry after.command bs) (sym bytes_are) (subst (λ (g : Geometry). HasDataArea g after.command bytes) running.was_told.calls.sized room)) running.whole;
+    told_is = map_set told_command calls done call after at (ap promised_command command_is) ∙ running.told_is;
     answered = subst AreAnswered (sym its_take) (all_more (λ (c : Call). IsSome c.reply) (take done calls) after running.answered (subst IsSome (sym replied) refl));
     kept = subst (λ n. HaveKeptSo n before (set calls done after)) (let on : suc done ≡ done + 1 = omega arith in on) (kept_more done before calls call after at its_bytes running.kept);
   }

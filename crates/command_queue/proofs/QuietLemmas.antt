@@ -20,7 +20,7 @@ use Rattle.collection.specs.Truth.{IsTrue}
 use Rattle.collection.specs.Collect.{LeadTo, HasErased, HasCollected}
 use Rattle.collection.specs.Left.{HasStepped, pinned_to}
 use Rattle.collection.specs.Room.{Collects}
-use Rattle.collection.specs.Log.{Follows}
+use Rattle.collection.specs.Log.{FollowsLog}
 use Rattle.ftl_device.specs.Calls.{HasRescued}
 use Rattle.ftl_device.specs.Counts.{is_bad_by, free_by, good_by}
 use Rattle.ftl_device.specs.Turn.{HasGoneOn, HasNothingToDo, TurnsOn, HasTurned}
@@ -124,23 +124,23 @@ module _ (g : Geometry) (bad : ℕ → Bool) (log : List Operation) where
   good_once : (b : ℕ) → logs.good_of g.pages (bad_of g.pages bad log) [] b ≡ logs.good_of g.pages bad log b
   good_once b = ap not (or_false (bad_of g.pages bad log b))
 
-  pub joined_good : logs.good_count g (bad_of g.pages bad log) [] ≡ logs.good_count g bad log
+  pub joined_good : logs.good_count_after g (bad_of g.pages bad log) [] ≡ logs.good_count_after g bad log
   joined_good = count_same (logs.good_of g.pages (bad_of g.pages bad log) []) (logs.good_of g.pages bad log) 0 g.blocks (λ b low high. good_once b)
 
-  pub joined_free : (image : Image) → logs.free_count g (bad_of g.pages bad log) [] image ≡ logs.free_count g bad log image
+  pub joined_free : (image : Image) → logs.free_count_after g (bad_of g.pages bad log) [] image ≡ logs.free_count_after g bad log image
   joined_free image = count_same (logs.free_of g (bad_of g.pages bad log) [] image) (logs.free_of g bad log image) 0 g.blocks (λ b low high. ap (λ x. x && list_all is_erased_page (block_pages g image b)) (good_once b))
 
 module _ (g : Geometry) (p q : ℕ → Bool) (same : (b : ℕ) → b < g.blocks → p b ≡ q b) where
-  good_as : logs.good_count g p [] ≡ logs.good_count g q []
+  good_as : logs.good_count_after g p [] ≡ logs.good_count_after g q []
   good_as = count_same (logs.good_of g.pages p []) (logs.good_of g.pages q []) 0 g.blocks (λ b low high. ap (λ x. not (x || false)) (same b (omega arith)))
 
-  free_as : (image : Image) → logs.free_count g p [] image ≡ logs.free_count g q [] image
+  free_as : (image : Image) → logs.free_count_after g p [] image ≡ logs.free_count_after g q [] image
   free_as image = count_same (logs.free_of g p [] image) (logs.free_of g q [] image) 0 g.blocks (λ b low high. ap (λ x. not (x || false) && list_all is_erased_page (block_pages g image b)) (same b (omega arith)))
 
   pub twelve_as : (share : ℕ) (piece : List Operation) (image : Image) → LeavesTwelve g share p piece image → LeavesTwelve g share q piece image
   twelve_as share piece image h = λ none many. omega (arith, h none (omega (arith, many, good_as)), free_as image)
 
-module _ (old new : Ram) (log : List Operation) (safe : IsRam old) (safe' : IsRam new) (sized : new.geometry ≡ old.geometry) (follows : Follows old.geometry.pages log old.blocks new.blocks) (h : HasRescued old new)
+module _ (old new : Ram) (log : List Operation) (safe : IsRam old) (safe' : IsRam new) (sized : new.geometry ≡ old.geometry) (follows : FollowsLog old.geometry.pages log old.blocks new.blocks) (h : HasRescued old new)
     (next : new.next ≡ old.next + programs_in log) (before after : Image) (w : IsTrue None old before) (w' : IsTrue None new after) (still : log ≡ [] → after ≡ before) (t : HasTurned old new) (none : log ≡ []) where
   nowhere : FailsNowhere old.geometry log
   nowhere k lt = subst (λ l. failed_in old.geometry.pages l k ≡ false) (sym none) refl
@@ -153,7 +153,7 @@ module _ (old new : Ram) (log : List Operation) (safe : IsRam old) (safe' : IsRa
 
   free_here : free_by new after ≡ free_by old before
   free_here =
-      ap (λ (g : Geometry). logs.free_count g (is_bad_by new) [] after) sized ∙ (free_as old.geometry (is_bad_by new) (is_bad_by old) bad_same after ∙ ap (λ i. logs.free_count old.geometry (is_bad_by old) [] i) (still none))
+      ap (λ (g : Geometry). logs.free_count_after g (is_bad_by new) [] after) sized ∙ (free_as old.geometry (is_bad_by new) (is_bad_by old) bad_same after ∙ ap (λ i. logs.free_count_after old.geometry (is_bad_by old) [] i) (still none))
 
   free_same : free_in new ≡ free_in old
   free_same = free_now_law new after safe' w' ∙ (free_here ∙ sym (free_now_law old before safe w))
@@ -167,7 +167,7 @@ module _ (old new : Ram) (log : List Operation) (safe : IsRam old) (safe' : IsRa
       absurd (omega (arith, its.2, ap (λ (r : Ram). live_at r.blocks its.0) rests.0))
   twelve (inr idle) many = idle.made.enough (marks before) w.live (omega (arith, many, good_now_law old safe))
 
-  pub leaves_twelve : need_at old.geometry old.mapping.share + 3 ≤ logs.good_count old.geometry (is_bad_by old) [] → 12 + flush_blocks_at old.geometry old.mapping.share ≤ logs.free_count old.geometry (is_bad_by old) [] after
+  pub leaves_twelve : need_at old.geometry old.mapping.share + 3 ≤ logs.good_count_after old.geometry (is_bad_by old) [] → 12 + flush_blocks_at old.geometry old.mapping.share ≤ logs.free_count_after old.geometry (is_bad_by old) [] after
   leaves_twelve many =
       let here : 12 + flush_blocks_at old.geometry old.mapping.share ≤ free_by old before = subst (λ n. 12 + flush_blocks_at old.geometry old.mapping.share ≤ n) (free_now_law old before safe w) (twelve rests.1 many) in
-      subst (λ i. 12 + flush_blocks_at old.geometry old.mapping.share ≤ logs.free_count old.geometry (is_bad_by old) [] i) (sym (still none)) here
+      subst (λ i. 12 + flush_blocks_at old.geometry old.mapping.share ≤ logs.free_count_after old.geometry (is_bad_by old) [] i) (sym (still none)) here

@@ -10,11 +10,11 @@ use Rattle.promises.specs.Step.{Command}
 use Rattle.collection.specs.State.{Ram}
 use Rattle.collection.specs.Safe.{IsRam}
 use Rattle.collection.specs.Truth.{IsTrue}
-use Rattle.collection.specs.Log.{Follows}
+use Rattle.collection.specs.Log.{FollowsLog}
 use Rattle.ftl_device.specs.declared.fault.DeviceFault.{DeviceFault}
 use Rattle.ftl_device.specs.declared.fault.DeviceFault.TheVariants.{OutOfRange, ReadOnly, SequenceSpent, OutOfMemory, Damaged, BusFault}
 use Rattle.ftl_device.specs.Calls.{Says}
-use Rattle.ftl_device.specs.Counts.{is_bad_by, IsShortIn, IsShown, IsLeftReadOnly}
+use Rattle.ftl_device.specs.Counts.{is_bad_by, IsShortIn, IsShownByRefusal, IsLeftReadOnly}
 use Rattle.ftl_device.proofs.CountLemmas.{bad_now_law, good_of_log, short_in}
 
 -- a call was not answered `Damaged`
@@ -27,18 +27,18 @@ NoDamage (Err OutOfMemory) = Unit {0}
 NoDamage (Err Damaged) = ⊥
 NoDamage (Err BusFault) = Unit {0}
 
-module _ (old new : Ram) (call : List Operation) (safe : IsRam old) (safe' : IsRam new) (sized : new.geometry ≡ old.geometry) (shared : new.mapping.share ≡ old.mapping.share) (follows : Follows old.geometry.pages call old.blocks new.blocks)
+module _ (old new : Ram) (call : List Operation) (safe : IsRam old) (safe' : IsRam new) (sized : new.geometry ≡ old.geometry) (shared : new.mapping.share ≡ old.mapping.share) (follows : FollowsLog old.geometry.pages call old.blocks new.blocks)
     (bad : ℕ → Bool) (before : List Operation) (also : (b : ℕ) → b < old.geometry.blocks → is_bad_by new b ≡ bad_of old.geometry.pages bad (before ++ call) b) where
   pub short_on : (ro : Bool) → IsShort old.geometry old.mapping.share (is_bad_by old) [] call ro → IsShort old.geometry old.mapping.share bad before call ro
   short_on ro (inl few) =
-      let here : logs.good_count old.geometry (is_bad_by new) [] ≡ logs.good_count old.geometry (is_bad_by old) call = good_of_log old.geometry (is_bad_by old) call new [] sized (λ b lt. bad_now_law old new call b safe.blocks_of follows lt) in
-      let there : logs.good_count old.geometry (is_bad_by new) [] ≡ logs.good_count old.geometry bad (before ++ call) = good_of_log old.geometry bad (before ++ call) new [] sized also in
+      let here : logs.good_count_after old.geometry (is_bad_by new) [] ≡ logs.good_count_after old.geometry (is_bad_by old) call = good_of_log old.geometry (is_bad_by old) call new [] sized (λ b lt. bad_now_law old new call b safe.blocks_of follows lt) in
+      let there : logs.good_count_after old.geometry (is_bad_by new) [] ≡ logs.good_count_after old.geometry bad (before ++ call) = good_of_log old.geometry bad (before ++ call) new [] sized also in
       inl (omega (arith, here, there))
   short_on ro (inr more) = inr more
 
   -- so is each refusal of a call that changes sectors
   pub shown_on : (next : ℕ) (ro : Bool) (image : Image) (result : Result (Unit {0}) DeviceFault) → IsTrue None new image → new.next ≡ next + programs_in (before ++ call)
-      → IfErr result (Says old new) → IfErr result (IsShown old.geometry old.mapping.share (is_bad_by old) old.next [] call ro image) → NoDamage result → result ≢ Err BusFault → IfErr result (IsShown old.geometry old.mapping.share bad next before call ro image)
+      → IfErr result (Says old new) → IfErr result (IsShownByRefusal old.geometry old.mapping.share (is_bad_by old) old.next [] call ro image) → NoDamage result → result ≢ Err BusFault → IfErr result (IsShownByRefusal old.geometry old.mapping.share bad next before call ro image)
   shown_on next ro image (Ok done) w spent says shown sound ne = tt
   shown_on next ro image (Err OutOfRange) w spent says shown sound ne = tt
   shown_on next ro image (Err (ReadOnly good wanted failed)) w spent says shown sound ne = (

@@ -13,7 +13,7 @@ use Rattle.collection.specs.State.{Ram}
 use Rattle.collection.specs.Safe.{IsRam}
 use Rattle.collection.specs.Truth.{IsTrue}
 use Rattle.collection.specs.Collect.{IsAiling, HasNoneAiling}
-use Rattle.collection.specs.Log.{Follows}
+use Rattle.collection.specs.Log.{FollowsLog}
 use Rattle.ftl_device.specs.Calls.{HasRescued}
 use Rattle.ftl_device.specs.Counts.{is_bad_by}
 use Rattle.ftl_device.proofs.BlockLemmas.{count_same}
@@ -33,15 +33,15 @@ live_is : (r : Ram) (image : Image) → IsRam r → IsTrue None r image → (b :
 live_is r image safe w b lt =
     subst (λ (g : Geometry). live_at r.blocks b ≡ live g (marks image) b) safe.blocks_of (w.live b (subst (λ (g : Geometry). b < g.blocks) (sym safe.blocks_of) lt))
 
-module _ (old new : Ram) (log : List Operation) (safe : IsRam old) (safe' : IsRam new) (sized : new.geometry ≡ old.geometry) (follows : Follows old.geometry.pages log old.blocks new.blocks) (h : HasRescued old new) where
+module _ (old new : Ram) (log : List Operation) (safe : IsRam old) (safe' : IsRam new) (sized : new.geometry ≡ old.geometry) (follows : FollowsLog old.geometry.pages log old.blocks new.blocks) (h : HasRescued old new) where
   pub bad_still : FailsNowhere old.geometry log → (b : ℕ) → b < old.geometry.blocks → is_bad_by new b ≡ is_bad_by old b
   bad_still nowhere b lt = bad_now_law old new log b safe.blocks_of follows lt ∙ or_false (is_bad_by old b) (failed_in old.geometry.pages log b) (nowhere b lt)
 
   pub good_still : FailsNowhere old.geometry log → good_count new.blocks.table ≡ good_count old.blocks.table
   good_still nowhere =
-      let here : logs.good_count old.geometry (is_bad_by new) [] ≡ logs.good_count old.geometry (is_bad_by old) [] =
+      let here : logs.good_count_after old.geometry (is_bad_by new) [] ≡ logs.good_count_after old.geometry (is_bad_by old) [] =
       count_same (logs.good_of old.geometry.pages (is_bad_by new) []) (logs.good_of old.geometry.pages (is_bad_by old) []) 0 old.geometry.blocks (λ b low high. ap (λ x. not (x || false)) (bad_still nowhere b (omega arith))) in
-      good_now_law new safe' ∙ (ap (λ (g : Geometry). logs.good_count g (is_bad_by new) []) sized ∙ (here ∙ sym (good_now_law old safe)))
+      good_now_law new safe' ∙ (ap (λ (g : Geometry). logs.good_count_after g (is_bad_by new) []) sized ∙ (here ∙ sym (good_now_law old safe)))
 
   -- no bad block has a newest page after it, where none had one and no block failed
   pub none_on : FailsNowhere old.geometry log → HasNoneAiling old.blocks → HasNoneAiling new.blocks

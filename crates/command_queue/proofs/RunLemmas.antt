@@ -33,17 +33,17 @@ use Rattle.promises.proofs.RunLemmas.{one_more_event, last, logs}
 use Rattle.collection.specs.State.{Ram}
 use Rattle.collection.specs.Safe.{IsRam, ram, image_in}
 use Rattle.collection.specs.Stops.{room_of}
-use Rattle.collection.specs.Log.{IsAccounted, Follows, Wears, Went}
+use Rattle.collection.specs.Log.{IsAccounted, FollowsLog, Wears, Went}
 use Rattle.ftl_device.specs.declared.device.Device.{Device}
 use Rattle.ftl_device.specs.declared.fault.DeviceFault.{DeviceFault}
 use Rattle.ftl_device.specs.declared.fault.DeviceFault.TheVariants.{OutOfRange, ReadOnly, SequenceSpent, OutOfMemory, Damaged, BusFault}
 use Rattle.ftl_device.specs.Calls.{IsWell, Says, HasRescued, state_in, reply_of, read_reply_of}
-use Rattle.ftl_device.specs.Counts.{is_bad_by, is_flush, IsShown, IsLeftReadOnly}
+use Rattle.ftl_device.specs.Counts.{is_bad_by, is_flush, IsShownByRefusal, IsLeftReadOnly}
 use Rattle.ftl_device.specs.Read.{LeavesRead, IsReadRefusal}
 use Rattle.command_queue.specs.Commands.{needs_no_memory, is_read, is_turn}
 use Rattle.ftl_device.specs.Changes.{MayPin}
 use Rattle.ftl_device.proofs.ChangeLemmas.{unpinned_some}
-use Rattle.command_queue.specs.Exchanges.{answer_to, reply_in, Exchange}
+use Rattle.command_queue.specs.Exchanges.{reply_to_command, reply_in, Exchange}
 use Rattle.command_queue.specs.Tells.{die_in, Happened, Tells}
 use Rattle.command_queue.specs.Run.{IsFair, AreFair, HasRun, IsEventOf, HappensEach, Ran}
 use Rattle.ftl_device.specs.Turn.{HasTurned}
@@ -106,8 +106,8 @@ went_none old new s t told told' same kept still = record {
 }
 
 read_shown : (g : Geometry) (share : ℕ) (bad : ℕ → Bool) (next : ℕ) (before call : List Operation) (ro : Bool) (image : Image) (n : ℕ) (bytes : List ℕ)
-    (s t : step.State) (result : Result (Unit {0}) DeviceFault) → IfErr result IsReadRefusal → ReadStep g s n (read_reply_of bytes result) t
-    → result ≢ Err BusFault → IfErr result (IsShown g share bad next before call ro image)
+    (s t : step.ArrayState) (result : Result (Unit {0}) DeviceFault) → IfErr result IsReadRefusal → ReadStep g s n (read_reply_of bytes result) t
+    → result ≢ Err BusFault → IfErr result (IsShownByRefusal g share bad next before call ro image)
 read_shown g share bad next before call ro image n bytes s t (Ok done) of_read is ne = tt
 read_shown g share bad next before call ro image n bytes s t (Err OutOfRange) of_read is ne = tt
 read_shown g share bad next before call ro image n bytes s t (Err (ReadOnly good wanted failed)) of_read is ne = absurd of_read
@@ -142,7 +142,7 @@ unpinned_stale {A} share pinned stale is = by (share == 0) refl is
     by true e h = (let here = unpinned_here pinned stale h in (eqb-true share 0 e, here.0, here.1))
 
 -- a step isn't answered `Damaged`
-pub write_sound : (g : Geometry) (s t : step.State) (n : ℕ) (bytes : List ℕ) (result : Result (Unit {0}) DeviceFault) → WriteStep g s n bytes (reply_of result) t → NoDamage result
+pub write_sound : (g : Geometry) (s t : step.ArrayState) (n : ℕ) (bytes : List ℕ) (result : Result (Unit {0}) DeviceFault) → WriteStep g s n bytes (reply_of result) t → NoDamage result
 write_sound g s t n bytes (Ok done) is = tt
 write_sound g s t n bytes (Err OutOfRange) is = tt
 write_sound g s t n bytes (Err (ReadOnly good wanted failed)) is = tt
@@ -151,7 +151,7 @@ write_sound g s t n bytes (Err OutOfMemory) is = tt
 write_sound g s t n bytes (Err Damaged) is = is
 write_sound g s t n bytes (Err BusFault) is = tt
 
-pub quiet_sound : (s t : step.State) (result : Result (Unit {0}) DeviceFault) → QuietStep s (reply_of result) t → NoDamage result
+pub quiet_sound : (s t : step.ArrayState) (result : Result (Unit {0}) DeviceFault) → QuietStep s (reply_of result) t → NoDamage result
 quiet_sound s t (Ok done) is = tt
 quiet_sound s t (Err OutOfRange) is = tt
 quiet_sound s t (Err (ReadOnly good wanted failed)) is = tt
@@ -190,7 +190,7 @@ module _ {N : Type 0} (view : View N) (old new : Device N) (result : Result (Uni
       (was : IsWell view.flash old) (well : IsWell view.flash new)
       (w : Went (ram old.engine) (view.flash old.engine.nand) (view.recorded old.engine.nand) (ram new.engine) (view.flash new.engine.nand)
       (view.recorded new.engine.nand)) (says : IfErr result (Says (ram old.engine) (ram new.engine)))
-      (shown : IfErr result (IsShown old.engine.geometry old.engine.mapping.share (is_bad_by (ram old.engine)) old.engine.next [] w.log old.read_only (image_in view.flash new.engine))) where
+      (shown : IfErr result (IsShownByRefusal old.engine.geometry old.engine.mapping.share (is_bad_by (ram old.engine)) old.engine.next [] w.log old.read_only (image_in view.flash new.engine))) where
     -- with no operation the image is as it was
     unwritten : w.log ≡ [] → image_in view.flash new.engine ≡ image_in view.flash old.engine
     unwritten none = (let same : view.flash new.engine.nand ≡ view.flash old.engine.nand = subst (λ l. Leads (view.flash old.engine.nand) l (view.flash new.engine.nand)) none w.leads in ap (λ (f : Flash). f.image) same)
@@ -209,7 +209,7 @@ module _ {N : Type 0} (view : View N) (old new : Device N) (result : Result (Uni
         → (new.read_only ≡ true → IsLeftReadOnly command old.engine.geometry old.engine.mapping.share (is_bad_by (ram old.engine)) [] w.log old.read_only result)
         → NoDamage result
         → (needs_no_memory old.engine.mapping.share (is_some old.engine.pinned) old.engine.geometry (image_in view.flash old.engine) command ≡ true → result ≢ Err OutOfMemory)
-        → ArrayStep old.engine.geometry (state_in view.flash old) command (answer_to command bytes result) (state_in view.flash new)
+        → ArrayStep old.engine.geometry (state_in view.flash old) command (reply_to_command command bytes result) (state_in view.flash new)
         → SurvivesStops old.engine.geometry (room_of (ram old.engine)) command result (image_in view.flash old.engine) (image_in view.flash new.engine)
         (view.recorded new.engine.nand) w.log → AddsNoOld old.engine.geometry (image_in view.flash old.engine) (image_in view.flash new.engine)
         → Happened view old (record { command = command; result = result; bytes = bytes }) new
@@ -229,7 +229,7 @@ module _ {N : Type 0} (view : View N) (old new : Device N) (result : Result (Uni
 
 -- ---- one more event
 
-pub follows_then : (pages : ℕ) (xs ys : List Operation) (a b c : State) → Follows pages xs a b → Follows pages ys b c → Follows pages (xs ++ ys) a c
+pub follows_then : (pages : ℕ) (xs ys : List Operation) (a b c : State) → FollowsLog pages xs a b → FollowsLog pages ys b c → FollowsLog pages (xs ++ ys) a c
 follows_then pages xs ys a b c before after = record {
   legal = λ accounts s. legal_append pages accounts xs ys (before.legal accounts s) (after.legal (accounted_all pages accounts xs) (before.accounted accounts s));
   accounted = λ accounts s. rw (accounts_join pages accounts xs ys) (after.accounted (accounted_all pages accounts xs) (before.accounted accounts s));
@@ -283,9 +283,9 @@ module _ {N : Type 0} (view : View N) (old mid new : Device N) (done : List Exch
   event : Event
   event = record { command = x.command; reply = reply_in x; piece = h.went.log; left = die_in view.flash new; told = view.recorded new.engine.nand }
 
-  follows : Follows old.engine.geometry.pages (log_of ran.run.events ++ h.went.log) (ram old.engine).blocks (ram new.engine).blocks
+  follows : FollowsLog old.engine.geometry.pages (log_of ran.run.events ++ h.went.log) (ram old.engine).blocks (ram new.engine).blocks
   follows = follows_then old.engine.geometry.pages (log_of ran.run.events) h.went.log (ram old.engine).blocks (ram mid.engine).blocks (ram new.engine).blocks ran.follows
-      (subst (λ (g : Geometry). Follows g.pages h.went.log (ram mid.engine).blocks (ram new.engine).blocks) sized h.went.follows)
+      (subst (λ (g : Geometry). FollowsLog g.pages h.went.log (ram mid.engine).blocks (ram new.engine).blocks) sized h.went.follows)
 
   next : new.engine.next ≡ old.engine.next + programs_in (log_of ran.run.events ++ h.went.log)
   next = omega (arith, ran.next, h.went.next, (counts old.engine.geometry.pages 0 (log_of ran.run.events) h.went.log).programs)
@@ -299,14 +299,14 @@ module _ {N : Type 0} (view : View N) (old mid new : Device N) (done : List Exch
   }
 
   state_is : (d : Device N) → (view.flash d.engine.nand).geometry ≡ d.engine.geometry → state_of (die_in view.flash d) ≡ state_in view.flash d
-  state_is d e = ap (λ (g : Geometry). let s : step.State = record { array = array_of g (image_in view.flash d.engine); ro = d.read_only } in s) e
+  state_is d e = ap (λ (g : Geometry). let s : step.ArrayState = record { array = array_of g (image_in view.flash d.engine); ro = d.read_only } in s) e
 
   happens : Happens (die_in view.flash mid) event
   unfolding event
   happens = record {
     leads = h.went.leads;
     step =
-        let P : Geometry → step.State → step.State → Type 0 = λ g s t. ArrayStep g s x.command (reply_in x) t in
+        let P : Geometry → step.ArrayState → step.ArrayState → Type 0 = λ g s t. ArrayStep g s x.command (reply_in x) t in
         subst (λ g. P g (state_of (die_in view.flash mid)) (state_of (die_in view.flash new))) (sym die)
         (subst (λ s. P mid.engine.geometry s (state_of (die_in view.flash new))) (sym (state_is mid die))
         (subst (P mid.engine.geometry (state_in view.flash mid)) (sym (state_is new (die'))) h.step));
@@ -328,8 +328,8 @@ module _ {N : Type 0} (view : View N) (old mid new : Device N) (done : List Exch
   fair = record {
     shown = λ fault e.
         let here = h.shown (is_bad_by (ram old.engine)) old.engine.next (log_of ran.run.events) (bads_then mid.engine.geometry sized) next in
-        let there = by_size (λ g n. IfErr x.result (IsShown g n (is_bad_by (ram old.engine)) old.engine.next (log_of ran.run.events) h.went.log mid.read_only (image_in view.flash new.engine))) here in
-        subst (λ r. IfErr r (IsShown old.engine.geometry old.engine.mapping.share (is_bad_by (ram old.engine)) old.engine.next (log_of ran.run.events) h.went.log mid.read_only (image_in view.flash new.engine))) e there;
+        let there = by_size (λ g n. IfErr x.result (IsShownByRefusal g n (is_bad_by (ram old.engine)) old.engine.next (log_of ran.run.events) h.went.log mid.read_only (image_in view.flash new.engine))) here in
+        subst (λ r. IfErr r (IsShownByRefusal old.engine.geometry old.engine.mapping.share (is_bad_by (ram old.engine)) old.engine.next (log_of ran.run.events) h.went.log mid.read_only (image_in view.flash new.engine))) e there;
     left = λ on. by_size (λ g n. IsLeftReadOnly x.command g n (is_bad_by (ram old.engine)) (log_of ran.run.events) h.went.log mid.read_only x.result) (h.left (is_bad_by (ram old.engine)) (log_of ran.run.events) (bads_then mid.engine.geometry sized) on);
     flushed = λ is done.
         let its = h.flushed is done in
@@ -381,7 +381,7 @@ module _ {N : Type 0} (view : View N) (old mid new : Device N) (done : List Exch
   ran_more = record {
     run = run_more;
     each = each;
-    follows = subst (λ l. Follows old.engine.geometry.pages l (ram old.engine).blocks (ram new.engine).blocks) log_is follows;
+    follows = subst (λ l. FollowsLog old.engine.geometry.pages l (ram old.engine).blocks (ram new.engine).blocks) log_is follows;
     next = next ∙ ap (λ l. old.engine.next + programs_in l) log_is;
     wears = subst (λ l. Wears l (ram old.engine).blocks (ram new.engine).blocks) log_is wears;
   }

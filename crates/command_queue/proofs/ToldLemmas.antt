@@ -19,7 +19,7 @@ use Rattle.ftl_device.specs.Calls.{stop_of, IsWell}
 use Rattle.command_queue.specs.Exchanges.{Exchange, IsKnown, AreKnown, StopsDevice, AreRefused, StaysStopped}
 use Rattle.command_queue.specs.Run.{Ran}
 use Rattle.command_queue.specs.Tells.{Tells, ToldEach}
-use Rattle.command_queue.specs.Told.{AreTold, WasTold, AreHalted, EndsBy, Until, RunsTo}
+use Rattle.command_queue.specs.Told.{AreTold, WasTold, AreHalted, EndsByOneCall, Until, RunsTo}
 use Rattle.command_queue.proofs.RunLemmas.{ran_none, ran_more}
 
 -- ---- lists
@@ -81,7 +81,7 @@ known_at [] rest x known = known.0
 known_at (y ∷ before) rest x known = known_at before rest x known.1
 
 module _ {S : Type 0} (Runs : List Exchange → S → Type 0) (Fails : S → Exchange → S → Type 0) (xs : List Exchange) (new : S) where
-  all_before : (before rest : List Exchange) (mid : S) → xs ≡ before ++ rest → AreRefused BusFault rest → Runs before mid → EndsBy Fails mid rest new → AreKnown xs → Runs xs new
+  all_before : (before rest : List Exchange) (mid : S) → xs ≡ before ++ rest → AreRefused BusFault rest → Runs before mid → EndsByOneCall Fails mid rest new → AreKnown xs → Runs xs new
   all_before before [] mid joined refused runs ends known = subst (λ ys. Runs ys new) (sym (joined ∙ append-nil before)) (subst (Runs before) (sym ends) runs)
   all_before before (x ∷ rest) mid joined refused runs ends known = absurd (known_at before rest x (subst AreKnown joined known) refused.0)
 
@@ -93,7 +93,7 @@ module _ {S : Type 0} (Runs : List Exchange → S → Type 0) (Fails : S → Exc
 module _ {S T : Type 0} (of : S → T) (Runs : List Exchange → S → Type 0) (Runs' : List Exchange → T → Type 0) (Fails : S → Exchange → S → Type 0) (Fails' : T → Exchange → T → Type 0) (xs : List Exchange) (new : S)
     (runs_so : (before : List Exchange) (mid : S) → Runs before mid → Runs' before (of mid))
     (fails_so : (before : List Exchange) (mid : S) (x : Exchange) → AreKnown before → Runs before mid → x.result ≡ Err BusFault → Fails mid x new → Fails' (of mid) x (of new)) where
-  ends_so : (before rest : List Exchange) (mid : S) → AreKnown before → Runs before mid → AreRefused BusFault rest → EndsBy Fails mid rest new → EndsBy Fails' (of mid) rest (of new)
+  ends_so : (before rest : List Exchange) (mid : S) → AreKnown before → Runs before mid → AreRefused BusFault rest → EndsByOneCall Fails mid rest new → EndsByOneCall Fails' (of mid) rest (of new)
   ends_so before [] mid known runs refused ends = ap of ends
   ends_so before (x ∷ rest) mid known runs refused fails = fails_so before mid x known runs refused.0 fails
 
@@ -218,7 +218,7 @@ module _ {N : Type 0} (view : View N) (old now new : Device N) (xs : List Exchan
   again mid y bus its = tells.stopped BusFault (subst (λ r. IfErr r (λ fault. StopsDevice y.command fault → stop_of now.engine.fault ≡ Some fault)) bus its.stops (bus_stops y.command))
 
   until_on : (before rest : List Exchange) (mid : Device N) → xs ≡ before ++ rest → AreKnown before → AreRefused BusFault rest
-      → RunsTo view old before mid → EndsBy (Tells view) mid rest now
+      → RunsTo view old before mid → EndsByOneCall (Tells view) mid rest now
       → (x.result ≡ Err BusFault) ⊎ (x.result ≢ Err BusFault)
       → Until (RunsTo view old) (Tells view) (xs ++ x ∷ []) new
   until_on before [] mid joined known refused runs ends (inl bus) = record {

@@ -10,7 +10,7 @@ use Rattle.promises.specs.Step as step
 use Rattle.promises.specs.Step.{Reply, ArrayStep, ArrayRun}
 use Rattle.promises.specs.Log.{programs_in}
 use Rattle.collection.specs.Safe.{ram, image_in}
-use Rattle.collection.specs.Log.{Follows, Wears, Went}
+use Rattle.collection.specs.Log.{FollowsLog, Wears, Went}
 use Rattle.collection.specs.Stops.{room_of}
 use Rattle.ftl_device.specs.declared.device.Device.{Device}
 use Rattle.ftl_device.specs.declared.fault.DeviceFault.{DeviceFault}
@@ -107,7 +107,7 @@ pub record DoesAll {N : Type 0} (view : View N) (old : Device N) (calls : List A
   pub array : ArrayRun old.engine.geometry (state_in view.flash old) (map command_asked calls) (map reply_asked calls) (state_in view.flash new)
   pub leads : Leads (view.flash old.engine.nand) log (view.flash new.engine.nand)
   pub records : Records (view.recorded old.engine.nand) log (view.recorded new.engine.nand)
-  pub follows : Follows old.engine.geometry.pages log (ram old.engine).blocks (ram new.engine).blocks
+  pub follows : FollowsLog old.engine.geometry.pages log (ram old.engine).blocks (ram new.engine).blocks
   pub next : new.engine.next ≡ old.engine.next + programs_in log
   pub wears : Wears log (ram old.engine).blocks (ram new.engine).blocks
   pub versions : AddsNoOld old.engine.geometry (image_in view.flash old.engine) (image_in view.flash new.engine)

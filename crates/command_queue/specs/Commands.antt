@@ -13,12 +13,12 @@ use Rattle.command_queue.specs.declared.command.Command.TheVariants.{Read, Write
 use Rattle.command_queue.specs.declared.command.Call.{Call}
 
 -- a command as the promises speak of it
-abbrev pub command_of : Command → step.Command
-command_of (Read sector) = step.Read sector
-command_of (Write sector body) = step.Write sector body.now
-command_of (Trim sector) = step.Trim sector
-command_of Flush = step.Flush
-command_of Turn = step.Turn
+abbrev pub promised_command : Command → step.Command
+promised_command (Read sector) = step.Read sector
+promised_command (Write sector body) = step.Write sector body.now
+promised_command (Trim sector) = step.Trim sector
+promised_command Flush = step.Flush
+promised_command Turn = step.Turn
 
 -- the command asks for no memory, where a block is pinned or not: it changes no sector, or one that is stale in the image, which with share 0 is cached
 -- where no block is pinned
@@ -48,7 +48,7 @@ is_turn step.Turn = true
 
 -- a call of a list, once it was answered
 abbrev pub told_command : Call → step.Command
-told_command call = command_of call.command
+told_command call = promised_command call.command
 
 -- the room that a call begins with, for the bytes of a read
 abbrev pub room_for : Geometry → Command → List ℕ
@@ -59,18 +59,18 @@ room_for g Flush = []
 room_for g Turn = []
 
 -- a read has room for one data area, and a write has the bytes of one
-abbrev pub HasRoom : Geometry → Command → List ℕ → Type 0
-HasRoom g (Read sector) bytes = length bytes ≡ g.data_bytes
-HasRoom g (Write sector body) bytes = length body.now ≡ g.data_bytes
-HasRoom g (Trim sector) bytes = Unit {0}
-HasRoom g Flush bytes = Unit {0}
-HasRoom g Turn bytes = Unit {0}
+abbrev pub HasDataArea : Geometry → Command → List ℕ → Type 0
+HasDataArea g (Read sector) bytes = length bytes ≡ g.data_bytes
+HasDataArea g (Write sector body) bytes = length body.now ≡ g.data_bytes
+HasDataArea g (Trim sector) bytes = Unit {0}
+HasDataArea g Flush bytes = Unit {0}
+HasDataArea g Turn bytes = Unit {0}
 
-abbrev pub IsWhole : Geometry → Call → Type 0
-IsWhole g call = HasRoom g call.command call.bytes.items
+abbrev pub IsCallWhole : Geometry → Call → Type 0
+IsCallWhole g call = HasDataArea g call.command call.bytes.items
 
 abbrev pub AreWhole : Geometry → List Call → Type 0
-AreWhole g calls = AllByRecursion (IsWhole g) calls
+AreWhole g calls = AllByRecursion (IsCallWhole g) calls
 
 -- each call was answered
 abbrev pub AreAnswered : List Call → Type 0

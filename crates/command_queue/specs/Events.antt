@@ -10,7 +10,7 @@ use Rattle.page_layout.specs.Version.{old_pages}
 use Rattle.page_layout.specs.Flash.{Operation}
 use Rattle.page_layout.specs.Recording.{Recording, Records}
 use Rattle.promises.specs.Step as step
-use Rattle.promises.specs.Log.{programs_in, good_count, free_count, failed_count, IsShort}
+use Rattle.promises.specs.Log.{programs_in, good_count_after, free_count_after, failed_count, IsShort}
 use Rattle.promises.specs.Stop.{MayLeave}
 use Rattle.promises.specs.Run as runs
 use Rattle.promises.specs.Run.{Event, log_of}
@@ -76,8 +76,8 @@ QuietMemoryLaw = (first : First) (old : runs.DeviceView) (before : List Operatio
 -- asks for, and how many failed in the call
 abbrev pub ReadOnlyEventLaw : Type 0
 ReadOnlyEventLaw = (first : First) (old : runs.DeviceView) (before : List Operation) (event : Event) (x : Exchange) (good wanted failed : ℕ) → IsFair first old before event x
-    → x.result ≡ Err (ReadOnly good wanted failed) → (free_count first.geometry first.bad (before ++ event.piece) event.left.flash.image < 5)
-    × (good ≡ good_count first.geometry first.bad (before ++ event.piece)) × (wanted ≡ need_at first.geometry first.share) × (failed ≡ failed_count first.geometry event.piece)
+    → x.result ≡ Err (ReadOnly good wanted failed) → (free_count_after first.geometry first.bad (before ++ event.piece) event.left.flash.image < 5)
+    × (good ≡ good_count_after first.geometry first.bad (before ++ event.piece)) × (wanted ≡ need_at first.geometry first.share) × (failed ≡ failed_count first.geometry event.piece)
     × IsShort first.geometry first.share first.bad before event.piece old.ro
 
 -- `SequenceSpent` comes with the last sequence given out, and `Damaged` never

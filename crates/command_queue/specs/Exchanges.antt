@@ -11,12 +11,12 @@ use Rattle.ftl_device.specs.Calls.{reply_of, read_reply_of}
 use Rattle.command_queue.specs.Commands.{told_command}
 
 -- what was answered to it: a read that is done gives these bytes
-abbrev pub answer_to : step.Command → List ℕ → Result (Unit {0}) DeviceFault → Reply
-answer_to (step.Read sector) bytes result = read_reply_of bytes result
-answer_to (step.Write sector body) bytes result = reply_of result
-answer_to (step.Trim sector) bytes result = reply_of result
-answer_to step.Flush bytes result = reply_of result
-answer_to step.Turn bytes result = reply_of result
+abbrev pub reply_to_command : step.Command → List ℕ → Result (Unit {0}) DeviceFault → Reply
+reply_to_command (step.Read sector) bytes result = read_reply_of bytes result
+reply_to_command (step.Write sector body) bytes result = reply_of result
+reply_to_command (step.Trim sector) bytes result = reply_of result
+reply_to_command step.Flush bytes result = reply_of result
+reply_to_command step.Turn bytes result = reply_of result
 
 -- AN EXCHANGE: what a device was told, what it answered, and the bytes that a read gave
 pub record Exchange : Type 0 where
@@ -25,7 +25,7 @@ pub record Exchange : Type 0 where
   pub bytes : List ℕ
 
 abbrev pub reply_in : Exchange → Reply
-reply_in x = answer_to x.command x.bytes x.result
+reply_in x = reply_to_command x.command x.bytes x.result
 
 abbrev pub commands_in : List Exchange → List step.Command
 commands_in xs = map (λ (x : Exchange). x.command) xs

@@ -6,7 +6,7 @@ use Rattle.page_layout.specs.Geometry.{need_at, flush_blocks_at}
 use Rattle.page_layout.specs.Array.{marks}
 use Rattle.page_layout.specs.Live.{live}
 use Rattle.page_layout.specs.Flash.{Operation}
-use Rattle.promises.specs.Log.{failed_in, good_count, free_count}
+use Rattle.promises.specs.Log.{failed_in, good_count_after, free_count_after}
 
 -- how many newest pages the image has in a block
 abbrev pub newest_in : Geometry → Image → ℕ → ℕ
@@ -33,4 +33,4 @@ pub record Rescues (g : Geometry) (bad : ℕ → Bool) (piece : List Operation) 
 -- A TURN THAT IS DONE AND QUIET, that programs and erases nothing, leaves twelve free blocks, and those of a flush, where three more are good than the
 -- geometry asks for
 abbrev pub LeavesTwelve : Geometry → (share : ℕ) → (ℕ → Bool) → List Operation → Image → Type 0
-LeavesTwelve g share bad piece new = piece ≡ [] → need_at g share + 3 ≤ good_count g bad [] → 12 + flush_blocks_at g share ≤ free_count g bad [] new
+LeavesTwelve g share bad piece new = piece ≡ [] → need_at g share + 3 ≤ good_count_after g bad [] → 12 + flush_blocks_at g share ≤ free_count_after g bad [] new

@@ -13,13 +13,13 @@ use Rattle.promises.specs.Legal.{IsLegal, accounts_of}
 use Rattle.promises.specs.Run as runs
 use Rattle.promises.specs.Run.{Event, Run, commands_of, replies_of, log_of}
 use Rattle.collection.specs.Safe.{ram}
-use Rattle.collection.specs.Log.{IsAccounted, Follows, Wears}
+use Rattle.collection.specs.Log.{IsAccounted, FollowsLog, Wears}
 use Rattle.ftl_device.specs.declared.device.Device.{Device}
 use Rattle.ftl_device.specs.declared.fault.DeviceFault.{DeviceFault}
 use Rattle.ftl_device.specs.declared.fault.DeviceFault.TheVariants.{OutOfMemory}
-use Rattle.ftl_device.specs.Begin.{begun_ram, is_bad_in, wear_in, free_in, is_scarce}
+use Rattle.ftl_device.specs.Begin.{begun_ram, is_bad_in, certified_wear, free_in, is_scarce}
 use Rattle.ftl_device.specs.Flush.{First, first_of, room_in, IsFlushedOut}
-use Rattle.ftl_device.specs.Counts.{is_flush, IsShown, IsLeftReadOnly}
+use Rattle.ftl_device.specs.Counts.{is_flush, IsShownByRefusal, IsLeftReadOnly}
 use Rattle.ftl_device.specs.Changes.{MayPin}
 use Rattle.ftl_device.specs.Stopped.{SurvivesStops}
 use Rattle.command_queue.specs.Commands.{needs_no_memory, is_read, is_turn}
@@ -35,7 +35,7 @@ use Rattle.command_queue.specs.Tells.{die_in, Happened, Tells}
 -- where the die tells a record as the event ends, a stop at any moment in it leaves an image that mounts, with the array before it or, of a
 -- write or trim that is done, the one after it: so whatever was answered stays. Where the die has version 2 no newest page of version 1 is added.
 pub record IsFair (first : First) (old : runs.DeviceView) (before : List Operation) (event : Event) (x : Exchange) : Type 0 where
-  pub shown : (fault : DeviceFault) → x.result ≡ Err fault → IsShown first.geometry first.share first.bad first.next before event.piece old.ro event.left.flash.image fault
+  pub shown : (fault : DeviceFault) → x.result ≡ Err fault → IsShownByRefusal first.geometry first.share first.bad first.next before event.piece old.ro event.left.flash.image fault
   pub left : event.left.ro ≡ true → IsLeftReadOnly x.command first.geometry first.share first.bad before event.piece old.ro x.result
   pub stale : needs_no_memory first.share old.pinned first.geometry old.flash.image x.command ≡ true → x.result ≢ Err OutOfMemory
   pub flushed : is_flush x.command ≡ true → x.result ≡ Ok tt → IsFlushedOut first (before ++ event.piece) event.left.flash.image
@@ -84,14 +84,14 @@ HappensEach {N} view old (event ∷ events) (x ∷ xs) new = (mid : Device N) ×
 pub record Ran {N : Type 0} (view : View N) (old : Device N) (xs : List Exchange) (new : Device N) : Type 0 where
   pub run : HasRun (first_of (ram old.engine)) (die_in view.flash old) (die_in view.flash new) xs
   pub each : HappensEach view old run.events xs new
-  pub follows : Follows old.engine.geometry.pages (log_of run.events) (ram old.engine).blocks (ram new.engine).blocks
+  pub follows : FollowsLog old.engine.geometry.pages (log_of run.events) (ram old.engine).blocks (ram new.engine).blocks
   pub next : new.engine.next ≡ old.engine.next + programs_in (log_of run.events)
   pub wears : Wears (log_of run.events) (ram old.engine).blocks (ram new.engine).blocks
 
 -- a run from an accepted certificate: it begins with the image that was accepted, read-only just where fewer than five blocks are free in
 -- it; the log is legal for that image and the certificate's bad blocks
 abbrev pub accepted_first : Geometry → (share : ℕ) → Claim → First
-accepted_first g share c = record { geometry = g; capacity = c.capacity; share = share; bad = is_bad_in c; wear = wear_in c; next = c.next }
+accepted_first g share c = record { geometry = g; capacity = c.capacity; share = share; bad = is_bad_in c; wear = certified_wear c; next = c.next }
 
 abbrev pub accepted_device : Flash → Claim → runs.DeviceView
 accepted_device s c = record { flash = s; ro = is_scarce (free_in s.geometry c s.image); pinned = false }
@@ -107,6 +107,6 @@ pub record RanFrom {N : Type 0} (view : View N) (s : Flash) (share : ℕ)
   pub each : HappensEach view first run.events xs new
   pub legal : IsLegal s.geometry s.image (is_bad_in c) (log_of run.events)
   pub accounted : IsAccounted (accounts_of s.geometry s.image (is_bad_in c)) (ram first.engine).blocks
-  pub follows : Follows s.geometry.pages (log_of run.events) (ram first.engine).blocks (ram new.engine).blocks
+  pub follows : FollowsLog s.geometry.pages (log_of run.events) (ram first.engine).blocks (ram new.engine).blocks
   pub next : new.engine.next ≡ c.next + programs_in (log_of run.events)
   pub wears : Wears (log_of run.events) (ram first.engine).blocks (ram new.engine).blocks

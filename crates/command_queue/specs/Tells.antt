@@ -26,7 +26,7 @@ use Rattle.ftl_device.specs.Calls.{state_in, stop_of, IsWell, HasRescued, HasWor
 use Rattle.ftl_device.specs.Changes.{RefusesUpkeep, ProgramsSector, LeavesUnpinned}
 use Rattle.ftl_device.specs.Flush.{first_of, IsFlushedOut}
 use Rattle.ftl_device.specs.FlushSteps.{HasFlushed}
-use Rattle.ftl_device.specs.Counts.{is_bad_by, is_flush, IsShown, IsLeftReadOnly}
+use Rattle.ftl_device.specs.Counts.{is_bad_by, is_flush, IsShownByRefusal, IsLeftReadOnly}
 use Rattle.ftl_device.specs.Stopped.{SurvivesStops}
 use Rattle.ftl_device.specs.Turn.{HasTurned}
 use Rattle.ftl_device.specs.Brings.{RescuesLowest}
@@ -50,7 +50,7 @@ pub record Happened {N : Type 0} (view : View N) (old : Device N) (x : Exchange)
   pub shown : (bad : ℕ → Bool) (next : ℕ) (before : List Operation)
       → ((b : ℕ) → b < old.engine.geometry.blocks → is_bad_by (ram new.engine) b ≡ bad_of old.engine.geometry.pages bad (before ++ went.log) b)
       → new.engine.next ≡ next + programs_in (before ++ went.log)
-      → IfErr x.result (IsShown old.engine.geometry old.engine.mapping.share bad next before went.log old.read_only (image_in view.flash new.engine))
+      → IfErr x.result (IsShownByRefusal old.engine.geometry old.engine.mapping.share bad next before went.log old.read_only (image_in view.flash new.engine))
   pub left : (bad : ℕ → Bool) (before : List Operation)
       → ((b : ℕ) → b < old.engine.geometry.blocks → is_bad_by (ram new.engine) b ≡ bad_of old.engine.geometry.pages bad (before ++ went.log) b)
       → new.read_only ≡ true

@@ -42,9 +42,9 @@ pub record AreTold {N : Type 0} (view : View N) (old : Device N) (xs : List Exch
 -- ---- up to the first fault of the bus
 
 -- one call leads to the end, and those after it change nothing; with no call at all the end is here
-abbrev pub EndsBy : {S : Type 0} → (S → Exchange → S → Type 0) → S → List Exchange → S → Type 0
-EndsBy Fails mid [] new = new ≡ mid
-EndsBy Fails mid (x ∷ xs) new = Fails mid x new
+abbrev pub EndsByOneCall : {S : Type 0} → (S → Exchange → S → Type 0) → S → List Exchange → S → Type 0
+EndsByOneCall Fails mid [] new = new ≡ mid
+EndsByOneCall Fails mid (x ∷ xs) new = Fails mid x new
 
 -- UP TO THE FIRST FAULT OF THE BUS. The calls before it lead to `mid`, and were all answered. The call in which the bus failed and all after it
 -- were answered `BusFault`; that call leads from `mid` to the end, and those after it change nothing. With no such fault all calls come before
@@ -57,7 +57,7 @@ pub record Until {S : Type 0} (Runs : List Exchange → S → Type 0) (Fails : S
   pub refused : AreRefused BusFault rest
   pub mid : S
   pub runs : Runs before mid
-  pub fails : EndsBy Fails mid rest new
+  pub fails : EndsByOneCall Fails mid rest new
 
 -- calls that were all answered: of an honest die they are a run
 abbrev pub RunsTo : {N : Type 0} → (view : View N) → Device N → List Exchange → Device N → Type 0

@@ -6,7 +6,7 @@ use Rattle.page_layout.specs.declared.geometry.Geometry.{Geometry}
 use Rattle.page_layout.specs.Counter.{HasRisen}
 use Rattle.page_layout.specs.Flash.{Operation}
 use Rattle.page_layout.specs.Geometry.{need_at, flush_blocks_at}
-use Rattle.promises.specs.Log.{programs_in, good_count, free_count}
+use Rattle.promises.specs.Log.{programs_in, good_count_after, free_count_after}
 use Rattle.promises.specs.Run as runs
 use Rattle.promises.specs.Run.{Event}
 use Rattle.collection.specs.Safe.{ram, image_in}
@@ -62,4 +62,4 @@ QuietTurnLaw {N} view = (old new : Device N) (event : Event) (x : Exchange) → 
 abbrev pub QuietEventLaw : Type 0
 QuietEventLaw = (first : First) (old : runs.DeviceView) (before : List Operation) (event : Event) (x : Exchange) → IsFair first old before event x
     → is_turn x.command ≡ true → x.result ≡ Ok tt → event.piece ≡ []
-    → need_at first.geometry first.share + 3 ≤ good_count first.geometry first.bad before → 12 + flush_blocks_at first.geometry first.share ≤ free_count first.geometry first.bad before event.left.flash.image
+    → need_at first.geometry first.share + 3 ≤ good_count_after first.geometry first.bad before → 12 + flush_blocks_at first.geometry first.share ≤ free_count_after first.geometry first.bad before event.left.flash.image

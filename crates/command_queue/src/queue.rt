@@ -8,7 +8,7 @@ ghost use Rattle.certificate.specs.Claim.{sizes_of};
 ghost use Rattle.ftl_device.specs.Device.{IsDevice};
 ghost use Rattle.ftl_device.specs.Calls.{stop_of, IsWell};
 ghost use Rattle.ftl_device.specs.Changes.{LeavesUnpinned};
-ghost use Rattle.command_queue.specs.Commands.{command_of, is_turn, told_command, HasRoom, AreWhole, AreAnswered};
+ghost use Rattle.command_queue.specs.Commands.{promised_command, is_turn, told_command, HasDataArea, AreWhole, AreAnswered};
 ghost use Rattle.command_queue.specs.Exchanges.{exchanges_of, AreKnown};
 ghost use Rattle.command_queue.specs.Commands.{KeepsBytes, HaveKept};
 ghost use Rattle.command_queue.specs.Exchanges.{StopsDevice, StaysStopped};
@@ -37,27 +37,27 @@ pub fn tell<N: Nand>(
     bytes: &mut [u8],
 ) -> Result<(), DeviceFault>
     requires device { IsDevice N.view.flash device.old }
-    requires room { HasRoom device.old.engine.geometry command bytes.old }
+    requires room { HasDataArea device.old.engine.geometry command bytes.old }
     ensures device { IsDevice N.view.flash device.new }
     ensures geometry { device.new.engine.geometry ≡ device.old.engine.geometry }
     ensures limits { HasLimitsOf device.old.engine.mapping device.new.engine.mapping }
     ensures honest { N.view.honest device.new.engine.nand ≡ N.view.honest device.old.engine.nand }
     ensures calm { N.view.calm device.new.engine.nand ≡ N.view.calm device.old.engine.nand }
-    ensures room { HasRoom device.old.engine.geometry command.entry bytes.new }
+    ensures room { HasDataArea device.old.engine.geometry command.entry bytes.new }
     ensures failed { N.view.failed device.old.engine.nand ≤ N.view.failed device.new.engine.nand }
-    ensures kept { KeepsBytes (command_of command.entry) result bytes.old bytes.new }
+    ensures kept { KeepsBytes (promised_command command.entry) result bytes.old bytes.new }
     ensures stopped { ForSome (stop_of device.old.engine.fault) (λ fault. (result ≡ Err fault) × (device.new ≡ device.old)) }
-    ensures stops { IfErr result (λ fault. StopsDevice (command_of command.entry) fault → stop_of device.new.engine.fault ≡ Some fault) }
+    ensures stops { IfErr result (λ fault. StopsDevice (promised_command command.entry) fault → stop_of device.new.engine.fault ≡ Some fault) }
     ensures standing { ForSome (stop_of device.new.engine.fault) (λ fault. result ≡ Err fault) }
     ensures rose { stop_of device.old.engine.fault ≡ None → result ≡ Err DeviceFault.BusFault →
         HasRisen (N.view.failed device.old.engine.nand) (N.view.failed device.new.engine.nand) }
     ensures well { N.view.honest device.old.engine.nand ≡ true → IsWell N.view.flash device.old → result ≢ Err DeviceFault.BusFault →
         IsWell N.view.flash device.new }
     ensures happened { N.view.honest device.old.engine.nand ≡ true → IsWell N.view.flash device.old → result ≢ Err DeviceFault.BusFault →
-        Happened N.view device.old (record { command = command_of command.entry; result = result; bytes = bytes.new }) device.new }
-    ensures turned { TakesIfTurn N.view (command_of command.entry) device.old result device.new }
-    ensures programs { Programs N.view (command_of command.entry) device.old result device.new }
-    ensures pins { is_turn (command_of command.entry) ≡ false → LeavesUnpinned device.old result device.new }
+        Happened N.view device.old (record { command = promised_command command.entry; result = result; bytes = bytes.new }) device.new }
+    ensures turned { TakesIfTurn N.view (promised_command command.entry) device.old result device.new }
+    ensures programs { Programs N.view (promised_command command.entry) device.old result device.new }
+    ensures pins { is_turn (promised_command command.entry) ≡ false → LeavesUnpinned device.old result device.new }
 {
     match command {
         Command::Read { sector } => device.read(sector, bytes),

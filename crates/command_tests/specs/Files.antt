@@ -13,7 +13,7 @@ abbrev pub LacksFile : List Stored → List ℕ → Type 0
 LacksFile files path = (at : ℕ) (file : Stored) → slice_get files at ≡ Some file → file.path ≢ path
 
 -- The bytes are those of a file of the path that was stored, or was there before. It fails only where none was there, since no other is written.
-abbrev pub MayAnswer : (given stored : List Stored) → List ℕ → Result (List ℕ) FileFault → Type 0
-MayAnswer given stored path (Ok bytes) = HasFile stored path bytes ⊎ HasFile given path bytes
-MayAnswer given stored path (Err Failed) = LacksFile given path
-MayAnswer given stored path (Err OutOfMemory) = Unit {0}
+abbrev pub MayAnswerLoad : (given stored : List Stored) → List ℕ → Result (List ℕ) FileFault → Type 0
+MayAnswerLoad given stored path (Ok bytes) = HasFile stored path bytes ⊎ HasFile given path bytes
+MayAnswerLoad given stored path (Err Failed) = LacksFile given path
+MayAnswerLoad given stored path (Err OutOfMemory) = Unit {0}

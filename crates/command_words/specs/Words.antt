@@ -3,7 +3,7 @@ use Rattle.std.specs.Prelude.{◌≡◌, ◌==◌, ◌⊎◌, ℕ, Bool, false, 
 use Rattle.std.specs.List.{list_any}
 use Rattle.clap.specs.declared.builder.action.ArgAction.TheVariants.{Append}
 use Rattle.clap.specs.Words.{App, Row, Shape, all_of}
-use Rattle.program_words.specs.Grammar.{command_of, place_of, program_of}
+use Rattle.program_words.specs.Grammar.{command_with_words, wanted_word, program_of}
 use Rattle.program_words.specs.Met.{AsksText, IsNoCommand, NamesCommand}
 pub use Rattle.program_words.specs.Met.{texts}
 use Rattle.command_words.specs.declared.words.Order.{Order}
@@ -51,7 +51,7 @@ pub record IsOrder (words : List (List ℕ)) (order : Order) : Type 0 where
 
 -- a command of this name, which wants one word or more
 abbrev pub command : List ℕ → Shape
-command name = command_of name (place_of Append (codes "WORDS") ∷ [])
+command name = command_with_words name (wanted_word Append (codes "WORDS") ∷ [])
 
 -- the commands that the program has
 abbrev pub command_names : List (List ℕ)

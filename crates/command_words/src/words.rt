@@ -1,7 +1,7 @@
 //! What the words of the command line ask for: a command's name, as `clap` finds it, and the words in its places.
 ghost use Rattle.std.specs.Prelude.{◌≡◌, ◌≢◌, ◌∷◌, IfOk, IfSome, Err, None};
 ghost use Rattle.std.specs.List.{list_any};
-ghost use Rattle.program_words.specs.Met.{entries_of, texts};
+ghost use Rattle.program_words.specs.Met.{command_entries, texts};
 ghost use Rattle.command_words.specs.declared.words.CertificateWords.{CertificateWords};
 ghost use Rattle.command_words.specs.declared.words.FileWords.{FileWords};
 ghost use Rattle.command_words.specs.declared.words.ImageWords.{ImageWords};
@@ -149,8 +149,8 @@ fn order_named<'a>(name: &str, words: &[&'a str]) -> Option<Order<'a>>
 
 // The order of the command that `clap` met, where it has so many words.
 fn order_at<'a>(name: &str, found: &CommandWords<'a>) -> Option<Order<'a>>
-    ensures some { IfSome result (IsOrderAt name.now (entries_of found.now)) }
-    ensures none { result ≡ None → (order : Order) → ¬ IsOrderAt name.now (entries_of found.now) order }
+    ensures some { IfSome result (IsOrderAt name.now (command_entries found.now)) }
+    ensures none { result ≡ None → (order : Order) → ¬ IsOrderAt name.now (command_entries found.now) order }
 {
     order_named(name, found.words("WORDS")?)
 }

@@ -8,7 +8,7 @@ use Rattle.std.proofs.lemmas.List.{get_or-take, get_or_default, length-take}
 use Rattle.std.proofs.lemmas.Option.{slice_get_within, get_or_from_slice_get}
 use Rattle.page_layout.specs.declared.geometry.Geometry.{Geometry}
 use Rattle.certificate.specs.declared.block_state.BlockState.{BlockState}
-use Rattle.certificate.specs.Claim.{Claim, is_good}
+use Rattle.certificate.specs.Claim.{Claim, is_good_state}
 use Rattle.image_check.specs.Rising.{IsRisingBelow}
 use Rattle.image_check.proofs.OnceLemmas.{filter_rising}
 use Rattle.nand_die.specs.declared.fault.DieFault.{DieFault}
@@ -16,12 +16,12 @@ use Rattle.nand_die.specs.declared.fault.DieFault.TheVariants as die
 use Rattle.nand_die.specs.Made.{AreNames, RefusesImage, is_named}
 use Rattle.ftl_device.specs.Begin.{is_bad_in, no_block}
 use Rattle.commands.specs.declared.text.CommandFault.TheVariants as fault
-use Rattle.commands.specs.Check.{IsWhole}
+use Rattle.commands.specs.Check.{HasImageLength}
 use Rattle.commands.specs.Serve.{bad_in, IsDieUnmade}
 
 -- a block of class 4 or 5 is bad
 pub bad_here : (c : Claim) (block : ℕ) (s : BlockState) → slice_get c.blocks block ≡ Some s → nat_le 4 s.class ≡ is_bad_in c block
-bad_here c block s is = turned s.class ∙ ap (λ (b : BlockState). not (is_good b)) (sym (get_or_from_slice_get c.blocks block s no_block is))
+bad_here c block s is = turned s.class ∙ ap (λ (b : BlockState). not (is_good_state b)) (sym (get_or_from_slice_get c.blocks block s no_block is))
   where
     turned : (class : ℕ) → nat_le 4 class ≡ not (nat_lt class 4)
     turned class = grind (arith, nat_tests)
@@ -47,7 +47,7 @@ pub bad_names : (g : Geometry) (c : Claim) → AreNames g (bad_in g c)
 bad_names g c = rising_names g (min g.blocks c.sizes.blocks) (bad_in g c) (omega arith) (filter_rising (is_bad_in c) (min g.blocks c.sizes.blocks))
 
 -- so a die of a whole image is refused for want of memory alone
-pub unmade : (g : Geometry) (bytes : List ℕ) (c : Claim) (broken : DieFault) → IsWhole g bytes → RefusesImage g bytes (bad_in g c) broken → IsDieUnmade g bytes (fault.Die broken)
+pub unmade : (g : Geometry) (bytes : List ℕ) (c : Claim) (broken : DieFault) → HasImageLength g bytes → RefusesImage g bytes (bad_in g c) broken → IsDieUnmade g bytes (fault.Die broken)
 unmade g bytes c die.WrongLength whole refused = absurd (refused whole)
 unmade g bytes c (die.BadMark block) whole refused = absurd (bad_names g c refused.1.at block refused.1.misnamed)
 unmade g bytes c die.OutOfMemory whole refused = (whole, refl)

@@ -17,10 +17,10 @@ use Rattle.commands.specs.declared.files.FileFault.TheVariants as file
 use Rattle.commands.specs.declared.text.CommandFault.{CommandFault}
 use Rattle.commands.specs.declared.text.CommandFault.TheVariants as fault
 use Rattle.command_words.specs.declared.words.CertificateWords.{CertificateWords}
-use Rattle.commands.specs.Files.{Gives, IsOpened}
-use Rattle.commands.specs.Inputs.{IsUnread}
+use Rattle.commands.specs.Files.{LoadAnswers, IsOpened}
+use Rattle.commands.specs.Inputs.{TellsUnread}
 use Rattle.commands.specs.Check.{AsksForCapacity, HasNoCertificate, HoldsClaim, HoldsNoClaim, IsNoCertificate, LacksCertificate}
-use Rattle.commands.specs.Check.{Accepts, DoesCheck, HasCertificate, HasFiles, DiffersAs, IsCheckFault, IsHeld, IsHeldAs, IsOutputKept, IsSpelled, IsToldAs, IsUnheld, IsWhole, accepted_line}
+use Rattle.commands.specs.Check.{Accepts, DoesCheck, HasSpelledCertificate, HasFiles, DiffersAs, IsCheckFault, IsHeld, IsHeldAs, IsOutputKept, IsClaimSpelled, IsToldAs, IsUnheld, HasImageLength, accepted_line}
 use Rattle.commands.specs.Lines.{IsUnprinted}
 
 -- a count of failures that stays at none did not rise
@@ -29,23 +29,23 @@ unrisen (inl less) = omega arith
 unrisen (inr most) = omega arith
 
 -- what a later load may answer an earlier one might have
-pub unread_before : (old new : Gives) (text : List ℕ) (stop : CommandFault) → ((at : List ℕ) (answer : Result (List ℕ) FileFault) → new at answer → old at answer)
-    → IsUnread new text stop → IsUnread old text stop
+pub unread_before : (old new : LoadAnswers) (text : List ℕ) (stop : CommandFault) → ((at : List ℕ) (answer : Result (List ℕ) FileFault) → new at answer → old at answer)
+    → TellsUnread new text stop → TellsUnread old text stop
 unread_before old new text (fault.Read path) same unread = (unread.0, same text (Err file.Failed) unread.1)
 unread_before old new text fault.OutOfMemory same unread = same text (Err file.OutOfMemory) unread
 unread_before old new text _ same unread = absurd unread
 
 -- the bytes of a file spell the certificate, where they are one's
-pub claims : (gives : Gives) (path written all : List ℕ) (result : Result Claim CommandFault) → gives path (Ok written) → all ≡ written → IfOk result (λ c. IsSpelled c all) → IfOk result (HoldsClaim gives path)
-claims gives path written all (Ok c) given same spelled = record { written = written; given = given; spelled = subst (λ (w : List ℕ). IsSpelled c w) same spelled }
+pub claims : (gives : LoadAnswers) (path written all : List ℕ) (result : Result Claim CommandFault) → gives path (Ok written) → all ≡ written → IfOk result (λ c. IsClaimSpelled c all) → IfOk result (HoldsClaim gives path)
+claims gives path written all (Ok c) given same spelled = record { written = written; given = given; spelled = subst (λ (w : List ℕ). IsClaimSpelled c w) same spelled }
 claims gives path written all (Err stop) given same spelled = tt
 
-pub no_claim : (gives : Gives) (path written all : List ℕ) (result : Result Claim CommandFault) → gives path (Ok written) → all ≡ written → IfErr result (IsNoCertificate all) → IfErr result (HoldsNoClaim gives path)
+pub no_claim : (gives : LoadAnswers) (path written all : List ℕ) (result : Result Claim CommandFault) → gives path (Ok written) → all ≡ written → IfErr result (IsNoCertificate all) → IfErr result (HoldsNoClaim gives path)
 no_claim gives path written all (Ok c) given same broken = tt
 no_claim gives path written all (Err stop) given same broken = inr (written, given, subst (λ (w : List ℕ). IsNoCertificate w stop) same broken)
 
 -- after the image's file, the certificate's was not read, or has none
-pub uncertified : (gives later : Gives) (tells : Bool) (words : CertificateWords) (g : Geometry) (capacity : ℕ) (known : Option (List ℕ)) (stop : CommandFault) → AsksForCapacity words g capacity
+pub uncertified : (gives later : LoadAnswers) (tells : Bool) (words : CertificateWords) (g : Geometry) (capacity : ℕ) (known : Option (List ℕ)) (stop : CommandFault) → AsksForCapacity words g capacity
     → IsOpened gives tells words.image.now known → ((at : List ℕ) (answer : Result (List ℕ) FileFault) → later at answer → gives at answer)
     → HoldsNoClaim later words.certificate.now stop → LacksCertificate gives tells words stop ⊎ HasNoCertificate gives tells words stop
 uncertified gives later tells words g capacity known stop asked image same (inl unread) =
@@ -54,13 +54,13 @@ uncertified gives later tells words g capacity known stop asked image same (inr 
     let files : HasFiles gives tells words g capacity known written = record { asked = asked; image = image; certificate = same words.certificate.now (Ok written) given } in
     inr (record { geometry = g; capacity = capacity; known = known; written = written; files = files; broken = broken })
 
-pub uncertified_fault : (gives : Gives) (tells : Bool) (words : CertificateWords) (before after : Option (List ℕ)) (stop : CommandFault) → LacksCertificate gives tells words stop ⊎ HasNoCertificate gives tells words stop
+pub uncertified_fault : (gives : LoadAnswers) (tells : Bool) (words : CertificateWords) (before after : Option (List ℕ)) (stop : CommandFault) → LacksCertificate gives tells words stop ⊎ HasNoCertificate gives tells words stop
     → IsCheckFault gives tells words before after stop
 uncertified_fault gives tells words before after stop (inl lacks) = inr (inr (inl lacks))
 uncertified_fault gives tells words before after stop (inr none) = inr (inr (inr (inl none)))
 
 -- or it has this one
-pub has_files : (gives later : Gives) (tells : Bool) (words : CertificateWords) (g : Geometry) (capacity : ℕ) (known : Option (List ℕ)) (c : Claim) → AsksForCapacity words g capacity
+pub has_files : (gives later : LoadAnswers) (tells : Bool) (words : CertificateWords) (g : Geometry) (capacity : ℕ) (known : Option (List ℕ)) (c : Claim) → AsksForCapacity words g capacity
     → IsOpened gives tells words.image.now known → ((at : List ℕ) (answer : Result (List ℕ) FileFault) → later at answer → gives at answer)
     → (held : HoldsClaim later words.certificate.now c) → HasFiles gives tells words g capacity known held.written
 has_files gives later tells words g capacity known c asked image same held = record { asked = asked; image = image; certificate = same words.certificate.now (Ok held.written) held.given }
@@ -70,7 +70,7 @@ kept (fault.Write path) before after keeps = tt
 kept _ before after keeps = keeps
 
 -- a step before the printing that ended the command
-pub stops : (gives : Gives) (tells : Bool) (words : CertificateWords) (before after : Option (List ℕ)) (result : Result (Unit {0}) CommandFault) (stop : CommandFault)
+pub stops : (gives : LoadAnswers) (tells : Bool) (words : CertificateWords) (before after : Option (List ℕ)) (result : Result (Unit {0}) CommandFault) (stop : CommandFault)
     → result ≡ Err stop → Keeps before after → IsCheckFault gives tells words before after stop → DoesCheck gives tells words before after result
 stops gives tells words before after result stop is keeps because =
     let P : Result (Unit {0}) CommandFault → Type 0 = λ r. DoesCheck gives tells words before after r in
@@ -91,11 +91,11 @@ held_accepts g capacity path known c before after (Ok done) held told un = (held
 held_accepts g capacity path known c before after (Err stop) held told un = inr (held, un)
 
 -- after all that came before it
-pub accepted_does : (gives : Gives) (tells : Bool) (words : CertificateWords) (g : Geometry) (capacity : ℕ) (known : Option (List ℕ)) (written : List ℕ) (c : Claim) (before after : Option (List ℕ)) (result : Result (Unit {0}) CommandFault)
-    → HasFiles gives tells words g capacity known written → IsSpelled c written → Accepts g capacity words.image.now known c before after result → DoesCheck gives tells words before after result
+pub accepted_does : (gives : LoadAnswers) (tells : Bool) (words : CertificateWords) (g : Geometry) (capacity : ℕ) (known : Option (List ℕ)) (written : List ℕ) (c : Claim) (before after : Option (List ℕ)) (result : Result (Unit {0}) CommandFault)
+    → HasFiles gives tells words g capacity known written → IsClaimSpelled c written → Accepts g capacity words.image.now known c before after result → DoesCheck gives tells words before after result
 accepted_does gives tells words g capacity known written c before after result files spelled accepts = go result accepts
   where
-    has : HasCertificate gives tells words
+    has : HasSpelledCertificate gives tells words
     has = record { geometry = g; capacity = capacity; known = known; written = written; claim = c; files = files; spelled = spelled }
 
     unkept : (stop : CommandFault) → IsUnprinted accepted_line before after stop → IsOutputKept stop before after
@@ -116,7 +116,7 @@ unheld_of g capacity path (Some bytes) c refusal sourced long (inl (inr memory))
 unheld_of g capacity path (Some bytes) c refusal sourced long (inr (inl wrong)) = absurd (long wrong.0)
 unheld_of g capacity path (Some bytes) c refusal sourced long (inr (inr wrong)) = inr wrong
 
-pub unwhole_of : (g : Geometry) (capacity : ℕ) (known : Option (List ℕ)) (c : Claim) → IfSome known (λ bytes. IsStreamRefusal g capacity bytes c refusals.WrongLength) → IfSome known (λ bytes. ¬ IsWhole g bytes)
+pub unwhole_of : (g : Geometry) (capacity : ℕ) (known : Option (List ℕ)) (c : Claim) → IfSome known (λ bytes. IsStreamRefusal g capacity bytes c refusals.WrongLength) → IfSome known (λ bytes. ¬ HasImageLength g bytes)
 unwhole_of g capacity None c h = tt
 unwhole_of g capacity (Some bytes) c (inl (inl source)) = absurd (let clash : refusals.WrongLength ≡ refusals.Source = source in cc)
 unwhole_of g capacity (Some bytes) c (inl (inr memory)) = absurd (let clash : refusals.WrongLength ≡ refusals.OutOfMemory = memory in cc)
@@ -149,7 +149,7 @@ pub differs_as : (g : Geometry) (capacity : ℕ) (c : Claim) (r : Refusal) → (
     → DiffersAs g capacity c r
 differs_as g capacity c r told tells = record { other = told; same = λ not. asked_by g capacity c (λ other. not (tells other)) }
 
-pub held_of : (g : Geometry) (capacity : ℕ) (known : Option (List ℕ)) (c : Claim) (a : Acceptance) → IsAsked g capacity c → IfSome known (λ bytes. IsWhole g bytes) → IfSome known (λ bytes. IsAcceptance g capacity (raw_image g bytes) c a) → IsHeldAs g capacity known c
+pub held_of : (g : Geometry) (capacity : ℕ) (known : Option (List ℕ)) (c : Claim) (a : Acceptance) → IsAsked g capacity c → IfSome known (λ bytes. HasImageLength g bytes) → IfSome known (λ bytes. IsAcceptance g capacity (raw_image g bytes) c a) → IsHeldAs g capacity known c
 held_of g capacity None c a asked whole h = record { asked = asked; held = tt }
 held_of g capacity (Some bytes) c a asked whole h = record { asked = asked; held = record { whole = whole; agrees = h.agrees } }
 

@@ -16,12 +16,12 @@ use Rattle.command_words.specs.declared.words.ServeWords.{ServeWords}
 use Rattle.commands.specs.Check.{IsCheckFault}
 use Rattle.commands.specs.Mount.{DoesMount}
 use Rattle.commands.specs.Serve.{DoesServe, IsServeUnstarted, IsUnclaimed}
-use Rattle.commands.specs.Migrate.{DoesMigrate, IsClaimUnmigrated, IsUnbegun}
+use Rattle.commands.specs.Migrate.{DoesMigrate, IsClaimUnmigrated, IsMigrationUnbegun}
 use Rattle.commands.specs.Commands.{Obeys, OrderComesTo}
-use Rattle.commands.specs.Files.{Gives, Left, LeavesUntouched}
-use Rattle.commands.specs.Inputs.{AreNoNumbers, AreNumbers, IsUnread}
+use Rattle.commands.specs.Files.{LoadAnswers, Left, LeavesUntouched}
+use Rattle.commands.specs.Inputs.{AreNoNumbers, AreNumbers, TellsUnread}
 use Rattle.commands.specs.Sector.{DoesSector, AsksForNumber, HasImage, IsPrintFault, IsUnprinted, IsUnreadable, TellsUnprinted, sector_line}
-use Rattle.commands.specs.Show.{DoesShow, IsUnshown, Shows}
+use Rattle.commands.specs.Show.{DoesShow, IsUnshown, ShowsRowLine}
 use Rattle.command_words.specs.Words.{IsOrder}
 use Rattle.commands.proofs.WordLemmas.{asks_for}
 
@@ -30,27 +30,27 @@ pub ended : {A : Type 0} (P : Result A CommandFault → Type 0) (result : Result
 ended P result stop is = subst P (sym is)
 
 -- words that are no numbers end the command
-pub unnumbered_does : (gives : Gives) (words : ImageWords) (before after : Option (List ℕ)) (stop : CommandFault)
+pub unnumbered_does : (gives : LoadAnswers) (words : ImageWords) (before after : Option (List ℕ)) (stop : CommandFault)
     → Keeps before after → AreNoNumbers words.geometry.now words.number.now stop → DoesSector gives words before after (Err stop)
 unnumbered_does gives words before after (fault.BadNumber word) keeps un = (keeps, un)
 unnumbered_does gives words before after (fault.Geometry broken) keeps un = (keeps, un)
 unnumbered_does gives words before after _ keeps un = absurd un
 
-pub unnumbered_shows : (gives : Gives) (words : ImageWords) (before after : Option (List ℕ)) (stop : CommandFault)
+pub unnumbered_shows : (gives : LoadAnswers) (words : ImageWords) (before after : Option (List ℕ)) (stop : CommandFault)
     → Keeps before after → AreNoNumbers words.geometry.now words.number.now stop → DoesShow gives words before after (Err stop)
 unnumbered_shows gives words before after (fault.BadNumber word) keeps un = (keeps, un)
 unnumbered_shows gives words before after (fault.Geometry broken) keeps un = (keeps, un)
 unnumbered_shows gives words before after _ keeps un = absurd un
 
 -- so does a file that was not read
-pub unread_does : (gives : Gives) (words : ImageWords) (g : Geometry) (n : ℕ) (before after : Option (List ℕ)) (fault : CommandFault)
-    → AsksForNumber words g n → Keeps before after → IsUnread gives words.image.now fault → DoesSector gives words before after (Err fault)
+pub unread_does : (gives : LoadAnswers) (words : ImageWords) (g : Geometry) (n : ℕ) (before after : Option (List ℕ)) (fault : CommandFault)
+    → AsksForNumber words g n → Keeps before after → TellsUnread gives words.image.now fault → DoesSector gives words before after (Err fault)
 unread_does gives words g n before after (fault.Read path) asked keeps unread = (keeps, unread.0, unread.1, (g, n, asked))
 unread_does gives words g n before after fault.OutOfMemory asked keeps unread = (keeps, inl (g, n, asked, unread))
 unread_does gives words g n before after _ asked keeps unread = absurd unread
 
 -- so does a sector that was not printed
-pub unprinted_does : (gives : Gives) (words : ImageWords) (g : Geometry) (n : ℕ) (bytes : List ℕ) (before after : Option (List ℕ)) (why : PrintFault) (stop : CommandFault)
+pub unprinted_does : (gives : LoadAnswers) (words : ImageWords) (g : Geometry) (n : ℕ) (bytes : List ℕ) (before after : Option (List ℕ)) (why : PrintFault) (stop : CommandFault)
     → HasImage gives words g n bytes → IsPrintFault g (raw_image g bytes) n why → IsUnprinted (sector_line g (raw_image g bytes) n) why before after → TellsUnprinted why stop
     → DoesSector gives words before after (Err stop)
 unprinted_does gives words g n bytes before after (print.Sector refused) (fault.Sector told) image why un is =
@@ -60,7 +60,7 @@ unprinted_does gives words g n bytes before after print.OutOfMemory fault.OutOfM
 unprinted_does gives words g n bytes before after _ _ image why un is = absurd is
 
 -- the words are numbers, and the file has as many bytes as the geometry says
-pub has_image : (gives : Gives) (words : ImageWords) (g : Geometry) (n : ℕ) (all bytes : List ℕ) → AreNumbers words.geometry.now words.number.now g n → gives words.image.now (Ok bytes) → all ≡ bytes
+pub has_image : (gives : LoadAnswers) (words : ImageWords) (g : Geometry) (n : ℕ) (all bytes : List ℕ) → AreNumbers words.geometry.now words.number.now g n → gives words.image.now (Ok bytes) → all ≡ bytes
     → length all ≡ row_count g * page_bytes g → HasImage gives words g n bytes
 has_image gives words g n all bytes asked given same whole = record { asked = asks_for words g n asked; given = given; whole = ap length (sym same) ∙ whole }
 
@@ -68,15 +68,15 @@ has_image gives words g n all bytes asked given same whole = record { asked = as
 pub not_whole : (g : Geometry) (all bytes : List ℕ) → (length all ≡ row_count g * page_bytes g → false ≡ true) → all ≡ bytes → length bytes ≢ row_count g * page_bytes g
 not_whole g all bytes takes same whole = let clash : false ≡ true = takes (ap length same ∙ whole) in cc
 
-pub unread_shows : (gives : Gives) (words : ImageWords) (g : Geometry) (n : ℕ) (before after : Option (List ℕ)) (fault : CommandFault)
-    → AsksForNumber words g n → Keeps before after → IsUnread gives words.image.now fault → DoesShow gives words before after (Err fault)
+pub unread_shows : (gives : LoadAnswers) (words : ImageWords) (g : Geometry) (n : ℕ) (before after : Option (List ℕ)) (fault : CommandFault)
+    → AsksForNumber words g n → Keeps before after → TellsUnread gives words.image.now fault → DoesShow gives words before after (Err fault)
 unread_shows gives words g n before after (fault.Read path) asked keeps unread = (keeps, unread.0, unread.1, (g, n, asked))
 unread_shows gives words g n before after fault.OutOfMemory asked keeps unread = (keeps, (g, n, asked, unread))
 unread_shows gives words g n before after _ asked keeps unread = absurd unread
 
 -- what became of the page of a row
-pub shown_does : (gives : Gives) (words : ImageWords) (g : Geometry) (n : ℕ) (bytes : List ℕ) (before after : Option (List ℕ)) (result : Result (Unit {0}) CommandFault)
-    → HasImage gives words g n bytes → OnOk result (Shows g (raw_image g bytes) n before after) → IfErr result (IsUnshown g (raw_image g bytes) n before after)
+pub shown_does : (gives : LoadAnswers) (words : ImageWords) (g : Geometry) (n : ℕ) (bytes : List ℕ) (before after : Option (List ℕ)) (result : Result (Unit {0}) CommandFault)
+    → HasImage gives words g n bytes → OnOk result (ShowsRowLine g (raw_image g bytes) n before after) → IfErr result (IsUnshown g (raw_image g bytes) n before after)
     → DoesShow gives words before after result
 shown_does gives words g n bytes before after (Ok done) image shown unshown = (g, n, bytes, image, shown)
 shown_does gives words g n bytes before after (Err fault.RowRange) image shown unshown = (g, n, bytes, image, unshown)
@@ -84,7 +84,7 @@ shown_does gives words g n bytes before after (Err (fault.Write path)) image sho
 shown_does gives words g n bytes before after (Err _) image shown unshown = absurd unshown
 
 -- words that are an order are never called no command
-check_is_command : (gives : Gives) (tells : Bool) (words : CertificateWords) (before after : Option (List ℕ)) → IsCheckFault gives tells words before after fault.NoSuchCommand → ⊥
+check_is_command : (gives : LoadAnswers) (tells : Bool) (words : CertificateWords) (before after : Option (List ℕ)) → IsCheckFault gives tells words before after fault.NoSuchCommand → ⊥
 check_is_command gives tells words before after (inl unasked) = unasked
 check_is_command gives tells words before after (inr (inl unopened)) = unopened.unread
 check_is_command gives tells words before after (inr (inr (inl lacks))) = lacks.unread
@@ -92,7 +92,7 @@ check_is_command gives tells words before after (inr (inr (inr (inl malformed)))
 check_is_command gives tells words before after (inr (inr (inr (inr (inl unheld))))) = unheld.1
 check_is_command gives tells words before after (inr (inr (inr (inr (inr unprinted))))) = unprinted.2
 
-mount_is_command : (gives : Gives) (words : CertificateWords) (before after : Left) → DoesMount gives words before after (Err fault.NoSuchCommand) → ⊥
+mount_is_command : (gives : LoadAnswers) (words : CertificateWords) (before after : Left) → DoesMount gives words before after (Err fault.NoSuchCommand) → ⊥
 mount_is_command gives words before after (inl (leaves, inl unasked)) = unasked
 mount_is_command gives words before after (inl (leaves, inr (inl unopened))) = unopened.unread
 mount_is_command gives words before after (inl (leaves, inr (inr lacks))) = lacks.unmounted
@@ -100,18 +100,18 @@ mount_is_command gives words before after (inr (inl unstored)) = unstored.1
 mount_is_command gives words before after (inr (inr unprinted)) = unprinted.2
 
 -- for want of memory nothing is left
-mount_leaves : (gives : Gives) (words : CertificateWords) (before after : Left) → DoesMount gives words before after (Err fault.OutOfMemory) → LeavesUntouched before after
+mount_leaves : (gives : LoadAnswers) (words : CertificateWords) (before after : Left) → DoesMount gives words before after (Err fault.OutOfMemory) → LeavesUntouched before after
 mount_leaves gives words before after (inl unstarted) = unstarted.0
 mount_leaves gives words before after (inr (inl unstored)) = (unstored.1, unstored.2)
 mount_leaves gives words before after (inr (inr unprinted)) = absurd unprinted.2
 
-claim_is_command : (gives : Gives) (words : ServeWords) → IsUnclaimed gives words fault.NoSuchCommand → ⊥
+claim_is_command : (gives : LoadAnswers) (words : ServeWords) → IsUnclaimed gives words fault.NoSuchCommand → ⊥
 claim_is_command gives words (inl unasked) = unasked
 claim_is_command gives words (inr (inl unopened)) = unopened.unread
 claim_is_command gives words (inr (inr (inl lacks))) = lacks.unread
 claim_is_command gives words (inr (inr (inr malformed))) = malformed.broken
 
-serve_is_command : (gives : Gives) (words : ServeWords) (unread left : Option (List ℕ)) (before after : Left) → DoesServe gives words unread left before after (Err fault.NoSuchCommand) → ⊥
+serve_is_command : (gives : LoadAnswers) (words : ServeWords) (unread left : Option (List ℕ)) (before after : Left) → DoesServe gives words unread left before after (Err fault.NoSuchCommand) → ⊥
 serve_is_command gives words unread left before after (inl none) = unstarted none.because
   where
     unstarted : IsServeUnstarted gives words fault.NoSuchCommand → ⊥
@@ -119,7 +119,7 @@ serve_is_command gives words unread left before after (inl none) = unstarted non
     unstarted (inr unserved) = unserved.unserved
 serve_is_command gives words unread left before after (inr ran) = ran.ends
 
-migrate_is_command : (gives : Gives) (words : ServeWords) (before after : Left) → DoesMigrate gives words before after (Err fault.NoSuchCommand) → ⊥
+migrate_is_command : (gives : LoadAnswers) (words : ServeWords) (before after : Left) → DoesMigrate gives words before after (Err fault.NoSuchCommand) → ⊥
 migrate_is_command gives words before after (inl none) = unbegun none.1
   where
     unmade : (has : IsClaimUnmigrated gives words fault.NoSuchCommand) → ⊥
@@ -128,14 +128,14 @@ migrate_is_command gives words before after (inl none) = unbegun none.1
       | inr no_device ↦ no_device.1
     ]
 
-    unbegun : IsUnbegun gives words fault.NoSuchCommand → ⊥
+    unbegun : IsMigrationUnbegun gives words fault.NoSuchCommand → ⊥
     unbegun (inl unclaimed) = claim_is_command gives words unclaimed
     unbegun (inr unmigrated) = unmade unmigrated
 migrate_is_command gives words before after (inr (inl (image, came, has, short, keeps))) = short
 migrate_is_command gives words before after (inr (inr (image, count, has, stored, unprinted))) = unprinted
 
 -- what the order of the words came to, the words came to
-pub order_obeys : (gives : Gives) (tells : Bool) (words : List (List ℕ)) (unread left : Option (List ℕ)) (before after : Left) (result : Result (Unit {0}) CommandFault) (asked : Order)
+pub order_obeys : (gives : LoadAnswers) (tells : Bool) (words : List (List ℕ)) (unread left : Option (List ℕ)) (before after : Left) (result : Result (Unit {0}) CommandFault) (asked : Order)
     → IsOrder words asked → OrderComesTo gives tells asked unread left before after result → Obeys gives tells words unread left before after result
 order_obeys gives tells words unread left before after (Ok done) asked is does = (asked, is, does)
 order_obeys gives tells words unread left before after (Err fault.NoSuchCommand) (order.Sector w) is does = absurd does.0

@@ -19,12 +19,12 @@ use Rattle.program_words.specs.Numbers.{SpellsGeometry}
 use Rattle.commands.specs.declared.text.CommandFault.{CommandFault}
 use Rattle.commands.specs.declared.text.CommandFault.TheVariants as fault
 use Rattle.command_words.specs.declared.words.FileWords.{FileWords}
-use Rattle.commands.specs.Files.{Gives, Left, LeavesUntouched, IsUnstored, with_store, written_file}
+use Rattle.commands.specs.Files.{LoadAnswers, Left, LeavesUntouched, IsUnstored, with_store, written_file}
 use Rattle.commands.specs.Lines.{IsUnprinted}
-use Rattle.commands.specs.Inputs.{IsUnread}
+use Rattle.commands.specs.Inputs.{TellsUnread}
 use Rattle.commands.specs.Steady.{is_flawless}
 use Rattle.commands.proofs.LogLemmas.{all_passed}
-use Rattle.commands.specs.Format.{DoesFormat, HasFormatted, HasInput, IsFormatRefused, IsFormattedImage, IsGeometry, IsUnformatted, good_line}
+use Rattle.commands.specs.Format.{DoesFormat, HasFormatted, HasInput, IsFormatRefused, IsFormattedImage, IsGeometry, IsImageUnformatted, good_line}
 
 -- the die that came back holds the image of the one that was formatted, and no program failed
 pub formatted_image : (g : Geometry) (before after : List ℕ) (good : ℕ) (old new : Flash) (back : DieValue) → length before ≡ row_count g * page_bytes g
@@ -61,7 +61,7 @@ refused_as g before refuse.WriteFailed back flawless answered failed =
 refused_as g before (refuse.NotFresh row) back flawless answered used = (used.enough, used.first)
 
 pub unformatted : (g : Geometry) (before : List ℕ) (refused : FormatFault) (old new : Flash) (back : DieValue) → length before ≡ row_count g * page_bytes g
-    → old ≡ loaded_flash g before [] → Formats g (need g) old new (Err refused) → back.state.flash ≡ new → is_flawless back ≡ true → (refused ≡ refuse.Bus → ⊥) → IsUnformatted g before (fault.Format refused)
+    → old ≡ loaded_flash g before [] → Formats g (need g) old new (Err refused) → back.state.flash ≡ new → is_flawless back ≡ true → (refused ≡ refuse.Bus → ⊥) → IsImageUnformatted g before (fault.Format refused)
 unformatted g before refused old new back whole loaded formats same flawless answered = (
   whole,
   refused_as g before refused back flawless answered
@@ -71,15 +71,15 @@ unformatted g before refused old new back whole loaded formats same flawless ans
 -- ---- the command
 
 -- a file that was not read ends it
-pub unread_formats : (gives : Gives) (words : FileWords) (g : Geometry) (before after : Left) (fault : CommandFault)
-    → IsGeometry words g → LeavesUntouched before after → IsUnread gives words.input.now fault → DoesFormat gives words before after (Err fault)
+pub unread_formats : (gives : LoadAnswers) (words : FileWords) (g : Geometry) (before after : Left) (fault : CommandFault)
+    → IsGeometry words g → LeavesUntouched before after → TellsUnread gives words.input.now fault → DoesFormat gives words before after (Err fault)
 unread_formats gives words g before after (fault.Read path) asked leaves unread = (leaves, unread.0, unread.1, (g, asked))
 unread_formats gives words g before after fault.OutOfMemory asked leaves unread = (leaves, inl (g, asked, unread))
 unread_formats gives words g before after _ asked leaves unread = absurd unread
 
 -- so does an image that was not formatted
-pub refused_formats : (gives : Gives) (words : FileWords) (g : Geometry) (bytes : List ℕ) (before after : Left) (fault : CommandFault)
-    → HasInput gives words g bytes → LeavesUntouched before after → IsUnformatted g bytes fault → DoesFormat gives words before after (Err fault)
+pub refused_formats : (gives : LoadAnswers) (words : FileWords) (g : Geometry) (bytes : List ℕ) (before after : Left) (fault : CommandFault)
+    → HasInput gives words g bytes → LeavesUntouched before after → IsImageUnformatted g bytes fault → DoesFormat gives words before after (Err fault)
 refused_formats gives words g bytes before after fault.WrongLength input leaves un = (leaves, (g, bytes, input, un))
 refused_formats gives words g bytes before after (fault.Die broken) input leaves un = (leaves, (g, bytes, input, un))
 refused_formats gives words g bytes before after (fault.Format refused) input leaves un = (leaves, (g, bytes, input, un))
@@ -90,7 +90,7 @@ pub kept_whole : (n : ℕ) (xs ys : List ℕ) → length xs ≡ n → take n (xs
 kept_whole n xs ys e = ap (λ k. take k (xs ++ drop (length xs) ys)) (sym e) ∙ take-append_seam xs (drop (length xs) ys)
 
 -- the vector's bytes are those of the slice that was formatted
-pub has_formatted : (gives : Gives) (words : FileWords) (numbers : GeometryNumbers) (g : Geometry) (loaded before after stored : List ℕ) (good n : ℕ) → SpellsGeometry words.geometry.now numbers
+pub has_formatted : (gives : LoadAnswers) (words : FileWords) (numbers : GeometryNumbers) (g : Geometry) (loaded before after stored : List ℕ) (good n : ℕ) → SpellsGeometry words.geometry.now numbers
     → HasNumbers numbers.data_bytes numbers.spare_bytes numbers.pages numbers.blocks numbers.sectors g → gives words.input.now (Ok loaded) → before ≡ loaded
     → stored ≡ take n (after ++ drop (length after) loaded) → length after ≡ n → IsFormattedImage g before after good → HasFormatted gives words stored good
 has_formatted gives words numbers g loaded before after stored good n spelled valid given same taken whole formatted = let kept = taken ∙ kept_whole n after loaded whole in record {
@@ -101,14 +101,14 @@ has_formatted gives words numbers g loaded before after stored good n spelled va
 }
 
 -- and one that was not stored, before anything was printed
-pub unstored_formats : (gives : Gives) (words : FileWords) (bytes : List ℕ) (good : ℕ) (before after : Left) (fault : CommandFault)
+pub unstored_formats : (gives : LoadAnswers) (words : FileWords) (bytes : List ℕ) (good : ℕ) (before after : Left) (fault : CommandFault)
     → HasFormatted gives words bytes good → Keeps before.out after.out → IsUnstored words.output.now bytes before.stores after.stores fault → DoesFormat gives words before after (Err fault)
 unstored_formats gives words bytes good before after (fault.Write path) has keeps un = (bytes, good, has, inl (un.0, un.1, keeps))
 unstored_formats gives words bytes good before after fault.OutOfMemory has keeps un = ((un, keeps), inr (bytes, good, has))
 unstored_formats gives words bytes good before after _ has keeps un = absurd un
 
 -- the line was printed, or not, after the store
-pub printed_formats : (gives : Gives) (words : FileWords) (bytes : List ℕ) (good : ℕ) (before after : Left) (result : Result (Unit {0}) CommandFault)
+pub printed_formats : (gives : LoadAnswers) (words : FileWords) (bytes : List ℕ) (good : ℕ) (before after : Left) (result : Result (Unit {0}) CommandFault)
     → HasFormatted gives words bytes good → after.stores ≡ with_store before.stores (written_file words.output.now bytes)
     → OnOk result (Appends before.out after.out (good_line good)) → IfErr result (IsUnprinted (good_line good) before.out after.out) → DoesFormat gives words before after result
 printed_formats gives words bytes good before after (Ok done) has stored told un = (bytes, good, has, stored, told)

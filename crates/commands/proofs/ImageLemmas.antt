@@ -8,8 +8,10 @@ use Rattle.page_layout.specs.Raw.{raw_image, still}
 use Rattle.commands.specs.declared.sector.PrintFault.{PrintFault}
 use Rattle.commands.specs.Sector as Sector
 use Rattle.commands.specs.Sector.{IsPrintFault, IsReadable, sector_line}
-use Rattle.commands.specs.Show.{IsUnshown, Shows, shown_line, shown_of}
-use Rattle.commands.specs.declared.show.Shown.{Shown}
+use Rattle.commands.specs.Show.{IsUnshown, ShowsRowLine, look_line, shown_page_line}
+use Rattle.page_layout.specs.declared.look.PageLook.{PageLook}
+use Rattle.page_layout.specs.PageLook.{look_of}
+use Rattle.page_layout.specs.Sound.{version_of}
 use Rattle.commands.specs.declared.text.CommandFault.TheVariants as fault
 use Rattle.commands.specs.Lines.{IsUnprinted}
 use Rattle.page_layout.specs.Page.{Image, Page}
@@ -35,23 +37,28 @@ pub unprinted_in : (flash : Flash) (g : Geometry) (all bytes : List ℕ) (n : �
 unprinted_in flash g all bytes n why before after is same = let P : Flash → Type 0 = λ f. Sector.IsUnprinted (sector_line f.geometry f.image n) why before after in subst P (flash_is flash g all bytes is same)
 
 pub shows_in : (flash : Flash) (g : Geometry) (all bytes : List ℕ) (n : ℕ) (before after : Option (List ℕ)) (r : Result (Unit {0}) CommandFault) → flash ≡ still g (raw_image g all) → all ≡ bytes
-    → OnOk r (Shows flash.geometry flash.image n before after) → OnOk r (Shows g (raw_image g bytes) n before after)
-shows_in flash g all bytes n before after r is same = let P : Flash → Type 0 = λ f. OnOk r (Shows f.geometry f.image n before after) in subst P (flash_is flash g all bytes is same)
+    → OnOk r (ShowsRowLine flash.geometry flash.image n before after) → OnOk r (ShowsRowLine g (raw_image g bytes) n before after)
+shows_in flash g all bytes n before after r is same = let P : Flash → Type 0 = λ f. OnOk r (ShowsRowLine f.geometry f.image n before after) in subst P (flash_is flash g all bytes is same)
 
 pub unshown_in : (flash : Flash) (g : Geometry) (all bytes : List ℕ) (n : ℕ) (before after : Option (List ℕ)) (r : Result (Unit {0}) CommandFault) → flash ≡ still g (raw_image g all) → all ≡ bytes
     → IfErr r (IsUnshown flash.geometry flash.image n before after) → IfErr r (IsUnshown g (raw_image g bytes) n before after)
 unshown_in flash g all bytes n before after r is same = let P : Flash → Type 0 = λ f. IfErr r (IsUnshown f.geometry f.image n before after) in subst P (flash_is flash g all bytes is same)
 
--- the line of a page, of which this is shown
-pub page_shown : (g : Geometry) (image : Image) (row : ℕ) (before after : Option (List ℕ)) (p : Page) (s : Shown) (r : Result (Unit {0}) CommandFault) → slice_get image row ≡ Some p → row < row_count g → s ≡ shown_of p
-    → OnOk r (Appends before after (shown_line s)) → OnOk r (Shows g image row before after)
-page_shown g image row before after p s (Ok done) is within same told =
-    let P : Shown → Type 0 = λ t. Appends before after (shown_line t) in record { page = p; page_is = is; in_range = within; line = subst P same told }
-page_shown g image row before after p s (Err stop) is within same told = tt
+line_is : (p : Page) (look : PageLook) (version : Option ℕ) → look ≡ look_of p → version ≡ version_of p → look_line version look ≡ shown_page_line p
+line_is p look version same told_version = ap (look_line version) same ∙ ap (λ v. look_line v (look_of p)) told_version
 
-pub page_unshown : (g : Geometry) (image : Image) (row : ℕ) (before after : Option (List ℕ)) (p : Page) (s : Shown) (r : Result (Unit {0}) CommandFault) → slice_get image row ≡ Some p → row < row_count g → s ≡ shown_of p
-    → IfErr r (IsUnprinted (shown_line s) before after) → IfErr r (IsUnshown g image row before after)
-page_unshown g image row before after p s (Ok done) is within same un = tt
-page_unshown g image row before after p s (Err (fault.Write path)) is within same un =
-    let P : Shown → Type 0 = λ t. AppendsPart before after (shown_line t) in (un.0, record { page = p; page_is = is; in_range = within; part = subst P same un.1 })
-page_unshown g image row before after p s (Err _) is within same un = absurd un
+-- the line of a page that is this, of this version
+pub page_shown : (g : Geometry) (image : Image) (row : ℕ) (before after : Option (List ℕ)) (p : Page) (look : PageLook) (version : Option ℕ) (r : Result (Unit {0}) CommandFault) → slice_get image row ≡ Some p → row < row_count g
+    → look ≡ look_of p → version ≡ version_of p → OnOk r (Appends before after (look_line version look)) → OnOk r (ShowsRowLine g image row before after)
+page_shown g image row before after p look version (Ok done) is within same told_version told =
+    let P : List ℕ → Type 0 = λ l. Appends before after l in
+    record { page = p; page_is = is; in_range = within; line = subst P (line_is p look version same told_version) told }
+page_shown g image row before after p look version (Err stop) is within same told_version told = tt
+
+pub page_unshown : (g : Geometry) (image : Image) (row : ℕ) (before after : Option (List ℕ)) (p : Page) (look : PageLook) (version : Option ℕ) (r : Result (Unit {0}) CommandFault) → slice_get image row ≡ Some p → row < row_count g
+    → look ≡ look_of p → version ≡ version_of p → IfErr r (IsUnprinted (look_line version look) before after) → IfErr r (IsUnshown g image row before after)
+page_unshown g image row before after p look version (Ok done) is within same told_version un = tt
+page_unshown g image row before after p look version (Err (fault.Write path)) is within same told_version un =
+    let P : List ℕ → Type 0 = λ l. AppendsPart before after l in
+    (un.0, record { page = p; page_is = is; in_range = within; part = subst P (line_is p look version same told_version) un.1 })
+page_unshown g image row before after p look version (Err _) is within same told_version un = absurd un

@@ -27,12 +27,12 @@ use Rattle.ftl_device.specs.declared.fault.DeviceFault.TheVariants.{BusFault}
 use Rattle.page_layout.specs.Counter.{HasRisen}
 use Rattle.command_words.specs.declared.words.ServeWords.{ServeWords}
 use Rattle.commands.specs.declared.text.CommandFault.{CommandFault}
-use Rattle.commands.specs.Check.{IsWhole}
-use Rattle.commands.specs.Files.{Gives, Left, LeavesUntouched, with_store, written_file}
+use Rattle.commands.specs.Check.{HasImageLength}
+use Rattle.commands.specs.Files.{LoadAnswers, Left, LeavesUntouched, with_store, written_file}
 use Rattle.commands.specs.Lines.{IsUnprinted}
 use Rattle.commands.specs.Steady.{has_spared}
 use Rattle.commands.specs.Serve.{Driver, HasClaim, HasGivenBack, IsDieUnmade, bad_in, failures_of, flash_behind, recorded_of, driver_view}
-use Rattle.commands.specs.Migrate.{DoesMigrate, EndsShort, HasMigrated, IsSettled, IsUnbegun, IsUnmigratedDie, KeepsAll, MigratesDie, RenewsThenFlushes, StartsOver, migrated_line}
+use Rattle.commands.specs.Migrate.{DoesMigrate, EndsShort, HasMigrated, IsSettled, IsMigrationUnbegun, IsUnmigratedDie, KeepsAll, MigratesDie, RenewsThenFlushes, StartsOver, migrated_line}
 use Rattle.ftl_device.proofs.MountableLemmas.{restart_more}
 use Rattle.ftl_device.proofs.PinLemmas.{room_within}
 use Rattle.block_server.proofs.Checking.{accepted_for, closed_as, geometry_is, is_begun, well}
@@ -41,21 +41,21 @@ use Rattle.commands.proofs.FormatLemmas.{not_risen}
 use Rattle.commands.proofs.PassedLemmas.{none_failed}
 
 -- a step before a device was started ended it
-pub stops : (gives : Gives) (words : ServeWords) (before after : Left) (result : Result (Unit {0}) CommandFault) (stop : CommandFault)
-    → result ≡ Err stop → LeavesUntouched before after → IsUnbegun gives words stop → DoesMigrate gives words before after result
+pub stops : (gives : LoadAnswers) (words : ServeWords) (before after : Left) (result : Result (Unit {0}) CommandFault) (stop : CommandFault)
+    → result ≡ Err stop → LeavesUntouched before after → IsMigrationUnbegun gives words stop → DoesMigrate gives words before after result
 stops gives words before after result stop is leaves because =
     let P : Result (Unit {0}) CommandFault → Type 0 = λ r. DoesMigrate gives words before after r in
     subst P (sym is) (inl (leaves, because))
 
 -- the device's refusal or the store's did
-pub falls_short : (gives : Gives) (words : ServeWords) (before after : Left) (result : Result (Unit {0}) CommandFault) (stop : CommandFault) (image : List ℕ) (came : Result ℕ DeviceFault)
+pub falls_short : (gives : LoadAnswers) (words : ServeWords) (before after : Left) (result : Result (Unit {0}) CommandFault) (stop : CommandFault) (image : List ℕ) (came : Result ℕ DeviceFault)
     → result ≡ Err stop → HasMigrated gives words image came → EndsShort words.output.now image came before.stores after.stores stop → Keeps before.out after.out → DoesMigrate gives words before after result
 falls_short gives words before after result stop image came is has short keeps =
     let P : Result (Unit {0}) CommandFault → Type 0 = λ r. DoesMigrate gives words before after r in
     subst P (sym is) (inr (inl (image, came, has, short, keeps)))
 
 -- the printing, after all that came before it
-pub prints : (gives : Gives) (words : ServeWords) (before after : Left) (result : Result (Unit {0}) CommandFault) (image : List ℕ) (count : ℕ) (came : Result ℕ DeviceFault) → came ≡ Ok count
+pub prints : (gives : LoadAnswers) (words : ServeWords) (before after : Left) (result : Result (Unit {0}) CommandFault) (image : List ℕ) (count : ℕ) (came : Result ℕ DeviceFault) → came ≡ Ok count
     → HasMigrated gives words image came → after.stores ≡ with_store before.stores (written_file words.output.now image)
     → OnOk result (Appends before.out after.out (migrated_line count)) → IfErr result (IsUnprinted (migrated_line count) before.out after.out) → DoesMigrate gives words before after result
 prints gives words before after result image count came is has stored ok failed = go result ok failed
@@ -68,12 +68,12 @@ prints gives words before after result image count came is has stored ok failed 
     go (Err stop) told told_not = inr (inr (image, count, done, stored, told_not))
 
 -- an image of which no die was made, or none that was accepted and started
-pub no_device : {gives : Gives} {words : ServeWords} {g : Geometry} {capacity : ℕ} {bytes : List ℕ} {c : Claim} (stop : CommandFault) → HasClaim gives words g capacity bytes c
-    → IsDieUnmade g bytes stop ⊎ (IsWhole g bytes × IsUnmigratedDie g capacity c (loaded_flash g bytes (bad_in g c)) stop) → IsUnbegun gives words stop
+pub no_device : {gives : LoadAnswers} {words : ServeWords} {g : Geometry} {capacity : ℕ} {bytes : List ℕ} {c : Claim} (stop : CommandFault) → HasClaim gives words g capacity bytes c
+    → IsDieUnmade g bytes stop ⊎ (HasImageLength g bytes × IsUnmigratedDie g capacity c (loaded_flash g bytes (bad_in g c)) stop) → IsMigrationUnbegun gives words stop
 no_device {gives} {words} {g} {capacity} {bytes} {c} stop has why = inr (record { geometry = g; capacity = capacity; bytes = bytes; claim = c; has = has; unmigrated = why })
 
 -- one that was, and this is its image then
-pub has_migrated : {gives : Gives} {words : ServeWords} {g : Geometry} {capacity : ℕ} {bytes after : List ℕ} {c : Claim} {s : Flash} (image : List ℕ) (came : Result ℕ DeviceFault)
+pub has_migrated : {gives : LoadAnswers} {words : ServeWords} {g : Geometry} {capacity : ℕ} {bytes after : List ℕ} {c : Claim} {s : Flash} (image : List ℕ) (came : Result ℕ DeviceFault)
     → HasClaim gives words g capacity bytes c → s ≡ loaded_flash g bytes (bad_in g c) → image ≡ after → MigratesDie g capacity c s after came → HasMigrated gives words image came
 has_migrated {gives} {words} {g} {capacity} {bytes} {after} {c} {s} image came has held kept migrates = record {
   geometry = g;

@@ -14,7 +14,7 @@ use Rattle.page_layout.proofs.LiveLemmas.{length-keys}
 use Rattle.std.proofs.lemmas.List.Sums.{count_by-le-length}
 use Rattle.std.proofs.lemmas.Bool.Decides.{nat_tests}
 use Rattle.promises.specs.Step as step
-use Rattle.promises.specs.Step.{State, Reply, Command, QuietStep, Flush, Turn}
+use Rattle.promises.specs.Step.{ArrayState, Reply, Command, QuietStep, Flush, Turn}
 use Rattle.collection.specs.Safe.{image_in, ram}
 use Rattle.collection.proofs.Costs.{risen_over}
 use Rattle.collection.proofs.Logs.{went_same, went_then}
@@ -27,7 +27,7 @@ use Rattle.ftl_device.specs.Changes.{Upkeeps}
 use Rattle.ftl_device.specs.Brings.{HasBrought, BringsOne}
 use Rattle.ftl_device.specs.Migrate.{ended, HasMovedOn, Migrates}
 use Rattle.ftl_device.specs.Renewed.{Finishes, HasOldTablesOnly}
-use Rattle.commands.specs.Migrate.{CallsMigrate, HasRenewed, IsRenewedThenFlushed, IsSettled, KeepsAll, Renews}
+use Rattle.commands.specs.Migrate.{CallsMigrate, HasRenewed, IsRenewedThenFlushed, IsSettled, KeepsAll, RenewsInCalls}
 
 -- ---- how many calls there are
 
@@ -41,7 +41,7 @@ has_room g roomy = ap (λ b. if b then 2 else 1) (let large : nat_le 40 g.spare_
 
 -- ---- one call
 
-quiet_array : (old new : State) (reply : Reply) → QuietStep old reply new → new.array ≡ old.array
+quiet_array : (old new : ArrayState) (reply : Reply) → QuietStep old reply new → new.array ≡ old.array
 quiet_array old new step.Done is = is.array_is
 quiet_array old new step.ReadOnly is = is.array_is
 quiet_array old new step.SequenceSpent is = is.array_is
@@ -88,7 +88,7 @@ module _ {N : Type 0} (view : View N) where
     pub sized : new.engine.geometry ≡ g
     pub still : view.honest new.engine.nand ≡ true
     pub le : view.failed old.engine.nand ≤ view.failed new.engine.nand
-    pub renews : Renews view count old new
+    pub renews : RenewsInCalls view count old new
     pub keeps : KeepsAll view old new
     pub left : count + old_pages g (image_in view.flash new.engine) ≤ key_count g
 
@@ -141,7 +141,7 @@ module _ {N : Type 0} (view : View N) where
         sized = sized ∙ going.sized;
         still = its.upkeeps.stays.honest_is ∙ going.still;
         le = omega (arith, going.le, its.upkeeps.stays.failed_is);
-        renews = subst (λ n. Renews view n old new) one_more (mid, going.renews, its);
+        renews = subst (λ n. RenewsInCalls view n old new) one_more (mid, going.renews, its);
         keeps = keeps_then old mid new (same_size g old mid count going) going.keeps (turn_keeps mid new (Ok tt) going.still going.keeps.well (λ is. (let never : ⊥ = cc in never)) its.upkeeps);
         left = omega (arith, going.left, fewer);
       }

@@ -9,19 +9,19 @@ use Rattle.page_layout.specs.declared.geometry.Geometry.{Geometry}
 use Rattle.page_layout.specs.Counter.{counted}
 use Rattle.page_layout.specs.Page.{Page}
 use Rattle.page_layout.specs.Raw.{raw_image}
-use Rattle.page_layout.specs.Flash.{Flash, Operation, Program, Erase, TurnState, no_turn, turn_at, may_program, may_erase, after, after_program, after_erase, Steps, Leads}
+use Rattle.page_layout.specs.Flash.{Flash, Operation, Program, Erase, NextState, no_next_page, next_page_at, may_program, may_erase, after, after_program, after_erase, Steps, Leads}
 use Rattle.page_layout.specs.StepLaws.{MovesTurn}
 use Rattle.page_layout.proofs.FlashLemmas.{program_fair, erase_fair}
-use Rattle.page_layout.proofs.TurnLemmas.{program_turn, program_count, erase_turn, erase_count}
+use Rattle.page_layout.proofs.NextPageLemmas.{program_next, program_count, erase_next, erase_count}
 use Rattle.promises.specs.Log.{block_of}
-use Rattle.promises.specs.Legal.{account_at, Account, accounts_of, accounted, noted, IsDue, LegalFrom, IsLegal}
+use Rattle.promises.specs.Legal.{account_at, Account, accounts_of, accounted, account_after, IsDue, LegalFrom, IsLegal}
 use Rattle.promises.proofs.AccountLemmas.{account_of, length-accounts_of, accounted-same, accounted-other, due_good}
 use Rattle.onfi_cycles.specs.Cycles.{Cycle, Command, Address, DataIn, DataOut, Due, Moves, Resets, Programs, Erases, Refuses}
 use Rattle.nand_die.specs.declared.fault.Fault.{Fault}
 use Rattle.nand_die.specs.ChipValue.{ChipValue, answered, program_passes, erase_passes, program_left, erase_left}
 use Rattle.nand_die.specs.DieValue.{DieValue, after_command, after_cycle, after_quiet, before_reset, chip_of, die_of, done_as, due_now, failed_as, is_calm, stops}
 use Rattle.nand_die.specs.Stopping.{is_change, left_by_stop}
-use Rattle.nand_die.specs.Made.{first_turn, is_named, loaded_flash, next_in}
+use Rattle.nand_die.specs.Made.{first_next_page, is_named, loaded_flash, next_in}
 use Rattle.nand_die.proofs.StopLemmas.{calm_stops}
 use Rattle.mount.specs.Log.{failures}
 use Rattle.commands.specs.Steady.{is_spared, has_spared, is_steady}
@@ -34,25 +34,25 @@ or_keeps : (a b c : Bool) → (a || b) ≡ true → (b ≡ true → c ≡ true) 
 or_keeps true b c h keeps = refl
 or_keeps false b c h keeps = keeps h
 
-spared_set : (turns : List TurnState) (at : ℕ) (turn : TurnState) → is_spared turn ≡ true → list_all is_spared turns ≡ true → list_all is_spared (slice_set turns at turn) ≡ true
-spared_set [] at turn one all = refl
-spared_set (t ∷ turns) zero turn one all =
-    let rest : list_all is_spared turns ≡ true = (and_parts (is_spared t) (list_all is_spared turns) all).1 in
+spared_set : (next_pages : List NextState) (at : ℕ) (next_page : NextState) → is_spared next_page ≡ true → list_all is_spared next_pages ≡ true → list_all is_spared (slice_set next_pages at next_page) ≡ true
+spared_set [] at next_page one all = refl
+spared_set (t ∷ next_pages) zero next_page one all =
+    let rest : list_all is_spared next_pages ≡ true = (and_parts (is_spared t) (list_all is_spared next_pages) all).1 in
     λ i. (one i) && (rest i)
-spared_set (t ∷ turns) (suc at) turn one all =
-    let parts = and_parts (is_spared t) (list_all is_spared turns) all in
+spared_set (t ∷ next_pages) (suc at) next_page one all =
+    let parts = and_parts (is_spared t) (list_all is_spared next_pages) all in
     let first : is_spared t ≡ true = parts.0 in
-    let rest : list_all is_spared (slice_set turns at turn) ≡ true = spared_set turns at turn one parts.1 in
+    let rest : list_all is_spared (slice_set next_pages at next_page) ≡ true = spared_set next_pages at next_page one parts.1 in
     λ i. (first i) && (rest i)
 
 counted_some : (n : ℕ) → (counted n == 0) ≡ false
 counted_some n = ne_eqb (counted n) 0 (λ e. omega (arith, e))
 
 -- one that was not due is counted as such, and one that was leaves its block as it should
-one_spared : (abuse : ℕ) (turns : List TurnState) (at : ℕ) (turn : TurnState) (may : Bool) → (may ≡ true → is_spared turn ≡ true) → (not (abuse == 0) || list_all is_spared turns) ≡ true
-    → (not ((if may then abuse else counted abuse) == 0) || list_all is_spared (slice_set turns at turn)) ≡ true
-one_spared abuse turns at turn true one h = or_keeps (not (abuse == 0)) (list_all is_spared turns) (list_all is_spared (slice_set turns at turn)) h (spared_set turns at turn (one refl))
-one_spared abuse turns at turn false one h = ap (λ b. not b || list_all is_spared (slice_set turns at turn)) (counted_some abuse)
+one_spared : (abuse : ℕ) (next_pages : List NextState) (at : ℕ) (next_page : NextState) (may : Bool) → (may ≡ true → is_spared next_page ≡ true) → (not (abuse == 0) || list_all is_spared next_pages) ≡ true
+    → (not ((if may then abuse else counted abuse) == 0) || list_all is_spared (slice_set next_pages at next_page)) ≡ true
+one_spared abuse next_pages at next_page true one h = or_keeps (not (abuse == 0)) (list_all is_spared next_pages) (list_all is_spared (slice_set next_pages at next_page)) h (spared_set next_pages at next_page (one refl))
+one_spared abuse next_pages at next_page false one h = ap (λ b. not b || list_all is_spared (slice_set next_pages at next_page)) (counted_some abuse)
 
 -- an operation that was due and passes leaves its block good
 open_spared : (was may passed asked : Bool) → (may ≡ true → was ≡ false) → passed ≡ may → may ≡ true → (not (was || (may && not passed)) || asked) ≡ true
@@ -64,20 +64,20 @@ unfolding after
 program_spared c row page none h =
     let s = c.state.flash in
     let at = row / s.geometry.pages in
-    let was = turn_at s at in
+    let was = next_page_at s at in
     let may = may_program s row in
     let left = after_program was may (program_passes c row) in
-    one_spared s.abuse s.turns at left may
+    one_spared s.abuse s.next_pages at left may
     (open_spared was.barred may (program_passes c row) ((left.programs == 0) && (left.erases == 0)) (λ due. not-true was.barred (and_parts (not was.barred) (was.next == row % s.geometry.pages) due).0) (passes c may none)) h
 
 erase_spared : (c : ChipValue) (block : ℕ) → c.faults ≡ [] → has_spared c.state.flash ≡ true → has_spared (after c.state.flash (Erase block (erase_passes c block) (erase_left c block))) ≡ true
 unfolding after
 erase_spared c block none h =
     let s = c.state.flash in
-    let was = turn_at s block in
+    let was = next_page_at s block in
     let may = may_erase s block in
     let left = after_erase was may (erase_passes c block) in
-    one_spared s.abuse s.turns block left may
+    one_spared s.abuse s.next_pages block left may
     (open_spared was.barred may (erase_passes c block) ((left.programs == 0) && (left.erases == 0)) (λ due. not-true was.barred due) (passes c may none)) h
 
 -- ---- after a cycle
@@ -142,11 +142,11 @@ spared_first : (bad : Bool) → (not bad || true) ≡ true
 spared_first true = refl
 spared_first false = refl
 
-all_first : (next : ℕ → ℕ) (names blocks : List ℕ) → list_all is_spared (map (λ block. first_turn (next block) (is_named names block)) blocks) ≡ true
+all_first : (next : ℕ → ℕ) (names blocks : List ℕ) → list_all is_spared (map (λ block. first_next_page (next block) (is_named names block)) blocks) ≡ true
 all_first next names [] = refl
 all_first next names (block ∷ blocks) =
-    let first : is_spared (first_turn (next block) (is_named names block)) ≡ true = spared_first (is_named names block) in
-    let rest : list_all is_spared (map (λ b. first_turn (next b) (is_named names b)) blocks) ≡ true = all_first next names blocks in
+    let first : is_spared (first_next_page (next block) (is_named names block)) ≡ true = spared_first (is_named names block) in
+    let rest : list_all is_spared (map (λ b. first_next_page (next b) (is_named names b)) blocks) ≡ true = all_first next names blocks in
     λ i. (first i) && (rest i)
 
 pub loaded_steady : (g : Geometry) (bytes names : List ℕ) (d : DieValue) → d ≡ before_reset (loaded_flash g bytes names) → is_steady d ≡ true
@@ -156,7 +156,7 @@ loaded_steady g bytes names d is = ap is_steady is ∙ all_first (next_in g (raw
 
 -- after an operation that failed die and accounts agree again: its block is barred by both
 agrees_failed : (old new : Flash) (op : Operation) (accounts : List Account) (next : ℕ) (due passed : Bool) → MovesTurn old new (block_of old.geometry.pages op) next due passed
-    → Agree old accounts → IsDue old.geometry.pages accounts op → (noted (account_at accounts (block_of old.geometry.pages op)) op).barred ≡ true → Agree new (accounted old.geometry.pages accounts op)
+    → Agree old accounts → IsDue old.geometry.pages accounts op → (account_after (account_at accounts (block_of old.geometry.pages op)) op).barred ≡ true → Agree new (accounted old.geometry.pages accounts op)
 agrees_failed old new op accounts next due passed moved agree asked shut b good =
     let pages = old.geometry.pages in
     let at = block_of pages op in
@@ -171,10 +171,10 @@ agrees_failed old new op accounts next due passed moved agree asked shut b good 
 agree_on : (s mid : Flash) (accounts : List Account) (op : Operation) → Agree s accounts → IsDue s.geometry.pages accounts op → Steps s op mid → Agree mid (accounted s.geometry.pages accounts op)
 agree_on s mid accounts (Program row page true left) agree due steps =
     let next_is = ap (λ n. n + 1) (sym (agree _ due.good).1) in
-    agrees s mid (Program row page true left) accounts _ _ true (program_turn s mid row page true left steps) (due_program s accounts row page left true agree due) refl agree due next_is
-agree_on s mid accounts (Program row page false left) agree due steps = agrees_failed s mid (Program row page false left) accounts _ _ false (program_turn s mid row page false left steps) agree due refl
-agree_on s mid accounts (Erase block true left) agree due steps = agrees s mid (Erase block true left) accounts 0 _ true (erase_turn s mid block true left steps) (due_erase s accounts block true left agree due) refl agree due refl
-agree_on s mid accounts (Erase block false left) agree due steps = agrees_failed s mid (Erase block false left) accounts 0 _ false (erase_turn s mid block false left steps) agree due refl
+    agrees s mid (Program row page true left) accounts _ _ true (program_next s mid row page true left steps) (due_program s accounts row page left true agree due) refl agree due next_is
+agree_on s mid accounts (Program row page false left) agree due steps = agrees_failed s mid (Program row page false left) accounts _ _ false (program_next s mid row page false left steps) agree due refl
+agree_on s mid accounts (Erase block true left) agree due steps = agrees s mid (Erase block true left) accounts 0 _ true (erase_next s mid block true left steps) (due_erase s accounts block true left agree due) refl agree due refl
+agree_on s mid accounts (Erase block false left) agree due steps = agrees_failed s mid (Erase block false left) accounts 0 _ false (erase_next s mid block false left steps) agree due refl
 
 -- nothing of it is abuse
 one_fair : (s mid : Flash) (accounts : List Account) (op : Operation) → Agree s accounts → IsDue s.geometry.pages accounts op → Steps s op mid → mid.abuse ≡ s.abuse
@@ -192,21 +192,21 @@ all_fair s new pages accounts (op ∷ log) is agree (due, legal) (mid, steps, re
 
 -- it is barred, and was asked for something
 record IsStruck (s : Flash) (b : ℕ) : Type 0 where
-  pub barred : (turn_at s b).barred ≡ true
-  pub some : 0 < (turn_at s b).programs + (turn_at s b).erases
+  pub barred : (next_page_at s b).barred ≡ true
+  pub some : 0 < (next_page_at s b).programs + (next_page_at s b).erases
 
-struck_within : (s : Flash) (b : ℕ) → IsStruck s b → b < length s.turns
-struck_within s b h = elim (cases_lt b (length s.turns)) [
+struck_within : (s : Flash) (b : ℕ) → IsStruck s b → b < length s.next_pages
+struck_within s b h = elim (cases_lt b (length s.next_pages)) [
   | inl lt ↦ lt
   | inr ge ↦
-      let past : turn_at s b ≡ no_turn = get_or_past s.turns b no_turn ge in
-      absurd (omega (arith, h.some, ap (λ (t : TurnState). t.programs + t.erases) past))
+      let past : next_page_at s b ≡ no_next_page = get_or_past s.next_pages b no_next_page ge in
+      absurd (omega (arith, h.some, ap (λ (t : NextState). t.programs + t.erases) past))
 ]
 
-open_within : (s : Flash) (b : ℕ) → (turn_at s b).barred ≡ false → b < length s.turns
-open_within s b good = elim (cases_lt b (length s.turns)) [
+open_within : (s : Flash) (b : ℕ) → (next_page_at s b).barred ≡ false → b < length s.next_pages
+open_within s b good = elim (cases_lt b (length s.next_pages)) [
   | inl lt ↦ lt
-  | inr ge ↦ let past : true ≡ false = ap (λ (t : TurnState). t.barred) (sym (get_or_past s.turns b no_turn ge)) ∙ good in absurd (let never : ⊥ = cc in never)
+  | inr ge ↦ let past : true ≡ false = ap (λ (t : NextState). t.barred) (sym (get_or_past s.next_pages b no_next_page ge)) ∙ good in absurd (let never : ⊥ = cc in never)
 ]
 
 -- it stays so
@@ -217,11 +217,11 @@ struck_step old new (Program row page passed left) b steps h =
       barred = barred_step old new (Program row page passed left) b steps h.barred;
       some = elim (cases_eq b at) [
         | inl e ↦
-            let counts = program_count old new row page passed left (subst (λ k. k < length old.turns) e (struck_within old b h)) steps in
-            subst (λ k. 0 < (turn_at new k).programs + (turn_at new k).erases) (sym e) (omega (arith, counts.programs))
+            let counts = program_count old new row page passed left (subst (λ k. k < length old.next_pages) e (struck_within old b h)) steps in
+            subst (λ k. 0 < (next_page_at new k).programs + (next_page_at new k).erases) (sym e) (omega (arith, counts.programs))
         | inr ne ↦
-            let same = (program_turn old new row page passed left steps).others b ne in
-            subst (λ (t : TurnState). 0 < t.programs + t.erases) (sym same) h.some
+            let same = (program_next old new row page passed left steps).others b ne in
+            subst (λ (t : NextState). 0 < t.programs + t.erases) (sym same) h.some
       ];
     }
 struck_step old new (Erase block passed left) b steps h = record {
@@ -229,10 +229,10 @@ struck_step old new (Erase block passed left) b steps h = record {
   some = elim (cases_eq b block) [
     | inl e ↦
         let counts = erase_count old new block passed left steps in
-        subst (λ k. 0 < (turn_at new k).programs + (turn_at new k).erases) (sym e) (omega (arith, counts.erases))
+        subst (λ k. 0 < (next_page_at new k).programs + (next_page_at new k).erases) (sym e) (omega (arith, counts.erases))
     | inr ne ↦
-        let same = (erase_turn old new block passed left steps).others b ne in
-        subst (λ (t : TurnState). 0 < t.programs + t.erases) (sym same) h.some
+        let same = (erase_next old new block passed left steps).others b ne in
+        subst (λ (t : NextState). 0 < t.programs + t.erases) (sym same) h.some
   ];
 }
 
@@ -246,12 +246,12 @@ one_struck s mid new accounts (Program row page true left) log agree due steps r
 one_struck s mid new accounts (Program row page false left) log agree due steps rest none onward =
     let at = row / s.geometry.pages in
     let counts = program_count s mid row page false left (open_within s at (agree at due.good).0) steps in
-    let here : IsStruck mid at = record { barred = (program_turn s mid row page false left steps).fails_barred (due_program s accounts row page left false agree due) refl; some = omega (arith, counts.programs) } in
+    let here : IsStruck mid at = record { barred = (program_next s mid row page false left steps).fails_barred (due_program s accounts row page left false agree due) refl; some = omega (arith, counts.programs) } in
     absurd (none at (stays_struck mid new log at here rest))
 one_struck s mid new accounts (Erase block true left) log agree due steps rest none onward = onward
 one_struck s mid new accounts (Erase block false left) log agree due steps rest none onward =
     let counts = erase_count s mid block false left steps in
-    let here : IsStruck mid block = record { barred = (erase_turn s mid block false left steps).fails_barred (due_erase s accounts block false left agree due) refl; some = omega (arith, counts.erases) } in
+    let here : IsStruck mid block = record { barred = (erase_next s mid block false left steps).fails_barred (due_erase s accounts block false left agree due) refl; some = omega (arith, counts.erases) } in
     absurd (none block (stays_struck mid new log block here rest))
 
 none_struck : (s new : Flash) (pages : ℕ) (accounts : List Account) (log : List Operation) → s.geometry.pages ≡ pages → Agree s accounts → LegalFrom pages accounts log → Leads s log new
@@ -264,10 +264,10 @@ none_struck s new pages accounts (op ∷ log) is agree (due, legal) (mid, steps,
 
 -- ---- a die that has failed nothing
 
-spared_at : (turns : List TurnState) (b : ℕ) → list_all is_spared turns ≡ true → is_spared (get_or turns b no_turn) ≡ true
+spared_at : (next_pages : List NextState) (b : ℕ) → list_all is_spared next_pages ≡ true → is_spared (get_or next_pages b no_next_page) ≡ true
 spared_at [] b all = refl
-spared_at (t ∷ turns) zero all = (and_parts (is_spared t) (list_all is_spared turns) all).0
-spared_at (t ∷ turns) (suc b) all = spared_at turns b (and_parts (is_spared t) (list_all is_spared turns) all).1
+spared_at (t ∷ next_pages) zero all = (and_parts (is_spared t) (list_all is_spared next_pages) all).0
+spared_at (t ∷ next_pages) (suc b) all = spared_at next_pages b (and_parts (is_spared t) (list_all is_spared next_pages) all).1
 
 struck_spared : (barred : Bool) (programs erases : ℕ) → (not barred || ((programs == 0) && (erases == 0))) ≡ true → barred ≡ true → 0 < programs + erases → ⊥
 struck_spared true programs erases spared is some =
@@ -277,9 +277,9 @@ struck_spared false programs erases spared is some = (let no : ⊥ = cc in no)
 
 spared_none : (s : Flash) → s.abuse ≡ 0 → has_spared s ≡ true → (b : ℕ) → IsStruck s b → ⊥
 spared_none s fair spared b h =
-    let all : list_all is_spared s.turns ≡ true = subst (λ n. (not (n == 0) || list_all is_spared s.turns) ≡ true) fair spared in
-    let t = turn_at s b in
-    struck_spared t.barred t.programs t.erases (spared_at s.turns b all) h.barred h.some
+    let all : list_all is_spared s.next_pages ≡ true = subst (λ n. (not (n == 0) || list_all is_spared s.next_pages) ≡ true) fair spared in
+    let t = next_page_at s b in
+    struck_spared t.barred t.programs t.erases (spared_at s.next_pages b all) h.barred h.some
 
 named_false : (named bad : Bool) → (named ≡ true → bad ≡ true) → bad ≡ false → named ≡ false
 named_false false bad is good = refl
@@ -289,11 +289,11 @@ loaded_agree : (g : Geometry) (bytes names : List ℕ) (bad : ℕ → Bool) → 
 loaded_agree g bytes names bad named b good =
     let image = raw_image g bytes in
     let lt : b < g.blocks = subst (λ n. b < n) (length-accounts_of g image bad) (within (accounts_of g image bad) b good) in
-    let turn : turn_at (loaded_flash g bytes names) b ≡ first_turn (next_in g image b) (is_named names b) =
-    get_or-map-range_with_len (λ block. first_turn (next_in g image block) (is_named names block)) 0 g.blocks b b no_turn lt (omega arith) in
+    let next_page : next_page_at (loaded_flash g bytes names) b ≡ first_next_page (next_in g image b) (is_named names b) =
+    get_or-map-range_with_len (λ block. first_next_page (next_in g image block) (is_named names block)) 0 g.blocks b b no_next_page lt (omega arith) in
     let kept : bad b ≡ false = ap (λ (a : Account). a.barred) (sym (account_of g image bad b lt)) ∙ good in (
-      ap (λ (t : TurnState). t.barred) turn ∙ named_false (is_named names b) (bad b) (named b) kept,
-      ap (λ (t : TurnState). t.next) turn ∙ ap (λ (a : Account). a.next) (sym (account_of g image bad b lt)),
+      ap (λ (t : NextState). t.barred) next_page ∙ named_false (is_named names b) (bad b) (named b) kept,
+      ap (λ (t : NextState). t.next) next_page ∙ ap (λ (a : Account). a.next) (sym (account_of g image bad b lt)),
     )
 
 -- no operation of a legal log failed

@@ -27,9 +27,9 @@ use Rattle.image_check.specs.declared.refusal.Refusal.TheVariants as refusals
 use Rattle.command_words.specs.declared.words.ServeWords.{ServeWords}
 use Rattle.commands.specs.declared.text.CommandFault.{CommandFault}
 use Rattle.commands.specs.declared.text.CommandFault.TheVariants as fault
-use Rattle.commands.specs.Check.{IsWhole}
-use Rattle.commands.specs.Files.{Gives, Left, LeavesUntouched}
-use Rattle.commands.specs.Serve.{Driver, flash_behind, failures_of, bad_in, stop_in, DoesServe, EndsServing, HasClaim, HasGivenBack, HasServedImage, HasServed, IsUnserved, IsUnservedDie, IsServeUnstarted, ServesDie, IsDieUnmade, driver_view}
+use Rattle.commands.specs.Check.{HasImageLength}
+use Rattle.commands.specs.Files.{LoadAnswers, Left, LeavesUntouched}
+use Rattle.commands.specs.Serve.{Driver, flash_behind, failures_of, bad_in, stop_in, DoesServe, EndsServing, HasClaim, HasGivenBack, HasServedImage, HasServedDie, IsUnserved, IsUnservedDie, IsServeUnstarted, ServesDie, IsDieUnmade, driver_view}
 use Rattle.commands.specs.Steady.{has_spared}
 use Rattle.commands.proofs.BadLemmas.{named_bad}
 use Rattle.commands.proofs.PassedLemmas.{none_failed}
@@ -49,7 +49,7 @@ passed_in g before c s t ro pinned events first begins run legal loaded spared =
     (subst (λ (f : Flash). IsLegal g f.image (is_bad_in c) (log_of events)) loaded legal) (subst (λ (f : Flash). Leads f (log_of events) t) (begins ∙ loaded) leads)
 
 pub die_served : (nand given : Driver) (g : Geometry) (capacity : ℕ) (c : Claim) (u v b w : Option (List ℕ)) (result : Result Served ServeFault) (how : Option ServeStop) (after : List ℕ)
-    → IsServed driver_view nand g 0 capacity c u v b w result given → how ≡ stop_in result → HasGivenBack given after → HasServed g capacity c (flash_behind nand) after u v b w how
+    → IsServed driver_view nand g 0 capacity c u v b w result given → how ≡ stop_in result → HasGivenBack given after → HasServedDie g capacity c (flash_behind nand) after u v b w how
 die_served nand given g capacity c u v b w result how after s how_is back =
     let known : AreKnown s.exchanges = all_known s.exchanges (failures_of nand) (failures_of given) (failures_of given) s.rose (omega arith) back.none in
     let there : flash_behind given ≡ flash_behind s.last.engine.nand = ap flash_behind s.given_is in
@@ -87,7 +87,7 @@ read_through g capacity image c r was now (inr wrong) rose none = inr wrong
 -- ---- the command
 
 -- a step before the run ended it
-pub stops : (gives : Gives) (words : ServeWords) (unread left : Option (List ℕ)) (before after : Left) (result : Result (Unit {0}) CommandFault) (stop : CommandFault)
+pub stops : (gives : LoadAnswers) (words : ServeWords) (unread left : Option (List ℕ)) (before after : Left) (result : Result (Unit {0}) CommandFault) (stop : CommandFault)
     → result ≡ Err stop → LeavesUntouched before after → Keeps unread left → IsServeUnstarted gives words stop → DoesServe gives words unread left before after result
 stops gives words unread left before after result stop is leaves keeps because =
     let P : Result (Unit {0}) CommandFault → Type 0 = λ r. DoesServe gives words unread left before after r in
@@ -100,7 +100,7 @@ undied g capacity bytes c (fault.Die broken) unmade = unmade
 undied g capacity bytes c _ unmade = absurd unmade
 
 -- a die of a whole image that was not served
-pub unserved : (g : Geometry) (capacity : ℕ) (bytes : List ℕ) (c : Claim) (s : Flash) (stop : CommandFault) → IsWhole g bytes → s ≡ loaded_flash g bytes (bad_in g c)
+pub unserved : (g : Geometry) (capacity : ℕ) (bytes : List ℕ) (c : Claim) (s : Flash) (stop : CommandFault) → HasImageLength g bytes → s ≡ loaded_flash g bytes (bad_in g c)
     → IsUnservedDie g capacity c s stop → IsUnserved g capacity bytes c stop
 unserved g capacity bytes c s (fault.Check refusal) whole same (inl memory) = (whole, inl memory)
 unserved g capacity bytes c s (fault.Check refusal) whole same (inr wrong) = (whole, inr (subst (λ (f : Flash). IsFirstWrong g capacity f.image c refusal) same wrong))
@@ -108,14 +108,14 @@ unserved g capacity bytes c s fault.Start whole same agrees = (whole, subst (λ 
 unserved g capacity bytes c s _ whole same h = absurd h
 
 -- so what is claimed of it was not served
-pub not_served : {gives : Gives} {words : ServeWords} {g : Geometry} {capacity : ℕ} {bytes : List ℕ} {c : Claim} (stop : CommandFault) → HasClaim gives words g capacity bytes c
+pub not_served : {gives : LoadAnswers} {words : ServeWords} {g : Geometry} {capacity : ℕ} {bytes : List ℕ} {c : Claim} (stop : CommandFault) → HasClaim gives words g capacity bytes c
     → IsUnserved g capacity bytes c stop → IsServeUnstarted gives words stop
 not_served {gives} {words} {g} {capacity} {bytes} {c} stop has why = inr (record { geometry = g; capacity = capacity; bytes = bytes; claim = c; has = has; unserved = why })
 
 -- one that was, and then the image was stored, or not
-pub served_does : (gives : Gives) (words : ServeWords) (unread left : Option (List ℕ)) (before after : Left) (result : Result (Unit {0}) CommandFault)
+pub served_does : (gives : LoadAnswers) (words : ServeWords) (unread left : Option (List ℕ)) (before after : Left) (result : Result (Unit {0}) CommandFault)
     (g : Geometry) (capacity : ℕ) (bytes image : List ℕ) (c : Claim) (s : Flash) (how : Option ServeStop)
-    → HasClaim gives words g capacity bytes c → s ≡ loaded_flash g bytes (bad_in g c) → HasServed g capacity c s image unread left before.out after.out how
+    → HasClaim gives words g capacity bytes c → s ≡ loaded_flash g bytes (bad_in g c) → HasServedDie g capacity c s image unread left before.out after.out how
     → EndsServing words.output.now image how before.stores after.stores result → DoesServe gives words unread left before after result
 served_does gives words unread left before after result g capacity bytes image c s how has same served ends = does result (record {
   geometry = g;

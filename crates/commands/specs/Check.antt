@@ -16,9 +16,9 @@ use Rattle.program_words.specs.declared.numbers.GeometryNumbers.{GeometryNumbers
 use Rattle.commands.specs.declared.text.CommandFault.{CommandFault}
 use Rattle.commands.specs.declared.text.CommandFault.TheVariants as fault
 use Rattle.command_words.specs.declared.words.CertificateWords.{CertificateWords}
-use Rattle.commands.specs.Files.{Gives, IsOpened}
+use Rattle.commands.specs.Files.{LoadAnswers, IsOpened}
 use Rattle.commands.specs.Lines.{IsUnprinted}
-use Rattle.commands.specs.Inputs.{IsUnread}
+use Rattle.commands.specs.Inputs.{TellsUnread}
 use Rattle.program_words.specs.Numbers.{SpellsGeometry, number_of}
 
 -- the words are numbers, those of a geometry and of a capacity
@@ -45,34 +45,34 @@ IsUnasked words _ = ⊥
 
 -- and the image's file was opened, of which these bytes are known, and the certificate's read; `gives` tells what a load of a path may
 -- answer, and `tells` that the reader's bytes are known
-pub record HasFiles (gives : Gives) (tells : Bool) (words : CertificateWords) (g : Geometry) (capacity : ℕ) (known : Option (List ℕ)) (written : List ℕ) : Type 0 where
+pub record HasFiles (gives : LoadAnswers) (tells : Bool) (words : CertificateWords) (g : Geometry) (capacity : ℕ) (known : Option (List ℕ)) (written : List ℕ) : Type 0 where
   pub asked : AsksForCapacity words g capacity
   pub image : IsOpened gives tells words.image.now known
   pub certificate : gives words.certificate.now (Ok written)
 
 -- the bytes are those of this claim
-pub record IsSpelled (c : Claim) (written : List ℕ) : Type 0 where
+pub record IsClaimSpelled (c : Claim) (written : List ℕ) : Type 0 where
   pub fits : Fits c
   pub spelled : certificate_bytes c ≡ written
 
 -- the fault is the first that stands in the bytes of a certificate
 abbrev pub IsNoCertificate : List ℕ → CommandFault → Type 0
-IsNoCertificate written (fault.Certificate broken) = certificate.IsFirstFault written broken
+IsNoCertificate written (fault.Certificate broken) = certificate.IsFirstCertificateFault written broken
 IsNoCertificate written _ = ⊥
 
 -- the path's file was read, and its bytes are those of this claim
-pub record HoldsClaim (gives : Gives) (path : List ℕ) (c : Claim) : Type 0 where
+pub record HoldsClaim (gives : LoadAnswers) (path : List ℕ) (c : Claim) : Type 0 where
   pub written : List ℕ
   pub given : gives path (Ok written)
-  pub spelled : IsSpelled c written
+  pub spelled : IsClaimSpelled c written
 
 -- it was not, or its bytes are no certificate
-abbrev pub HoldsNoClaim : Gives → List ℕ → CommandFault → Type 0
-HoldsNoClaim gives path stop = IsUnread gives path stop ⊎ ((written : List ℕ) × gives path (Ok written) × IsNoCertificate written stop)
+abbrev pub HoldsNoClaim : LoadAnswers → List ℕ → CommandFault → Type 0
+HoldsNoClaim gives path stop = TellsUnread gives path stop ⊎ ((written : List ℕ) × gives path (Ok written) × IsNoCertificate written stop)
 
 -- as many bytes as the die's pages have
-abbrev pub IsWhole : Geometry → List ℕ → Type 0
-IsWhole g bytes = length bytes ≡ row_count g * page_bytes g
+abbrev pub HasImageLength : Geometry → List ℕ → Type 0
+HasImageLength g bytes = length bytes ≡ row_count g * page_bytes g
 
 -- how a refusal of the image of this path is told: its length and its reads of the file, all else of the check
 abbrev pub IsToldAs : Refusal → List ℕ → CommandFault → Type 0
@@ -89,7 +89,7 @@ pub record DiffersAs (g : Geometry) (capacity : ℕ) (c : Claim) (refusal : Refu
 -- Why the certificate was not found to agree with an image, of whose file the path and the known bytes are these. Of a certificate of another
 -- geometry or another capacity that is told, and not what its image's file came to.
 abbrev pub IsUnheld : Geometry → ℕ → List ℕ → Option (List ℕ) → Claim → CommandFault → Type 0
-IsUnheld g capacity path known c fault.WrongLength = IsAsked g capacity c × IfSome known (λ bytes. ¬ IsWhole g bytes)
+IsUnheld g capacity path known c fault.WrongLength = IsAsked g capacity c × IfSome known (λ bytes. ¬ HasImageLength g bytes)
 IsUnheld g capacity path known c (fault.Read at) = IsAsked g capacity c × (at.now ≡ path)
 IsUnheld g capacity path known c (fault.Check refusal) = DiffersAs g capacity c refusal
     × ((refusal ≡ refusals.OutOfMemory) ⊎ IfSome known (λ bytes. IsFirstWrong g capacity (raw_image g bytes) c refusal))
@@ -97,7 +97,7 @@ IsUnheld g capacity path known c _ = ⊥
 
 -- the image is whole, and the certificate agrees with it
 pub record IsHeld (g : Geometry) (capacity : ℕ) (bytes : List ℕ) (c : Claim) : Type 0 where
-  pub whole : IsWhole g bytes
+  pub whole : HasImageLength g bytes
   pub agrees : Agrees g capacity (raw_image g bytes) c
 
 -- the certificate is of the geometry and the capacity, and so it is with the image that the file's bytes are, as far as these are known
@@ -123,23 +123,23 @@ IsOutputKept _ before after = Keeps before after
 -- ---- the command
 
 -- the words ask for a check, and the image's file was not opened
-pub record IsImageUnopened (gives : Gives) (words : CertificateWords) (stop : CommandFault) : Type 0 where
+pub record IsImageUnopened (gives : LoadAnswers) (words : CertificateWords) (stop : CommandFault) : Type 0 where
   pub geometry : Geometry
   pub capacity : ℕ
   pub asked : AsksForCapacity words geometry capacity
-  pub unread : IsUnread gives words.image.now stop
+  pub unread : TellsUnread gives words.image.now stop
 
 -- the image's file was opened, and the certificate's was not read
-pub record LacksCertificate (gives : Gives) (tells : Bool) (words : CertificateWords) (stop : CommandFault) : Type 0 where
+pub record LacksCertificate (gives : LoadAnswers) (tells : Bool) (words : CertificateWords) (stop : CommandFault) : Type 0 where
   pub geometry : Geometry
   pub capacity : ℕ
   pub known : Option (List ℕ)
   pub asked : AsksForCapacity words geometry capacity
   pub image : IsOpened gives tells words.image.now known
-  pub unread : IsUnread gives words.certificate.now stop
+  pub unread : TellsUnread gives words.certificate.now stop
 
 -- both were, and the bytes of the second are no certificate
-pub record HasNoCertificate (gives : Gives) (tells : Bool) (words : CertificateWords) (stop : CommandFault) : Type 0 where
+pub record HasNoCertificate (gives : LoadAnswers) (tells : Bool) (words : CertificateWords) (stop : CommandFault) : Type 0 where
   pub geometry : Geometry
   pub capacity : ℕ
   pub known : Option (List ℕ)
@@ -148,35 +148,35 @@ pub record HasNoCertificate (gives : Gives) (tells : Bool) (words : CertificateW
   pub broken : IsNoCertificate written stop
 
 -- both were, and this is the certificate
-pub record HasCertificate (gives : Gives) (tells : Bool) (words : CertificateWords) : Type 0 where
+pub record HasSpelledCertificate (gives : LoadAnswers) (tells : Bool) (words : CertificateWords) : Type 0 where
   pub geometry : Geometry
   pub capacity : ℕ
   pub known : Option (List ℕ)
   pub written : List ℕ
   pub claim : Claim
   pub files : HasFiles gives tells words geometry capacity known written
-  pub spelled : IsSpelled claim written
+  pub spelled : IsClaimSpelled claim written
 
 -- the certificate is what is asked for, the image is whole, and the one agrees with the other
-abbrev pub CertificateHolds : {gives : Gives} {tells : Bool} {words : CertificateWords} → HasCertificate gives tells words → Type 0
+abbrev pub CertificateHolds : {gives : LoadAnswers} {tells : Bool} {words : CertificateWords} → HasSpelledCertificate gives tells words → Type 0
 CertificateHolds has = IsHeldAs has.geometry has.capacity has.known has.claim
 
 -- or it was not found to
-abbrev pub HoldsNot : {gives : Gives} {tells : Bool} {words : CertificateWords} → HasCertificate gives tells words → CommandFault → Type 0
+abbrev pub HoldsNot : {gives : LoadAnswers} {tells : Bool} {words : CertificateWords} → HasSpelledCertificate gives tells words → CommandFault → Type 0
 HoldsNot {words = words} has stop = IsUnheld has.geometry has.capacity words.image.now has.known has.claim stop
 
 -- Why the command ended before it was done. Each case says that none before it in the order held: the words, the image's file, the
 -- certificate's file, the certificate's bytes, the image's length and the checker, and at last the printing.
-abbrev pub IsCheckFault : Gives → Bool → CertificateWords → Option (List ℕ) → Option (List ℕ) → CommandFault → Type 0
+abbrev pub IsCheckFault : LoadAnswers → Bool → CertificateWords → Option (List ℕ) → Option (List ℕ) → CommandFault → Type 0
 IsCheckFault gives tells words before after stop =
     IsUnasked words stop
     ⊎ IsImageUnopened gives words stop
     ⊎ LacksCertificate gives tells words stop
     ⊎ HasNoCertificate gives tells words stop
-    ⊎ ((has : HasCertificate gives tells words) × HoldsNot has stop)
-    ⊎ ((has : HasCertificate gives tells words) × CertificateHolds has × IsUnprinted accepted_line before after stop)
+    ⊎ ((has : HasSpelledCertificate gives tells words) × HoldsNot has stop)
+    ⊎ ((has : HasSpelledCertificate gives tells words) × CertificateHolds has × IsUnprinted accepted_line before after stop)
 
 -- What the command came to, with the bytes of standard output before and after.
-abbrev pub DoesCheck : Gives → Bool → CertificateWords → Option (List ℕ) → Option (List ℕ) → Result (Unit {0}) CommandFault → Type 0
-DoesCheck gives tells words before after (Ok done) = (has : HasCertificate gives tells words) × CertificateHolds has × Appends before after accepted_line
+abbrev pub DoesCheck : LoadAnswers → Bool → CertificateWords → Option (List ℕ) → Option (List ℕ) → Result (Unit {0}) CommandFault → Type 0
+DoesCheck gives tells words before after (Ok done) = (has : HasSpelledCertificate gives tells words) × CertificateHolds has × Appends before after accepted_line
 DoesCheck gives tells words before after (Err stop) = IsOutputKept stop before after × IsCheckFault gives tells words before after stop

@@ -8,11 +8,11 @@ use Rattle.commands.specs.declared.text.CommandFault.{CommandFault}
 use Rattle.commands.specs.declared.text.CommandFault.TheVariants as fault
 
 -- what a load of a path may answer
-abbrev pub Gives : Type 1
-Gives = List ℕ → Result (List ℕ) FileFault → Type 0
+abbrev pub LoadAnswers : Type 1
+LoadAnswers = List ℕ → Result (List ℕ) FileFault → Type 0
 
 -- what a reader of the path tells is what a load of it may answer, and where the store tells, the reader does
-pub record IsOpened (gives : Gives) (tells : Bool) (path : List ℕ) (known : Option (List ℕ)) : Type 0 where
+pub record IsOpened (gives : LoadAnswers) (tells : Bool) (path : List ℕ) (known : Option (List ℕ)) : Type 0 where
   pub bytes : IfSome known (λ bytes. gives path (Ok bytes))
   pub told : tells ≡ true → IsSome known
 

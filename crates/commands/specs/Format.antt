@@ -22,7 +22,7 @@ use Rattle.commands.specs.declared.text.CommandFault.{CommandFault}
 use Rattle.commands.specs.declared.text.CommandFault.TheVariants as fault
 use Rattle.command_words.specs.declared.words.FileWords.{FileWords}
 use Rattle.program_words.specs.Numbers.{SpellsGeometry}
-use Rattle.commands.specs.Files.{Gives, Left, LeavesUntouched, with_store, written_file, unwritten_file}
+use Rattle.commands.specs.Files.{LoadAnswers, Left, LeavesUntouched, with_store, written_file, unwritten_file}
 
 -- ---- an image in place
 
@@ -45,11 +45,11 @@ IsFormatRefused g image refuse.WriteFailed = ⊥
 IsFormatRefused g image (refuse.NotFresh row) = (need g ≤ good_after g image []) × IsFirstPass (is_used g image) 0 (row_count g) row
 
 -- why an image was not formatted
-abbrev pub IsUnformatted : Geometry → List ℕ → CommandFault → Type 0
-IsUnformatted g bytes fault.WrongLength = length bytes ≢ row_count g * page_bytes g
-IsUnformatted g bytes (fault.Die die.OutOfMemory) = length bytes ≡ row_count g * page_bytes g
-IsUnformatted g bytes (fault.Format refused) = (length bytes ≡ row_count g * page_bytes g) × IsFormatRefused g (raw_image g bytes) refused
-IsUnformatted g bytes _ = ⊥
+abbrev pub IsImageUnformatted : Geometry → List ℕ → CommandFault → Type 0
+IsImageUnformatted g bytes fault.WrongLength = length bytes ≢ row_count g * page_bytes g
+IsImageUnformatted g bytes (fault.Die die.OutOfMemory) = length bytes ≡ row_count g * page_bytes g
+IsImageUnformatted g bytes (fault.Format refused) = (length bytes ≡ row_count g * page_bytes g) × IsFormatRefused g (raw_image g bytes) refused
+IsImageUnformatted g bytes _ = ⊥
 
 -- ---- the command
 
@@ -60,7 +60,7 @@ pub record IsGeometry (words : FileWords) (g : Geometry) : Type 0 where
   pub valid : HasNumbers numbers.data_bytes numbers.spare_bytes numbers.pages numbers.blocks numbers.sectors g
 
 -- and the file IN holds these bytes; `gives` tells what a load of a path may answer
-pub record HasInput (gives : Gives) (words : FileWords) (g : Geometry) (bytes : List ℕ) : Type 0 where
+pub record HasInput (gives : LoadAnswers) (words : FileWords) (g : Geometry) (bytes : List ℕ) : Type 0 where
   pub asked : IsGeometry words g
   pub given : gives words.input.now (Ok bytes)
 
@@ -69,21 +69,21 @@ abbrev pub good_line : ℕ → List ℕ
 good_line good = codes "good " ++ (decimal good ++ (10 ∷ []))
 
 -- the image of the file IN, formatted
-pub record HasFormatted (gives : Gives) (words : FileWords) (after : List ℕ) (good : ℕ) : Type 0 where
+pub record HasFormatted (gives : LoadAnswers) (words : FileWords) (after : List ℕ) (good : ℕ) : Type 0 where
   pub geometry : Geometry
   pub before : List ℕ
   pub input : HasInput gives words geometry before
   pub formatted : IsFormattedImage geometry before after good
 
 -- it could not be stored under OUT, and nothing was printed; or it was stored, and of the line a part was printed, and not all of it
-abbrev pub IsUnwritten : FileWords → List ℕ → ℕ → Left → Left → List ℕ → Type 0
-IsUnwritten words bytes good before after path =
+abbrev pub IsFormatUnwritten : FileWords → List ℕ → ℕ → Left → Left → List ℕ → Type 0
+IsFormatUnwritten words bytes good before after path =
     ((path ≡ words.output.now) × (after.stores ≡ with_store before.stores (unwritten_file words.output.now bytes)) × Keeps before.out after.out)
     ⊎ ((path ≡ codes "-") × (after.stores ≡ with_store before.stores (written_file words.output.now bytes)) × AppendsPart before.out after.out (good_line good))
 
 -- What the command came to, with the stores and the bytes of standard output before and after. Each fault says that nothing
 -- before it in the order failed: the geometry, the file, its length, the die, its format, the store under OUT, and then the line.
-abbrev pub DoesFormat : Gives → FileWords → Left → Left → Result (Unit {0}) CommandFault → Type 0
+abbrev pub DoesFormat : LoadAnswers → FileWords → Left → Left → Result (Unit {0}) CommandFault → Type 0
 DoesFormat gives words before after (Ok done) = (bytes : List ℕ) × (good : ℕ) × HasFormatted gives words bytes good
     × (after.stores ≡ with_store before.stores (written_file words.output.now bytes)) × Appends before.out after.out (good_line good)
 DoesFormat gives words before after (Err (fault.BadNumber word)) = LeavesUntouched before after
@@ -92,12 +92,12 @@ DoesFormat gives words before after (Err (fault.Geometry broken)) = LeavesUntouc
     × IsFirstFault numbers.data_bytes numbers.spare_bytes numbers.pages numbers.blocks numbers.sectors broken)
 DoesFormat gives words before after (Err (fault.Read path)) = LeavesUntouched before after × (path.now ≡ words.input.now) × gives words.input.now (Err file.Failed) × ((g : Geometry) × IsGeometry words g)
 DoesFormat gives words before after (Err fault.WrongLength) = LeavesUntouched before after
-    × ((g : Geometry) × (bytes : List ℕ) × HasInput gives words g bytes × IsUnformatted g bytes fault.WrongLength)
+    × ((g : Geometry) × (bytes : List ℕ) × HasInput gives words g bytes × IsImageUnformatted g bytes fault.WrongLength)
 DoesFormat gives words before after (Err (fault.Die broken)) = LeavesUntouched before after
-    × ((g : Geometry) × (bytes : List ℕ) × HasInput gives words g bytes × IsUnformatted g bytes (fault.Die broken))
+    × ((g : Geometry) × (bytes : List ℕ) × HasInput gives words g bytes × IsImageUnformatted g bytes (fault.Die broken))
 DoesFormat gives words before after (Err (fault.Format refused)) = LeavesUntouched before after
-    × ((g : Geometry) × (bytes : List ℕ) × HasInput gives words g bytes × IsUnformatted g bytes (fault.Format refused))
-DoesFormat gives words before after (Err (fault.Write path)) = (bytes : List ℕ) × (good : ℕ) × HasFormatted gives words bytes good × IsUnwritten words bytes good before after path.now
+    × ((g : Geometry) × (bytes : List ℕ) × HasInput gives words g bytes × IsImageUnformatted g bytes (fault.Format refused))
+DoesFormat gives words before after (Err (fault.Write path)) = (bytes : List ℕ) × (good : ℕ) × HasFormatted gives words bytes good × IsFormatUnwritten words bytes good before after path.now
 DoesFormat gives words before after (Err fault.OutOfMemory) = LeavesUntouched before after
     × (((g : Geometry) × IsGeometry words g × gives words.input.now (Err file.OutOfMemory))
     ⊎ ((bytes : List ℕ) × (good : ℕ) × HasFormatted gives words bytes good))

@@ -7,7 +7,7 @@ use Rattle.program_words.specs.Numbers.{SpellsGeometry, number_of}
 use Rattle.commands.specs.declared.files.FileFault.TheVariants as file
 use Rattle.commands.specs.declared.text.CommandFault.{CommandFault}
 use Rattle.commands.specs.declared.text.CommandFault.TheVariants as fault
-use Rattle.commands.specs.Files.{Gives}
+use Rattle.commands.specs.Files.{LoadAnswers}
 
 -- the fault names the word as no number
 abbrev pub IsBadNumber : List ℕ → CommandFault → Type 0
@@ -37,7 +37,7 @@ AreNoNumbers sizes count (fault.Geometry broken) =
 AreNoNumbers sizes count _ = ⊥
 
 -- the fault says that the path's file was not read, for itself or for want of memory, as the load answered
-abbrev pub IsUnread : Gives → List ℕ → CommandFault → Type 0
-IsUnread gives text (fault.Read path) = (path.now ≡ text) × gives text (Err file.Failed)
-IsUnread gives text fault.OutOfMemory = gives text (Err file.OutOfMemory)
-IsUnread gives text _ = ⊥
+abbrev pub TellsUnread : LoadAnswers → List ℕ → CommandFault → Type 0
+TellsUnread gives text (fault.Read path) = (path.now ≡ text) × gives text (Err file.Failed)
+TellsUnread gives text fault.OutOfMemory = gives text (Err file.OutOfMemory)
+TellsUnread gives text _ = ⊥

@@ -33,12 +33,12 @@ use Rattle.ftl_device.specs.Changes.{Upkeeps}
 use Rattle.ftl_device.specs.Migrate.{ended, HasMovedOn, Migrates}
 use Rattle.ftl_device.specs.Brings.{HasBrought, BringsOne}
 use Rattle.ftl_device.specs.Renewed.{HasNoneOld, HasOldTablesOnly}
-use Rattle.block_server.specs.Checked.{IsBegun}
+use Rattle.block_server.specs.Checked.{IsBegunFromClaim}
 use Rattle.command_words.specs.declared.words.ServeWords.{ServeWords}
 use Rattle.commands.specs.declared.text.CommandFault.{CommandFault}
 use Rattle.commands.specs.declared.text.CommandFault.TheVariants as fault
-use Rattle.commands.specs.Check.{IsWhole}
-use Rattle.commands.specs.Files.{Gives, Left, LeavesUntouched, Stored, with_store, written_file, unwritten_file}
+use Rattle.commands.specs.Check.{HasImageLength}
+use Rattle.commands.specs.Files.{LoadAnswers, Left, LeavesUntouched, Stored, with_store, written_file, unwritten_file}
 use Rattle.commands.specs.Lines.{IsUnprinted}
 use Rattle.commands.specs.Serve.{Driver, HasClaim, IsDieUnmade, IsUnclaimed, bad_in}
 use Rattle.commands.specs.Serve.{flash_behind, recorded_of, driver_view}
@@ -59,21 +59,21 @@ pub record CallsMigrate {N : Type 0} (view : View N)
   pub moves_on : result ≡ Ok true → HasMovedOn old.cursor (image_in view.flash old.engine) new.cursor
 
 -- so many calls, each of which answered true
-abbrev pub Renews : {N : Type 0} → (view : View N)
+abbrev pub RenewsInCalls : {N : Type 0} → (view : View N)
     → ℕ → Device N → Device N → Type 0
-Renews view zero old new = new ≡ old
-Renews {N} view (suc count) old new =
-    (mid : Device N) × Renews view count old mid
+RenewsInCalls view zero old new = new ≡ old
+RenewsInCalls {N} view (suc count) old new =
+    (mid : Device N) × RenewsInCalls view count old mid
     × CallsMigrate view mid (Ok true) new
 
 -- ALL CALLS: so many answered true and the next one false, or after so many one was refused
 abbrev pub RenewsAll : {N : Type 0} → (view : View N)
     → Device N → Result ℕ DeviceFault → Device N → Type 0
 RenewsAll {N} view old (Ok count) new =
-    (mid : Device N) × Renews view count old mid
+    (mid : Device N) × RenewsInCalls view count old mid
     × CallsMigrate view mid (Ok false) new
 RenewsAll {N} view old (Err refused) new =
-    (count : ℕ) × (mid : Device N) × Renews view count old mid
+    (count : ℕ) × (mid : Device N) × RenewsInCalls view count old mid
     × CallsMigrate view mid (Err refused) new
 
 -- and then, where none was refused, a flush
@@ -139,7 +139,7 @@ pub record IsRenewedThenFlushed {N : Type 0} (view : View N) (g : Geometry) (old
 pub record StartsOver (g : Geometry) (capacity : ℕ) (c : Claim) (nand : Driver) (first : Device Driver) : Type 0 where
   pub agrees : Agrees g capacity (flash_behind nand).image c
   pub roomy : 40 ≤ g.spare_bytes
-  pub begun : IsBegun driver_view nand g 0 c first
+  pub begun : IsBegunFromClaim driver_view nand g 0 c first
   pub sized : first.engine.geometry ≡ g
   pub well : IsWell flash_behind first
   pub cursor : first.cursor ≡ 0
@@ -175,21 +175,21 @@ IsUnmigratedDie g capacity c s _ = ⊥
 -- ---- the command
 
 -- both files were read, but of the image no die was made, or none that was accepted and started
-pub record IsClaimUnmigrated (gives : Gives) (words : ServeWords) (stopped : CommandFault) : Type 0 where
+pub record IsClaimUnmigrated (gives : LoadAnswers) (words : ServeWords) (stopped : CommandFault) : Type 0 where
   pub geometry : Geometry
   pub capacity : ℕ
   pub bytes : List ℕ
   pub claim : Claim
   pub has : HasClaim gives words geometry capacity bytes claim
   pub unmigrated : IsDieUnmade geometry bytes stopped
-      ⊎ (IsWhole geometry bytes × IsUnmigratedDie geometry capacity claim (loaded_flash geometry bytes (bad_in geometry claim)) stopped)
+      ⊎ (HasImageLength geometry bytes × IsUnmigratedDie geometry capacity claim (loaded_flash geometry bytes (bad_in geometry claim)) stopped)
 
 -- Why the command ended before a device was started.
-abbrev pub IsUnbegun : Gives → ServeWords → CommandFault → Type 0
-IsUnbegun gives words stopped = IsUnclaimed gives words stopped ⊎ IsClaimUnmigrated gives words stopped
+abbrev pub IsMigrationUnbegun : LoadAnswers → ServeWords → CommandFault → Type 0
+IsMigrationUnbegun gives words stopped = IsUnclaimed gives words stopped ⊎ IsClaimUnmigrated gives words stopped
 
 -- it ran: this is the image then
-pub record HasMigrated (gives : Gives) (words : ServeWords) (image : List ℕ) (came : Result ℕ DeviceFault) : Type 0 where
+pub record HasMigrated (gives : LoadAnswers) (words : ServeWords) (image : List ℕ) (came : Result ℕ DeviceFault) : Type 0 where
   pub geometry : Geometry
   pub capacity : ℕ
   pub bytes : List ℕ
@@ -198,8 +198,8 @@ pub record HasMigrated (gives : Gives) (words : ServeWords) (image : List ℕ) (
   pub migrates : MigratesDie geometry capacity claim (loaded_flash geometry bytes (bad_in geometry claim)) image came
 
 -- no call was refused: so many answered true
-abbrev pub IsDone : Result ℕ DeviceFault → Type 0
-IsDone came = (count : ℕ) × (came ≡ Ok count)
+abbrev pub RefusesNoCall : Result ℕ DeviceFault → Type 0
+RefusesNoCall came = (count : ℕ) × (came ≡ Ok count)
 
 -- How it ended after the run: the device's refusal is told, and the image was stored all the same; or it could not be stored, and that is told, after
 -- the refusal where there is one.
@@ -207,8 +207,8 @@ abbrev pub EndsShort : List ℕ → List ℕ → Result ℕ DeviceFault → Opti
 EndsShort path image came before after (fault.Migrate refused) = (came ≡ Err refused) × (after ≡ with_store before (written_file path image))
 EndsShort path image came before after (fault.MigrateUnstored refused text) = (came ≡ Err refused) × (text.now ≡ path)
     × ((after ≡ with_store before (unwritten_file path image)) ⊎ (after ≡ before))
-EndsShort path image came before after (fault.Write text) = IsDone came × (text.now ≡ path) × (after ≡ with_store before (unwritten_file path image))
-EndsShort path image came before after fault.OutOfMemory = IsDone came × (after ≡ before)
+EndsShort path image came before after (fault.Write text) = RefusesNoCall came × (text.now ≡ path) × (after ≡ with_store before (unwritten_file path image))
+EndsShort path image came before after fault.OutOfMemory = RefusesNoCall came × (after ≡ before)
 EndsShort path image came before after _ = ⊥
 
 -- the line
@@ -217,11 +217,11 @@ migrated_line count = codes "migrated " ++ (decimal count ++ (10 ∷ []))
 
 -- What the command came to, with the stores and the bytes of standard output before and after. Where no device was started nothing is
 -- stored and nothing printed. The line is printed once the image is stored.
-abbrev pub DoesMigrate : Gives → ServeWords → Left → Left → Result (Unit {0}) CommandFault → Type 0
+abbrev pub DoesMigrate : LoadAnswers → ServeWords → Left → Left → Result (Unit {0}) CommandFault → Type 0
 DoesMigrate gives words before after (Ok done) = (image : List ℕ) × (count : ℕ) × HasMigrated gives words image (Ok count)
     × (after.stores ≡ with_store before.stores (written_file words.output.now image)) × Appends before.out after.out (migrated_line count)
 DoesMigrate gives words before after (Err stop) =
-    (LeavesUntouched before after × IsUnbegun gives words stop)
+    (LeavesUntouched before after × IsMigrationUnbegun gives words stop)
     ⊎ ((image : List ℕ) × (came : Result ℕ DeviceFault) × HasMigrated gives words image came × EndsShort words.output.now image came before.stores after.stores stop
     × Keeps before.out after.out)
     ⊎ ((image : List ℕ) × (count : ℕ) × HasMigrated gives words image (Ok count) × (after.stores ≡ with_store before.stores (written_file words.output.now image))

@@ -14,13 +14,13 @@ use Rattle.commands.specs.declared.mount_image.Mounted.{Mounted}
 use Rattle.commands.specs.declared.text.CommandFault.{CommandFault}
 use Rattle.commands.specs.declared.text.CommandFault.TheVariants as fault
 use Rattle.command_words.specs.declared.words.CertificateWords.{CertificateWords}
-use Rattle.commands.specs.Check.{AsksForCapacity, IsImageUnopened, IsUnasked, IsWhole}
-use Rattle.commands.specs.Files.{Gives, IsUnstored, Left, LeavesUntouched, with_store, written_file}
+use Rattle.commands.specs.Check.{AsksForCapacity, IsImageUnopened, IsUnasked, HasImageLength}
+use Rattle.commands.specs.Files.{LoadAnswers, IsUnstored, Left, LeavesUntouched, with_store, written_file}
 use Rattle.commands.specs.Lines.{IsUnprinted}
 
 -- the bytes are an image, and this is its certificate
 pub record IsCertified (g : Geometry) (capacity : ℕ) (bytes : List ℕ) (c : Claim) : Type 0 where
-  pub whole : IsWhole g bytes
+  pub whole : HasImageLength g bytes
   pub mounted : IsMounted g capacity (raw_image g bytes) c
 
 -- the certificate's bytes, and the numbers that are told of it
@@ -39,9 +39,9 @@ IsUnspelled _ = ⊥
 
 -- why there is no certificate of the bytes, or why it was not spelled
 abbrev pub IsImageUnmounted : Geometry → ℕ → List ℕ → CommandFault → Type 0
-IsImageUnmounted g capacity bytes fault.WrongLength = ¬ IsWhole g bytes
-IsImageUnmounted g capacity bytes (fault.Mount refusal) = IsWhole g bytes × ((refusal ≡ refusals.OutOfMemory) ⊎ IsUnmountable g capacity (raw_image g bytes) refusal)
-IsImageUnmounted g capacity bytes (fault.Certificate broken) = IsWhole g bytes × (broken ≡ certificate.OutOfMemory)
+IsImageUnmounted g capacity bytes fault.WrongLength = ¬ HasImageLength g bytes
+IsImageUnmounted g capacity bytes (fault.Mount refusal) = HasImageLength g bytes × ((refusal ≡ refusals.OutOfMemory) ⊎ IsUnmountable g capacity (raw_image g bytes) refusal)
+IsImageUnmounted g capacity bytes (fault.Certificate broken) = HasImageLength g bytes × (broken ≡ certificate.OutOfMemory)
 IsImageUnmounted g capacity bytes _ = ⊥
 
 -- the line: the next sequence, the good blocks and the stale sectors
@@ -51,7 +51,7 @@ mounted_line next good stale = codes "mounted next " ++ (decimal next ++ (codes 
 -- ---- the command
 
 -- the words are numbers, the image's file was read, and this is the certificate of its bytes
-pub record HasMounted (gives : Gives) (words : CertificateWords) : Type 0 where
+pub record HasMounted (gives : LoadAnswers) (words : CertificateWords) : Type 0 where
   pub geometry : Geometry
   pub capacity : ℕ
   pub bytes : List ℕ
@@ -61,7 +61,7 @@ pub record HasMounted (gives : Gives) (words : CertificateWords) : Type 0 where
   pub certified : IsCertified geometry capacity bytes claim
 
 -- the bytes have none, or it was not spelled
-pub record LacksMount (gives : Gives) (words : CertificateWords) (stop : CommandFault) : Type 0 where
+pub record LacksMount (gives : LoadAnswers) (words : CertificateWords) (stop : CommandFault) : Type 0 where
   pub geometry : Geometry
   pub capacity : ℕ
   pub bytes : List ℕ
@@ -70,28 +70,28 @@ pub record LacksMount (gives : Gives) (words : CertificateWords) (stop : Command
   pub unmounted : IsImageUnmounted geometry capacity bytes stop
 
 -- the line of an image and its certificate
-abbrev pub line_of : {gives : Gives} {words : CertificateWords} → HasMounted gives words → List ℕ
-line_of has = mounted_line has.claim.next (good_blocks has.claim) (stale_count has.geometry (raw_image has.geometry has.bytes))
+abbrev pub certified_line : {gives : LoadAnswers} {words : CertificateWords} → HasMounted gives words → List ℕ
+certified_line has = mounted_line has.claim.next (good_blocks has.claim) (stale_count has.geometry (raw_image has.geometry has.bytes))
 
 -- the certificate was handed over to be written, and it was
-abbrev pub Stores : {gives : Gives} {words : CertificateWords} → HasMounted gives words → Left → Left → Type 0
+abbrev pub Stores : {gives : LoadAnswers} {words : CertificateWords} → HasMounted gives words → Left → Left → Type 0
 Stores {words = words} has before after = after.stores ≡ with_store before.stores (written_file words.certificate.now (certificate_bytes has.claim))
 
 -- or it was not
-abbrev pub StoresNot : {gives : Gives} {words : CertificateWords} → HasMounted gives words → Left → Left → CommandFault → Type 0
+abbrev pub StoresNot : {gives : LoadAnswers} {words : CertificateWords} → HasMounted gives words → Left → Left → CommandFault → Type 0
 StoresNot {words = words} has before after stop = IsUnstored words.certificate.now (certificate_bytes has.claim) before.stores after.stores stop
 
 -- Why the command ended before there was a certificate to store. Each case says that none before it in the order held: the
 -- words, the image's file, and the image.
-abbrev pub IsUncertified : Gives → CertificateWords → CommandFault → Type 0
+abbrev pub IsUncertified : LoadAnswers → CertificateWords → CommandFault → Type 0
 IsUncertified gives words stop = IsUnasked words stop ⊎ IsImageUnopened gives words stop ⊎ LacksMount gives words stop
 
 -- What the command came to, with the stores and the bytes of standard output before and after. Where there is no
 -- certificate nothing is stored and nothing printed; where it was not stored nothing is printed; where the line was not
 -- printed, or not whole, the certificate is stored.
-abbrev pub DoesMount : Gives → CertificateWords → Left → Left → Result (Unit {0}) CommandFault → Type 0
-DoesMount gives words before after (Ok done) = (has : HasMounted gives words) × Stores has before after × Appends before.out after.out (line_of has)
+abbrev pub DoesMount : LoadAnswers → CertificateWords → Left → Left → Result (Unit {0}) CommandFault → Type 0
+DoesMount gives words before after (Ok done) = (has : HasMounted gives words) × Stores has before after × Appends before.out after.out (certified_line has)
 DoesMount gives words before after (Err stop) =
     (LeavesUntouched before after × IsUncertified gives words stop)
     ⊎ ((has : HasMounted gives words) × StoresNot has before after stop × Keeps before.out after.out)
-    ⊎ ((has : HasMounted gives words) × Stores has before after × IsUnprinted (line_of has) before.out after.out stop)
+    ⊎ ((has : HasMounted gives words) × Stores has before after × IsUnprinted (certified_line has) before.out after.out stop)

@@ -20,7 +20,7 @@ use Rattle.commands.specs.declared.text.CommandFault.{CommandFault}
 use Rattle.commands.specs.declared.text.CommandFault.TheVariants as fault
 use Rattle.command_words.specs.declared.words.ImageWords.{ImageWords}
 use Rattle.program_words.specs.Numbers.{SpellsGeometry, number_of}
-use Rattle.commands.specs.Files.{Gives}
+use Rattle.commands.specs.Files.{LoadAnswers}
 
 -- the image has the sector, and no two of its pages share its greatest sequence
 pub record IsReadable (g : Geometry) (image : Image) (n : ℕ) : Type 0 where
@@ -66,14 +66,14 @@ pub record AsksForNumber (words : ImageWords) (g : Geometry) (n : ℕ) : Type 0 
   pub valid : HasNumbers numbers.data_bytes numbers.spare_bytes numbers.pages numbers.blocks numbers.sectors g
 
 -- and the file holds an image of it; `gives` tells what a load of a path may answer
-pub record HasImage (gives : Gives) (words : ImageWords) (g : Geometry) (n : ℕ) (bytes : List ℕ) : Type 0 where
+pub record HasImage (gives : LoadAnswers) (words : ImageWords) (g : Geometry) (n : ℕ) (bytes : List ℕ) : Type 0 where
   pub asked : AsksForNumber words g n
   pub given : gives words.image.now (Ok bytes)
   pub whole : length bytes ≡ row_count g * page_bytes g
 
 -- What the command came to, with the bytes of standard output before and after. Each fault says that nothing before it in
 -- the order failed: the numbers by their words, the geometry, the file, its length, and then the sector's own faults.
-abbrev pub DoesSector : Gives → ImageWords → Option (List ℕ) → Option (List ℕ) → Result (Unit {0}) CommandFault → Type 0
+abbrev pub DoesSector : LoadAnswers → ImageWords → Option (List ℕ) → Option (List ℕ) → Result (Unit {0}) CommandFault → Type 0
 DoesSector gives words before after (Ok done) = (g : Geometry) × (n : ℕ) × (bytes : List ℕ) × HasImage gives words g n bytes
     × IsReadable g (raw_image g bytes) n × Appends before after (sector_line g (raw_image g bytes) n)
 DoesSector gives words before after (Err (fault.BadNumber word)) = Keeps before after

@@ -26,7 +26,7 @@ use Rattle.ftl_device.specs.Begin.{is_bad_in}
 use Rattle.command_queue.specs.Exchanges.{Exchange, commands_in, replies_in}
 use Rattle.block_server.specs.declared.server.Served.{Served}
 use Rattle.block_server.specs.Session.{ServesRequests}
-use Rattle.block_server.specs.Checked.{IsBegun, HeadlineHolds}
+use Rattle.block_server.specs.Checked.{IsBegunFromClaim, HeadlineHolds}
 use Rattle.command_words.specs.declared.words.CertificateWords.{CertificateWords}
 use Rattle.command_words.specs.declared.words.ServeWords.{ServeWords}
 use Rattle.commands.specs.declared.text.CommandFault.{CommandFault}
@@ -35,8 +35,8 @@ use Rattle.commands.specs.declared.steady.SteadyDie.{SteadyDie}
 use Rattle.commands.specs.Steady.{has_spared, is_flawless}
 use Rattle.commands.specs.declared.text.ServeStop.{ServeStop}
 use Rattle.commands.specs.declared.text.ServeStop.TheVariants as stop
-use Rattle.commands.specs.Check.{HasFiles, HasNoCertificate, IsImageUnopened, IsSpelled, IsUnasked, IsWhole, LacksCertificate}
-use Rattle.commands.specs.Files.{Gives, Left, LeavesUntouched, Stored, with_store, written_file, unwritten_file}
+use Rattle.commands.specs.Check.{HasFiles, HasNoCertificate, IsImageUnopened, IsClaimSpelled, IsUnasked, HasImageLength, LacksCertificate}
+use Rattle.commands.specs.Files.{LoadAnswers, Left, LeavesUntouched, Stored, with_store, written_file, unwritten_file}
 
 -- ---- an image in place
 
@@ -64,11 +64,11 @@ is_calm_as d = is_flawless d.bus.die
 abbrev pub failures_of : Driver → ℕ
 failures_of d = d.failures
 
-abbrev pub programs_of : Driver → ℕ
-programs_of d = d.programs
+abbrev pub programs_of_driver : Driver → ℕ
+programs_of_driver d = d.programs
 
-abbrev pub erases_of : Driver → ℕ
-erases_of d = d.erases
+abbrev pub erases_of_driver : Driver → ℕ
+erases_of_driver d = d.erases
 
 abbrev pub driver_view : View Driver
 driver_view = record {
@@ -77,8 +77,8 @@ driver_view = record {
   honest = is_honest;
   calm = is_calm_as;
   reads = λ d. d.reads;
-  programs = programs_of;
-  erases = erases_of;
+  programs = programs_of_driver;
+  erases = erases_of_driver;
   failed = failures_of;
   called = driver_called (λ bus. bus.die.state) (λ bus. true) (λ old cycle answer out new. ⊤);
 }
@@ -103,7 +103,7 @@ pub record ServesDie (g : Geometry) (capacity : ℕ) (c : Claim) (s : Flash) (af
   pub first : Device Driver
   pub last : Device Driver
   pub held : flash_behind nand ≡ s
-  pub begun : IsBegun driver_view nand g 0 c first
+  pub begun : IsBegunFromClaim driver_view nand g 0 c first
   pub holds : HeadlineHolds driver_view g 0 capacity c s first exchanges last
   pub passed : (before : List ℕ) → s ≡ loaded_flash g before (bad_in g c) → failures (log_of holds.headline.run.events) ≡ 0
   pub pages : raw_image g after ≡ (flash_behind last.engine.nand).image
@@ -125,20 +125,20 @@ stop_in (Err stopped) = Some (stop.Fault stopped)
 
 -- why no die was made of the image
 abbrev pub IsDieUnmade : Geometry → List ℕ → CommandFault → Type 0
-IsDieUnmade g bytes fault.WrongLength = ¬ IsWhole g bytes
-IsDieUnmade g bytes (fault.Die broken) = IsWhole g bytes × (broken ≡ die.OutOfMemory)
+IsDieUnmade g bytes fault.WrongLength = ¬ HasImageLength g bytes
+IsDieUnmade g bytes (fault.Die broken) = HasImageLength g bytes × (broken ≡ die.OutOfMemory)
 IsDieUnmade g bytes _ = ⊥
 
 -- why the die was not served: nothing was read and nothing written
 abbrev pub IsUnserved : Geometry → ℕ → List ℕ → Claim → CommandFault → Type 0
-IsUnserved g capacity bytes c fault.WrongLength = ¬ IsWhole g bytes
-IsUnserved g capacity bytes c (fault.Die broken) = IsWhole g bytes × (broken ≡ die.OutOfMemory)
-IsUnserved g capacity bytes c (fault.Check refusal) = IsWhole g bytes × ((refusal ≡ refusals.OutOfMemory) ⊎ IsFirstWrong g capacity (raw_image g bytes) c refusal)
-IsUnserved g capacity bytes c fault.Start = IsWhole g bytes × Agrees g capacity (raw_image g bytes) c
+IsUnserved g capacity bytes c fault.WrongLength = ¬ HasImageLength g bytes
+IsUnserved g capacity bytes c (fault.Die broken) = HasImageLength g bytes × (broken ≡ die.OutOfMemory)
+IsUnserved g capacity bytes c (fault.Check refusal) = HasImageLength g bytes × ((refusal ≡ refusals.OutOfMemory) ⊎ IsFirstWrong g capacity (raw_image g bytes) c refusal)
+IsUnserved g capacity bytes c fault.Start = HasImageLength g bytes × Agrees g capacity (raw_image g bytes) c
 IsUnserved g capacity bytes c _ = ⊥
 
 -- a die was served, and this stopped the server, if anything
-pub record HasServed (g : Geometry) (capacity : ℕ) (c : Claim) (s : Flash) (after : List ℕ) (unread left out out' : Option (List ℕ)) (how : Option ServeStop) : Type 0 where
+pub record HasServedDie (g : Geometry) (capacity : ℕ) (c : Claim) (s : Flash) (after : List ℕ) (unread left out out' : Option (List ℕ)) (how : Option ServeStop) : Type 0 where
   pub came : Result Served ServeFault
   pub how_is : how ≡ stop_in came
   pub serves : ServesDie g capacity c s after unread left out out' came
@@ -156,13 +156,13 @@ abbrev pub checked_words : ServeWords → CertificateWords
 checked_words words = record { geometry = words.geometry; capacity = words.capacity; image = words.image; certificate = words.certificate }
 
 -- the words are numbers, both files were read, and the certificate's bytes are those of this claim
-pub record HasClaim (gives : Gives) (words : ServeWords) (g : Geometry) (capacity : ℕ) (bytes : List ℕ) (c : Claim) : Type 0 where
+pub record HasClaim (gives : LoadAnswers) (words : ServeWords) (g : Geometry) (capacity : ℕ) (bytes : List ℕ) (c : Claim) : Type 0 where
   pub written : List ℕ
   pub files : HasFiles gives true (checked_words words) g capacity (Some bytes) written
-  pub spelled : IsSpelled c written
+  pub spelled : IsClaimSpelled c written
 
 -- but the die was not served
-pub record IsClaimUnserved (gives : Gives) (words : ServeWords) (stopped : CommandFault) : Type 0 where
+pub record IsClaimUnserved (gives : LoadAnswers) (words : ServeWords) (stopped : CommandFault) : Type 0 where
   pub geometry : Geometry
   pub capacity : ℕ
   pub bytes : List ℕ
@@ -171,7 +171,7 @@ pub record IsClaimUnserved (gives : Gives) (words : ServeWords) (stopped : Comma
   pub unserved : IsUnserved geometry capacity bytes claim stopped
 
 -- Why nothing is claimed of an image. Each case says that none before it in the order held. The image's file was loaded whole, so its bytes are known.
-abbrev pub IsUnclaimed : Gives → ServeWords → CommandFault → Type 0
+abbrev pub IsUnclaimed : LoadAnswers → ServeWords → CommandFault → Type 0
 IsUnclaimed gives words stopped =
     IsUnasked (checked_words words) stopped
     ⊎ IsImageUnopened gives (checked_words words) stopped
@@ -179,7 +179,7 @@ IsUnclaimed gives words stopped =
     ⊎ HasNoCertificate gives true (checked_words words) stopped
 
 -- Why the command ended before anything was read from standard input.
-abbrev pub IsServeUnstarted : Gives → ServeWords → CommandFault → Type 0
+abbrev pub IsServeUnstarted : LoadAnswers → ServeWords → CommandFault → Type 0
 IsServeUnstarted gives words stopped = IsUnclaimed gives words stopped ⊎ IsClaimUnserved gives words stopped
 
 -- How it ended after the run: the image was stored, and what stopped the server is told; or it could not be stored, and that is told, after
@@ -194,7 +194,7 @@ EndsServing path image how before after (Err (fault.ServeUnstored stopped text))
 EndsServing path image how before after (Err _) = ⊥
 
 -- it ran: requests were served over the image, and it ended so
-pub record HasServedImage (gives : Gives) (words : ServeWords) (unread left : Option (List ℕ)) (before after : Left) (result : Result (Unit {0}) CommandFault) : Type 0 where
+pub record HasServedImage (gives : LoadAnswers) (words : ServeWords) (unread left : Option (List ℕ)) (before after : Left) (result : Result (Unit {0}) CommandFault) : Type 0 where
   pub geometry : Geometry
   pub capacity : ℕ
   pub bytes : List ℕ
@@ -206,12 +206,12 @@ pub record HasServedImage (gives : Gives) (words : ServeWords) (unread left : Op
   pub ends : EndsServing words.output.now image (stop_in came) before.stores after.stores result
 
 -- nothing was read from standard input, stored or printed
-pub record HasNotRun (gives : Gives) (words : ServeWords) (unread left : Option (List ℕ)) (before after : Left) (stopped : CommandFault) : Type 0 where
+pub record HasNotRun (gives : LoadAnswers) (words : ServeWords) (unread left : Option (List ℕ)) (before after : Left) (stopped : CommandFault) : Type 0 where
   pub leaves : LeavesUntouched before after
   pub unread_is : Keeps unread left
   pub because : IsServeUnstarted gives words stopped
 
 -- What the command came to, with what standard input had, and the stores and the bytes of standard output before and after.
-abbrev pub DoesServe : Gives → ServeWords → Option (List ℕ) → Option (List ℕ) → Left → Left → Result (Unit {0}) CommandFault → Type 0
+abbrev pub DoesServe : LoadAnswers → ServeWords → Option (List ℕ) → Option (List ℕ) → Left → Left → Result (Unit {0}) CommandFault → Type 0
 DoesServe gives words unread left before after (Ok done) = HasServedImage gives words unread left before after (Ok done)
 DoesServe gives words unread left before after (Err stopped) = HasNotRun gives words unread left before after stopped ⊎ HasServedImage gives words unread left before after (Err stopped)

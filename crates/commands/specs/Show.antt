@@ -11,29 +11,19 @@ use Rattle.page_layout.specs.Geometry.{row_count, page_bytes}
 use Rattle.page_layout.specs.Faults.{IsFirstFault}
 use Rattle.page_layout.specs.Page.{Page, Image}
 use Rattle.page_layout.specs.Raw.{raw_image}
-use Rattle.page_layout.specs.Sound.{record_of, version_of, is_erased_page}
+use Rattle.page_layout.specs.declared.look.PageLook.{PageLook}
+use Rattle.page_layout.specs.declared.look.PageLook.TheVariants.{Sound, Erased, Unsound}
+use Rattle.page_layout.specs.PageLook.{look_of}
+use Rattle.page_layout.specs.Sound.{version_of}
 use Rattle.request_stream.specs.Frames.{AppendsPart}
 use Rattle.program_words.specs.declared.numbers.GeometryNumbers.{GeometryNumbers}
-use Rattle.commands.specs.declared.show.Shown.{Shown}
-use Rattle.commands.specs.declared.show.Shown.TheVariants.{Sound, Erased, Unsound}
 use Rattle.commands.specs.declared.files.FileFault.TheVariants as file
 use Rattle.commands.specs.declared.text.CommandFault.{CommandFault}
 use Rattle.commands.specs.declared.text.CommandFault.TheVariants as fault
 use Rattle.command_words.specs.declared.words.ImageWords.{ImageWords}
 use Rattle.program_words.specs.Numbers.{SpellsGeometry, number_of}
-use Rattle.commands.specs.Files.{Gives}
+use Rattle.commands.specs.Files.{LoadAnswers}
 use Rattle.commands.specs.Sector.{AsksForNumber, HasImage}
-
--- its record and its version where it has them, else whether it is erased
-abbrev pub shown_by : Option Record → Option ℕ → Bool → Shown
-shown_by (Some r) (Some version) erased = Sound r version
-shown_by (Some r) None true = Erased
-shown_by (Some r) None false = Unsound
-shown_by None version true = Erased
-shown_by None version false = Unsound
-
-abbrev pub shown_of : Page → Shown
-shown_of p = shown_by (record_of p) (version_of p) (is_erased_page p)
 
 -- what a page holds, in one word
 abbrev pub kind_word : Kind → List ℕ
@@ -43,29 +33,33 @@ kind_word kind.Translation = codes "translation"
 kind_word kind.Table = codes "table"
 
 -- a version that is not the first is told
-abbrev pub version_words : ℕ → List ℕ
-version_words version = if version == 2 then codes " version 2" else []
+abbrev pub version_words : Option ℕ → List ℕ
+version_words (Some version) = if version == 2 then codes " version 2" else []
+version_words None = []
 
--- the line
-abbrev pub shown_line : Shown → List ℕ
-shown_line (Sound r version) =
+-- the line of a page, by its version where it is sound
+abbrev pub look_line : Option ℕ → PageLook → List ℕ
+look_line version (Sound r) =
     kind_word r.kind ++ (codes " " ++ (decimal r.number ++ (codes " sequence " ++ (decimal r.sequence ++ (codes " wear " ++ (decimal r.wear ++ (version_words version ++ (10 ∷ []))))))))
-shown_line Erased = codes "erased" ++ (10 ∷ [])
-shown_line Unsound = codes "unsound" ++ (10 ∷ [])
+look_line version Erased = codes "erased" ++ (10 ∷ [])
+look_line version Unsound = codes "unsound" ++ (10 ∷ [])
+
+abbrev pub shown_page_line : Page → List ℕ
+shown_page_line p = look_line (version_of p) (look_of p)
 
 -- the row is one of the die, and the line of its page was written
-pub record Shows (g : Geometry) (image : Image) (row : ℕ) (before after : Option (List ℕ)) : Type 0 where
+pub record ShowsRowLine (g : Geometry) (image : Image) (row : ℕ) (before after : Option (List ℕ)) : Type 0 where
   pub page : Page
   pub page_is : slice_get image row ≡ Some page
   pub in_range : row < row_count g
-  pub line : Appends before after (shown_line (shown_of page))
+  pub line : Appends before after (shown_page_line page)
 
 -- the same, but that the writer failed: a part of the line was written, and not all of it
 pub record ShowsPart (g : Geometry) (image : Image) (row : ℕ) (before after : Option (List ℕ)) : Type 0 where
   pub page : Page
   pub page_is : slice_get image row ≡ Some page
   pub in_range : row < row_count g
-  pub part : AppendsPart before after (shown_line (shown_of page))
+  pub part : AppendsPart before after (shown_page_line page)
 
 -- why the row's page was not shown
 abbrev pub IsUnshown : Geometry → Image → ℕ → Option (List ℕ) → Option (List ℕ) → CommandFault → Type 0
@@ -75,9 +69,9 @@ IsUnshown g image row before after _ = ⊥
 
 -- What the command came to, with the bytes of standard output before and after. Each fault says that nothing before it in
 -- the order failed: the numbers by their words, the geometry, the file, its length, and then the row.
-abbrev pub DoesShow : Gives → ImageWords → Option (List ℕ) → Option (List ℕ) → Result (Unit {0}) CommandFault → Type 0
+abbrev pub DoesShow : LoadAnswers → ImageWords → Option (List ℕ) → Option (List ℕ) → Result (Unit {0}) CommandFault → Type 0
 DoesShow gives words before after (Ok done) = (g : Geometry) × (row : ℕ) × (bytes : List ℕ) × HasImage gives words g row bytes
-    × Shows g (raw_image g bytes) row before after
+    × ShowsRowLine g (raw_image g bytes) row before after
 DoesShow gives words before after (Err (fault.BadNumber word)) = Keeps before after
     × (((word.now ≡ words.geometry.now) × ((numbers : GeometryNumbers) → ¬ SpellsGeometry words.geometry.now numbers))
     ⊎ ((word.now ≡ words.number.now) × ((numbers : GeometryNumbers) × SpellsGeometry words.geometry.now numbers) × (number_of words.number.now ≡ None)))

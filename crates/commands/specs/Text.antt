@@ -1,16 +1,14 @@
 -- What the program says of a command that ended before it was done.
+use Rattle.page_layout.specs.Faults.{broken_limit_words}
+use Rattle.certificate.specs.Faults.{certificate_words}
 use Rattle.std.specs.Prelude.{◌≡◌, ◌⊎◌, ℕ, List, [], ◌∷◌, ◌++◌, codes, Option}
 use Rattle.std.specs.Io.KnownBytes.{Appends}
 use Rattle.std.specs.Fmt.{decimal}
 use Rattle.request_stream.specs.Frames.{AppendsPart}
-use Rattle.page_layout.specs.declared.geometry.GeometryFault.{GeometryFault}
-use Rattle.page_layout.specs.declared.geometry.GeometryFault.TheVariants as geometry
 use Rattle.image_check.specs.declared.scan.SectorFault.{SectorFault}
 use Rattle.image_check.specs.declared.scan.SectorFault.TheVariants as sector
 use Rattle.image_check.specs.declared.refusal.Refusal.{Refusal}
 use Rattle.image_check.specs.declared.refusal.Refusal.TheVariants as refusal
-use Rattle.certificate.specs.declared.fault.CertFault.{CertFault}
-use Rattle.certificate.specs.declared.fault.CertFault.TheVariants as certificate
 use Rattle.mount.specs.declared.format_fault.FormatFault.{FormatFault}
 use Rattle.mount.specs.declared.format_fault.FormatFault.TheVariants as format
 use Rattle.nand_die.specs.declared.fault.DieFault.{DieFault}
@@ -24,14 +22,6 @@ use Rattle.commands.specs.declared.text.CommandFault.{CommandFault}
 use Rattle.commands.specs.declared.text.CommandFault.TheVariants.{NoSuchCommand, BadNumber, Geometry, Capacity, WrongLength, RowRange, OutOfMemory}
 use Rattle.commands.specs.declared.text.CommandFault.TheVariants.{Sector, Die, Format, Certificate, Check, Mount, Start, Serve, ServeUnstored, SpareSize, Migrate, MigrateUnstored, Read}
 use Rattle.commands.specs.declared.text.CommandFault.TheVariants.{Write}
-
--- the number and the name of a limit that is broken
-abbrev pub geometry_words : GeometryFault → List ℕ
-geometry_words geometry.DataSize = codes "1 DataSize"
-geometry_words geometry.SpareSize = codes "2 SpareSize"
-geometry_words geometry.PagesPerBlock = codes "3 PagesPerBlock"
-geometry_words geometry.Blocks = codes "4 Blocks"
-geometry_words geometry.Sectors = codes "5 Sectors"
 
 -- the number and the name of a sector's fault, and the rows that it names
 abbrev pub sector_words : SectorFault → List ℕ
@@ -47,22 +37,12 @@ die_words die.OutOfMemory = codes "3 OutOfMemory"
 die_words die.SoundFaultPage = codes "4 SoundFaultPage"
 
 -- the number and the name of why a die was not formatted, and its fields
-abbrev pub format_words : FormatFault → List ℕ
-format_words (format.TooFewGood good need) = codes "1 TooFewGood good " ++ (decimal good ++ (codes " need " ++ decimal need))
-format_words format.Bus = codes "2 Bus"
-format_words format.OutOfMemory = codes "3 OutOfMemory"
-format_words format.WriteFailed = codes "4 WriteFailed"
-format_words (format.NotFresh row) = codes "5 NotFresh row " ++ decimal row
-
--- the number and the name of why bytes are no certificate
-abbrev pub certificate_words : CertFault → List ℕ
-certificate_words certificate.Magic = codes "1 Magic"
-certificate_words certificate.Short = codes "2 Short"
-certificate_words certificate.Long = codes "3 Long"
-certificate_words certificate.Limit = codes "4 Limit"
-certificate_words certificate.RowRange = codes "5 RowRange"
-certificate_words certificate.ClassRange = codes "6 ClassRange"
-certificate_words certificate.OutOfMemory = codes "7 OutOfMemory"
+abbrev pub numbered_format_words : FormatFault → List ℕ
+numbered_format_words (format.TooFewGood good need) = codes "1 TooFewGood good " ++ (decimal good ++ (codes " need " ++ decimal need))
+numbered_format_words format.Bus = codes "2 Bus"
+numbered_format_words format.OutOfMemory = codes "3 OutOfMemory"
+numbered_format_words format.WriteFailed = codes "4 WriteFailed"
+numbered_format_words (format.NotFresh row) = codes "5 NotFresh row " ++ decimal row
 
 -- the number and the name of a refusal by the checker or by mount, then each field by its name and its value
 abbrev pub refusal_words : Refusal → List ℕ
@@ -136,64 +116,64 @@ area_of (Read path) = codes "fault read "
 area_of (Write path) = codes "fault write "
 
 -- what is said behind that
-abbrev pub rest_of : CommandFault → List ℕ
-rest_of NoSuchCommand = codes "no such command"
-rest_of (BadNumber word) = word.now
-rest_of (Geometry fault) = geometry_words fault
-rest_of Capacity = codes "6 Capacity"
-rest_of WrongLength = codes "1 WrongLength"
-rest_of RowRange = codes "2 RowRange"
-rest_of OutOfMemory = codes "3 OutOfMemory"
-rest_of (Sector fault) = sector_words fault
-rest_of (Die fault) = die_words fault
-rest_of (Format fault) = format_words fault
-rest_of (Certificate fault) = certificate_words fault
-rest_of (Check refused) = refusal_words refused
-rest_of (Mount refused) = refusal_words refused
-rest_of Start = codes "1 OutOfMemory"
-rest_of (Serve stopped) = []
-rest_of (ServeUnstored stopped path) = 10 ∷ (codes "fault write " ++ path.now)
-rest_of SpareSize = codes "8 SpareSize"
-rest_of (Migrate refused) = device_words refused
-rest_of (MigrateUnstored refused path) = device_words refused ++ (10 ∷ (codes "fault write " ++ path.now))
-rest_of (Read path) = path.now
-rest_of (Write path) = path.now
+abbrev pub words_behind_area : CommandFault → List ℕ
+words_behind_area NoSuchCommand = codes "no such command"
+words_behind_area (BadNumber word) = word.now
+words_behind_area (Geometry fault) = broken_limit_words fault
+words_behind_area Capacity = codes "6 Capacity"
+words_behind_area WrongLength = codes "1 WrongLength"
+words_behind_area RowRange = codes "2 RowRange"
+words_behind_area OutOfMemory = codes "3 OutOfMemory"
+words_behind_area (Sector fault) = sector_words fault
+words_behind_area (Die fault) = die_words fault
+words_behind_area (Format fault) = numbered_format_words fault
+words_behind_area (Certificate fault) = certificate_words fault
+words_behind_area (Check refused) = refusal_words refused
+words_behind_area (Mount refused) = refusal_words refused
+words_behind_area Start = codes "1 OutOfMemory"
+words_behind_area (Serve stopped) = []
+words_behind_area (ServeUnstored stopped path) = 10 ∷ (codes "fault write " ++ path.now)
+words_behind_area SpareSize = codes "8 SpareSize"
+words_behind_area (Migrate refused) = device_words refused
+words_behind_area (MigrateUnstored refused path) = device_words refused ++ (10 ∷ (codes "fault write " ++ path.now))
+words_behind_area (Read path) = path.now
+words_behind_area (Write path) = path.now
 
 -- the line, without its line feed; of two things that failed two lines
-abbrev pub line_of : CommandFault → List ℕ
-line_of fault = area_of fault ++ rest_of fault
+abbrev pub command_fault_line : CommandFault → List ℕ
+command_fault_line fault = area_of fault ++ words_behind_area fault
 
 -- the exit status: 1 refused, 2 usage, 3 input or output
-abbrev pub status_of : CommandFault → ℕ
-status_of NoSuchCommand = 2
-status_of (BadNumber word) = 2
-status_of (Geometry fault) = 1
-status_of Capacity = 1
-status_of WrongLength = 1
-status_of RowRange = 1
-status_of OutOfMemory = 1
-status_of (Sector fault) = 1
-status_of (Die fault) = 1
-status_of (Format fault) = 1
-status_of (Certificate fault) = 1
-status_of (Check refused) = 1
-status_of (Mount refused) = 1
-status_of Start = 1
-status_of (Serve stopped) = stop_status stopped
-status_of (ServeUnstored stopped path) = 3
-status_of SpareSize = 1
-status_of (Migrate refused) = 1
-status_of (MigrateUnstored refused path) = 3
-status_of (Read path) = 3
-status_of (Write path) = 3
+abbrev pub command_exit_status : CommandFault → ℕ
+command_exit_status NoSuchCommand = 2
+command_exit_status (BadNumber word) = 2
+command_exit_status (Geometry fault) = 1
+command_exit_status Capacity = 1
+command_exit_status WrongLength = 1
+command_exit_status RowRange = 1
+command_exit_status OutOfMemory = 1
+command_exit_status (Sector fault) = 1
+command_exit_status (Die fault) = 1
+command_exit_status (Format fault) = 1
+command_exit_status (Certificate fault) = 1
+command_exit_status (Check refused) = 1
+command_exit_status (Mount refused) = 1
+command_exit_status Start = 1
+command_exit_status (Serve stopped) = stop_status stopped
+command_exit_status (ServeUnstored stopped path) = 3
+command_exit_status SpareSize = 1
+command_exit_status (Migrate refused) = 1
+command_exit_status (MigrateUnstored refused path) = 3
+command_exit_status (Read path) = 3
+command_exit_status (Write path) = 3
 
 -- the line as it is written
 abbrev pub told_line : CommandFault → List ℕ
-told_line fault = line_of fault ++ (10 ∷ [])
+told_line fault = command_fault_line fault ++ (10 ∷ [])
 
 -- The fault's line was written, and the status is the fault's. Or it could not be written: the status is 3, and a beginning of the line
 -- stands there, or nothing, and never all of it.
 abbrev pub IsCommandFaultTold : CommandFault → Option (List ℕ) → Option (List ℕ) → ℕ → Type 0
 IsCommandFaultTold fault before after status =
-    ((status ≡ status_of fault) × Appends before after (told_line fault))
+    ((status ≡ command_exit_status fault) × Appends before after (told_line fault))
     ⊎ ((status ≡ 3) × AppendsPart before after (told_line fault))

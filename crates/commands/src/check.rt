@@ -1,7 +1,7 @@
 //! The command `check GEOM C IMAGE CERT`.
 ghost use Rattle.std.specs.Prelude.{◌≡◌, OnOk, IfOk, IfErr};
 ghost use Rattle.std.specs.Io.KnownBytes.{Appends};
-ghost use Rattle.commands.specs.Check.{Accepts, DoesCheck, HoldsClaim, HoldsNoClaim, IsHeldAs, IsNoCertificate, IsSpelled, IsToldAs, IsUnheld, accepted_line};
+ghost use Rattle.commands.specs.Check.{Accepts, DoesCheck, HoldsClaim, HoldsNoClaim, IsHeldAs, IsNoCertificate, IsClaimSpelled, IsToldAs, IsUnheld, accepted_line};
 ghost use Rattle.commands.specs.Lines.{IsUnprinted};
 
 use crate::files::FileStore;
@@ -17,7 +17,7 @@ use std::io::{Read, Write};
 
 // The certificate that a file's bytes spell.
 fn certificate_in<'a>(alloc: Global, written: &[u8]) -> Result<Certificate, CommandFault<'a>>
-    ensures ok { IfOk result (λ certificate. IsSpelled certificate written.now) }
+    ensures ok { IfOk result (λ certificate. IsClaimSpelled certificate written.now) }
     ensures fault { IfErr result (IsNoCertificate written.now) }
 {
     match read_certificate(alloc, written) {

@@ -2,7 +2,7 @@
 ghost use Rattle.std.specs.Prelude.{◌≡◌, IfOk, IfErr, OnOk, length};
 ghost use Rattle.onfi_cycles.specs.Driver.{flash_by};
 ghost use Rattle.nand_die.specs.Made.{loaded_flash};
-ghost use Rattle.commands.specs.Check.{IsWhole};
+ghost use Rattle.commands.specs.Check.{HasImageLength};
 ghost use Rattle.commands.specs.Serve.{bad_in, HasClaim, IsDieUnmade, IsUnclaimed};
 
 use crate::check::certificate_at;
@@ -68,7 +68,7 @@ pub(crate) fn driver_over<'a>(
     ensures same { IfOk result (λ driver. driver.geometry ≡ claimed.now.asked.geometry) }
     ensures held { IfOk result (λ driver. flash_by (λ bus. bus.die.state) driver
         ≡ loaded_flash claimed.now.asked.geometry claimed.now.bytes.items (bad_in claimed.now.asked.geometry claimed.now.certificate)) }
-    ensures whole { OnOk result (IsWhole claimed.now.asked.geometry claimed.now.bytes.items) }
+    ensures whole { OnOk result (HasImageLength claimed.now.asked.geometry claimed.now.bytes.items) }
     ensures fault { IfErr result (IsDieUnmade claimed.now.asked.geometry claimed.now.bytes.items) }
 {
     let die = die_of(alloc, &claimed.asked, &claimed.bytes, &claimed.certificate)?;

@@ -2,7 +2,7 @@
 ghost use Rattle.std.specs.Prelude.{◌≡◌, true, OnOk, IfOk, IfErr};
 ghost use Rattle.std.specs.Io.KnownBytes.{Appends};
 ghost use Rattle.onfi_cycles.specs.Driver.{seen};
-ghost use Rattle.commands.specs.Format.{DoesFormat, IsFormattedImage, IsUnformatted, good_line};
+ghost use Rattle.commands.specs.Format.{DoesFormat, IsFormattedImage, IsImageUnformatted, good_line};
 ghost use Rattle.commands.specs.Files.{left_behind};
 ghost use Rattle.commands.specs.Lines.{IsUnprinted};
 ghost use Rattle.commands.specs.Steady.{is_flawless, is_steady};
@@ -49,7 +49,7 @@ pub fn format_image<'a>(
     image: &mut [u8],
 ) -> Result<u32, CommandFault<'a>>
     ensures ok { IfOk result (IsFormattedImage geometry image.old image.new) }
-    ensures fault { IfErr result (IsUnformatted geometry image.old) }
+    ensures fault { IfErr result (IsImageUnformatted geometry image.old) }
     ensures same { IfErr result (λ _. image.new ≡ image.old) }
 {
     let die = match Die::from_image(alloc, geometry, image, &[]) {

@@ -1,6 +1,6 @@
 //! What `serve` and `migrate` end with: the image that a die in memory holds then.
 ghost use Rattle.std.specs.Prelude.{◌≡◌};
-ghost use Rattle.commands.specs.Check.{IsWhole};
+ghost use Rattle.commands.specs.Check.{HasImageLength};
 ghost use Rattle.commands.specs.Serve.{HasGivenBack, failures_of, flash_behind};
 
 use crate::steady::SteadyDie;
@@ -8,7 +8,7 @@ use onfi_cycles::Driver;
 
 /// Puts the image of the die behind a driver in the place of one of its size. The driver has answered no fault.
 pub(crate) fn image_back(driver: Driver<SteadyDie>, image: &mut [u8])
-    requires whole { IsWhole (flash_behind driver).geometry image.old }
+    requires whole { HasImageLength (flash_behind driver).geometry image.old }
     ensures { HasGivenBack driver image.new }
 {
     driver.into_bus().die.image_into(image);

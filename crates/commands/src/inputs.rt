@@ -4,7 +4,7 @@ ghost use Rattle.page_layout.specs.Faults.{HasNumbers};
 ghost use Rattle.program_words.specs.declared.numbers.GeometryNumbers.{GeometryNumbers};
 ghost use Rattle.commands.specs.declared.files.FileFault.{FileFault};
 ghost use Rattle.commands.specs.Check.{AsksForCapacity, IsUnasked};
-ghost use Rattle.commands.specs.Inputs.{AreNoNumbers, AreNumbers, IsBadGeometry, IsBadNumber, IsUnread};
+ghost use Rattle.commands.specs.Inputs.{AreNoNumbers, AreNumbers, IsBadGeometry, IsBadNumber, TellsUnread};
 ghost use Rattle.program_words.specs.Numbers.{SpellsGeometry, number_of};
 
 use crate::files::{FileFault, FileStore};
@@ -126,7 +126,7 @@ pub fn cache_asked<'a>(words: &CertificateWords<'a>) -> Result<CacheAsked, Comma
 /// `Read` where the file cannot be read, `OutOfMemory` where a growth was refused.
 pub fn load<'a, F: FileStore>(files: &mut F, path: &'a str) -> Result<Vec<u8>, CommandFault<'a>>
     ensures ok { IfOk result (λ bytes. F.gives files.old path.now (Ok bytes.items)) }
-    ensures fault { IfErr result (IsUnread (F.gives files.old) path.now) }
+    ensures fault { IfErr result (TellsUnread (F.gives files.old) path.now) }
     ensures same { (at : List ℕ) (answer : Result (List ℕ) FileFault) → F.gives files.new at answer → F.gives files.old at answer }
     ensures stores { F.stores files.new ≡ F.stores files.old }
 {

@@ -2,7 +2,7 @@
 ghost use Rattle.std.specs.Prelude.{◌≡◌, Ok, OnOk, IfOk, IfErr};
 ghost use Rattle.std.specs.Io.KnownBytes.{Appends};
 ghost use Rattle.onfi_cycles.specs.Driver.{flash_by};
-ghost use Rattle.commands.specs.Check.{IsWhole};
+ghost use Rattle.commands.specs.Check.{HasImageLength};
 ghost use Rattle.commands.specs.Files.{left_behind, with_store, written_file};
 ghost use Rattle.commands.specs.Lines.{IsUnprinted};
 ghost use Rattle.commands.specs.Migrate.{DoesMigrate, EndsShort, IsUnmigratedDie, MigratesDie, StartsOver, migrated_line};
@@ -70,7 +70,7 @@ fn migrate_die<'a>(
     image: &mut [u8],
 ) -> Result<Result<u32, DeviceFault>, CommandFault<'a>>
     requires same { driver.geometry ≡ asked.now.geometry }
-    requires whole { IsWhole asked.now.geometry image.old }
+    requires whole { HasImageLength asked.now.geometry image.old }
     ensures ok { IfOk result (MigratesDie asked.now.geometry asked.now.capacity certificate.now (flash_by (λ bus. bus.die.state) driver) image.new) }
     ensures fault { IfErr result (IsUnmigratedDie asked.now.geometry asked.now.capacity certificate.now (flash_by (λ bus. bus.die.state) driver)) }
 {

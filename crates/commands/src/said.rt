@@ -2,7 +2,9 @@
 ghost use Rattle.std.specs.Prelude.{◌≡◌, [], ◌∷◌, ◌++◌};
 ghost use Rattle.request_stream.specs.Frames.{SendsLine};
 ghost use Rattle.commands.specs.Said.{said_bytes};
-ghost use Rattle.commands.specs.Text.{certificate_words, die_words, format_words, geometry_words, refusal_words, sector_words};
+ghost use Rattle.certificate.specs.Faults.{certificate_words};
+ghost use Rattle.page_layout.specs.Faults.{broken_limit_words};
+ghost use Rattle.commands.specs.Text.{die_words, numbered_format_words, refusal_words, sector_words};
 
 use crate::lines::{send_device, send_line};
 use certificate::CertFault;
@@ -28,7 +30,7 @@ pub enum Said<'a> {
 }
 
 pub fn of_geometry<'a>(fault: GeometryFault) -> Said<'a>
-    ensures { said_bytes result ≡ geometry_words fault }
+    ensures { said_bytes result ≡ broken_limit_words fault }
 {
     Said::Text(match fault {
         GeometryFault::DataSize => "1 DataSize",
@@ -63,7 +65,7 @@ pub fn of_die<'a>(fault: DieFault) -> Said<'a>
 }
 
 pub fn of_format<'a>(fault: FormatFault) -> Said<'a>
-    ensures { said_bytes result ≡ format_words fault }
+    ensures { said_bytes result ≡ numbered_format_words fault }
 {
     match fault {
         FormatFault::TooFewGood { good, need } => {

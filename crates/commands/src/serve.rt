@@ -6,10 +6,10 @@ ghost use Rattle.onfi_cycles.specs.Driver.{flash_by};
 ghost use Rattle.nand_die.specs.DieValue.{before_reset};
 ghost use Rattle.nand_die.specs.Made.{loaded_flash};
 ghost use Rattle.ftl_device.specs.Begin.{is_bad_in};
-ghost use Rattle.commands.specs.Check.{IsWhole};
+ghost use Rattle.commands.specs.Check.{HasImageLength};
 ghost use Rattle.commands.specs.Files.{left_behind};
 ghost use Rattle.commands.specs.Steady.{is_steady};
-ghost use Rattle.commands.specs.Serve.{bad_in, stop_in, EndsServing, HasServed, IsDieUnmade, IsUnservedDie, DoesServe};
+ghost use Rattle.commands.specs.Serve.{bad_in, stop_in, EndsServing, HasServedDie, IsDieUnmade, IsUnservedDie, DoesServe};
 
 use crate::claimed::{claim, driver_over};
 use crate::files::{FileFault, FileStore};
@@ -62,7 +62,7 @@ pub(crate) fn die_of<'a>(
     requires { length certificate.now.blocks ≡ certificate.now.sizes.blocks }
     ensures made { IfOk result (λ die. die ≡ before_reset (loaded_flash asked.now.geometry bytes.now (bad_in asked.now.geometry certificate.now))) }
     ensures steady { IfOk result (λ die. is_steady die ≡ true) }
-    ensures whole { OnOk result (IsWhole asked.now.geometry bytes.now) }
+    ensures whole { OnOk result (HasImageLength asked.now.geometry bytes.now) }
     ensures fault { IfErr result (IsDieUnmade asked.now.geometry bytes.now) }
 {
     if ImageSlice::new(&asked.geometry, bytes).is_err() {
@@ -98,8 +98,8 @@ fn serve_die<'a, R: Read, W: Write>(
     out: &mut W,
 ) -> Result<Option<ServeStop>, CommandFault<'a>>
     requires same { driver.geometry ≡ asked.now.geometry }
-    requires whole { IsWhole asked.now.geometry image.old }
-    ensures ok { IfOk result (HasServed asked.now.geometry asked.now.capacity certificate.now (flash_by (λ bus. bus.die.state) driver) image.new
+    requires whole { HasImageLength asked.now.geometry image.old }
+    ensures ok { IfOk result (HasServedDie asked.now.geometry asked.now.capacity certificate.now (flash_by (λ bus. bus.die.state) driver) image.new
         (R.remaining input.old) (R.remaining input.new) (W.contents out.old) (W.contents out.new)) }
     ensures fault { IfErr result (IsUnservedDie asked.now.geometry asked.now.capacity certificate.now (flash_by (λ bus. bus.die.state) driver)) }
     ensures unread { OnErr result (Keeps (R.remaining input.old) (R.remaining input.new)) }

@@ -1,9 +1,8 @@
 //! The command `show GEOM IMAGE ROW`.
 ghost use Rattle.std.specs.Prelude.{◌≡◌, length, IfErr, OnOk};
 ghost use Rattle.std.specs.Io.KnownBytes.{Appends};
-ghost use Rattle.page_layout.specs.Page.{page};
 ghost use Rattle.commands.specs.Lines.{IsUnprinted};
-ghost use Rattle.commands.specs.Show.{DoesShow, IsUnshown, Shows, shown_line, shown_of};
+ghost use Rattle.commands.specs.Show.{DoesShow, IsUnshown, ShowsRowLine, look_line};
 
 use crate::files::FileStore;
 use crate::inputs::{load, numbered_by};
@@ -12,20 +11,10 @@ use crate::text::CommandFault;
 use command_words::ImageWords;
 use itoa::Buffer;
 use page_layout::geometry::Geometry;
-use page_layout::record::{Kind, Record, is_erased, read_record, record_version};
+use page_layout::look::{PageLook, look_at};
+use page_layout::record::{Kind, Record, record_version};
 use page_layout::source::ImageSlice;
 use std::io::Write;
-
-/// What a page shows of itself.
-#[derive(Clone, Copy)]
-pub enum Shown {
-    /// It is sound, with this record, in this version.
-    Sound(Record, u8),
-    /// All its bytes are FFh.
-    Erased,
-    /// It is neither.
-    Unsound,
-}
 
 // What a page holds, in one word.
 fn kind_word(kind: Kind) -> &'static str
@@ -40,20 +29,23 @@ fn kind_word(kind: Kind) -> &'static str
 }
 
 // What the line of a sound page ends with: a version that is not the first is told.
-fn version_words(version: u8) -> &'static str
+fn version_words(version: Option<u8>) -> &'static str
     ensures { result.now ≡ Rattle.commands.specs.Show.version_words version }
 {
-    if version == 2 { " version 2" } else { "" }
+    match version {
+        Some(2) => " version 2",
+        _ => "",
+    }
 }
 
 // Writes the line of a sound page.
 fn print_record<'a, W: Write>(
     found: &Record,
-    version: u8,
+    version: Option<u8>,
     out: &mut W,
 ) -> Result<(), CommandFault<'a>>
-    ensures ok { OnOk result (Appends (W.contents out.old) (W.contents out.new) (shown_line (Shown.Sound found.now version))) }
-    ensures fault { IfErr result (IsUnprinted (shown_line (Shown.Sound found.now version)) (W.contents out.old) (W.contents out.new)) }
+    ensures ok { OnOk result (Appends (W.contents out.old) (W.contents out.new) (look_line version (PageLook.Sound found.now))) }
+    ensures fault { IfErr result (IsUnprinted (look_line version (PageLook.Sound found.now)) (W.contents out.old) (W.contents out.new)) }
 {
     let (mut number, mut sequence, mut wear) = (Buffer::new(), Buffer::new(), Buffer::new());
     let line = [
@@ -71,27 +63,18 @@ fn print_record<'a, W: Write>(
 }
 
 // Writes the line of a page.
-fn print_shown<'a, W: Write>(shown: &Shown, out: &mut W) -> Result<(), CommandFault<'a>>
-    ensures ok { OnOk result (Appends (W.contents out.old) (W.contents out.new) (shown_line shown.now)) }
-    ensures fault { IfErr result (IsUnprinted (shown_line shown.now) (W.contents out.old) (W.contents out.new)) }
+fn print_look<'a, W: Write>(
+    look: &PageLook,
+    version: Option<u8>,
+    out: &mut W,
+) -> Result<(), CommandFault<'a>>
+    ensures ok { OnOk result (Appends (W.contents out.old) (W.contents out.new) (look_line version look.now)) }
+    ensures fault { IfErr result (IsUnprinted (look_line version look.now) (W.contents out.old) (W.contents out.new)) }
 {
-    match shown {
-        Shown::Sound(record, version) => print_record(record, *version, out),
-        Shown::Erased => print(out, &["erased\n"]),
-        Shown::Unsound => print(out, &["unsound\n"]),
-    }
-}
-
-fn look_at(geometry: &Geometry, body: &[u8], spare: &[u8]) -> Shown
-    requires body_whole { length body.now ≡ geometry.now.data_bytes }
-    requires spare_whole { length spare.now ≡ geometry.now.spare_bytes }
-    ensures { result ≡ shown_of (page body.now spare.now) }
-{
-    let found = read_record(geometry, body, spare);
-    match found.zip(record_version(geometry, body, spare)) {
-        Some((record, version)) => Shown::Sound(record, version),
-        None if is_erased(body, spare) => Shown::Erased,
-        None => Shown::Unsound,
+    match look {
+        PageLook::Sound(record) => print_record(record, version, out),
+        PageLook::Erased => print(out, &["erased\n"]),
+        PageLook::Unsound => print(out, &["unsound\n"]),
     }
 }
 
@@ -109,7 +92,7 @@ pub fn print_page<'a, W: Write>(
     row: u32,
     out: &mut W,
 ) -> Result<(), CommandFault<'a>>
-    ensures ok { OnOk result (Shows image.now.flash.geometry image.now.flash.image row (W.contents out.old) (W.contents out.new)) }
+    ensures ok { OnOk result (ShowsRowLine image.now.flash.geometry image.now.flash.image row (W.contents out.old) (W.contents out.new)) }
     ensures fault { IfErr result (IsUnshown image.now.flash.geometry image.now.flash.image row (W.contents out.old) (W.contents out.new)) }
 {
     let geometry = image.geometry();
@@ -117,8 +100,8 @@ pub fn print_page<'a, W: Write>(
         return Err(CommandFault::RowRange);
     }
     let (body, spare) = image.page(row);
-    let shown = look_at(&geometry, body, spare);
-    print_shown(&shown, out)
+    let look = look_at(&geometry, body, spare);
+    print_look(&look, record_version(&geometry, body, spare), out)
 }
 
 /// The command `show`: prints what the page of row ROW of the raw image IMAGE, of the geometry GEOM,

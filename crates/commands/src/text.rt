@@ -1,7 +1,7 @@
 //! What the program says when a command ends before it is done: one line, or two where two things failed, and the exit status.
 ghost use Rattle.std.specs.Prelude.{◌≡◌, ◌++◌};
 ghost use Rattle.commands.specs.Said.{said_bytes};
-ghost use Rattle.commands.specs.Text.{IsCommandFaultTold, area_of, line_of, rest_of, stop_words};
+ghost use Rattle.commands.specs.Text.{IsCommandFaultTold, area_of, command_fault_line, words_behind_area, stop_words};
 
 use crate::said::{self, Said, send_said};
 use certificate::CertFault;
@@ -81,12 +81,12 @@ pub enum CommandFault<'a> {
 
 impl CommandFault<'_> {
     ghost use Rattle.std.specs.Prelude.{◌≡◌};
-    ghost use Rattle.commands.specs.Text.{status_of};
+    ghost use Rattle.commands.specs.Text.{command_exit_status};
 
     /// The exit status: 2 where the words are no command or a word is no number, 3 where a file or standard output failed,
     /// else 1.
     pub fn status(&self) -> u8
-        ensures { result ≡ status_of self.now }
+        ensures { result ≡ command_exit_status self.now }
     {
         match self {
             CommandFault::NoSuchCommand | CommandFault::BadNumber(_) => USAGE,
@@ -157,7 +157,7 @@ fn area<'a>(fault: &CommandFault<'a>) -> &'a str
 
 // What is said behind that.
 fn said_of<'a>(fault: &CommandFault<'a>) -> Said<'a>
-    ensures { said_bytes result ≡ rest_of fault.now }
+    ensures { said_bytes result ≡ words_behind_area fault.now }
 {
     match *fault {
         CommandFault::NoSuchCommand => Said::Text("no such command"),
@@ -185,7 +185,7 @@ fn said_of<'a>(fault: &CommandFault<'a>) -> Said<'a>
 
 // The line of a fault: its area, and what is said behind it.
 fn line<'a>(fault: &CommandFault<'a>) -> (&'a str, Said<'a>)
-    ensures { result.0.now ++ said_bytes result.1 ≡ line_of fault.now }
+    ensures { result.0.now ++ said_bytes result.1 ≡ command_fault_line fault.now }
 {
     (area(fault), said_of(fault))
 }

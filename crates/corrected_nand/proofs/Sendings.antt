@@ -16,7 +16,7 @@ use Rattle.onfi_cycles.specs.Driver.{seen}
 use Rattle.page_code.specs.Layout.{outer_bytes, coded}
 use Rattle.page_code.specs.Near.{HasChipSizes}
 use Rattle.page_code.specs.Chip.{IsChipOf}
-use Rattle.corrected_nand.specs.ChipBus.{SteadyLaw, ReadLaw, ProgramLaw, EraseLaw, PutsOut, Did}
+use Rattle.corrected_nand.specs.ChipBus.{SteadyLaw, ReadLaw, CodedProgramLaw, ChipEraseLaw, PutsOut, Did}
 
 pub record Steady {B : Type 0} (chip : B → Flash) (keeps : B → Bool) (old new : B) : Type 0 where
   pub keeps_is : keeps new ≡ keeps old
@@ -86,7 +86,7 @@ did chip keeps called op old new cycles (Ok outcome) law s = λ k. let t = did_s
 did chip keeps called op old new cycles (Err fault) law s = tt
 
 -- the law of programs, of a page as it is handed in
-pub program_law : {B : Type 0} (chip : B → Flash) (keeps : B → Bool) (called : B → Cycle → Result (Unit {0}) BusFault → List ℕ → B → Type 0) → ProgramLaw B chip keeps called
+pub program_law : {B : Type 0} (chip : B → Flash) (keeps : B → Bool) (called : B → Cycle → Result (Unit {0}) BusFault → List ℕ → B → Type 0) → CodedProgramLaw B chip keeps called
     → (old new : B) (g : Geometry) (row : ℕ) (body outer plain : List ℕ) (status : ℕ) (outcome : Outcome) → (keeps old ≡ true → (chip old).geometry ≡ g) → row < row_count g → length body ≡ g.data_bytes → length plain ≡ g.spare_bytes
     → page body outer ≡ coded g (page body plain) → keeps old ≡ true → outcome_of status ≡ Ok outcome → Sent called old (program_cycles row body outer) (status ∷ []) new
     → Did (λ passed s. Program row (page body plain) passed (page_at s row)) (chip old) (chip new) outcome
@@ -102,7 +102,7 @@ erase_same : (g chip : Geometry) (block : ℕ) → IsChipOf g chip → erase_cyc
 unfolding erase_cycles
 erase_same g chip block h = ap (λ n. (Command 0x60 ∷ row_address (block * n)) ++ confirm_cycles 0xD0) h.pages_is
 
-pub erase_law : {B : Type 0} (chip : B → Flash) (keeps : B → Bool) (called : B → Cycle → Result (Unit {0}) BusFault → List ℕ → B → Type 0) → EraseLaw B chip keeps called
+pub erase_law : {B : Type 0} (chip : B → Flash) (keeps : B → Bool) (called : B → Cycle → Result (Unit {0}) BusFault → List ℕ → B → Type 0) → ChipEraseLaw B chip keeps called
     → (old new : B) (g raw : Geometry) (block : ℕ) (status : ℕ) (outcome : Outcome) → IsChipOf g raw → (keeps old ≡ true → (chip old).geometry ≡ g) → block < g.blocks
     → keeps old ≡ true → outcome_of status ≡ Ok outcome → Sent called old (erase_cycles raw block) (status ∷ []) new
     → Did (λ passed s. Erase block passed (block_at s block)) (chip old) (chip new) outcome

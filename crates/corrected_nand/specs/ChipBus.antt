@@ -45,14 +45,14 @@ pub record Did (op : Bool → Flash → Operation) (old new : Flash) (outcome : 
   pub whole : IsWhole new
 
 -- a page that is programmed with its codes
-abbrev pub ProgramLaw : (B : Type 0) → (B → Flash) → (B → Bool) → (B → Cycle → Result (Unit {0}) BusFault → List ℕ → B → Type 0) → Type 0
-ProgramLaw B chip keeps called =
+abbrev pub CodedProgramLaw : (B : Type 0) → (B → Flash) → (B → Bool) → (B → Cycle → Result (Unit {0}) BusFault → List ℕ → B → Type 0) → Type 0
+CodedProgramLaw B chip keeps called =
     (old new : B) (row : ℕ) (p : Page) (status : ℕ) (outcome : Outcome) → keeps old ≡ true → row < row_count (chip old).geometry → length p.body ≡ (chip old).geometry.data_bytes → length p.spare ≡ (chip old).geometry.spare_bytes
     → outcome_of status ≡ Ok outcome → Sent called old (program_cycles row (coded (chip old).geometry p).body (coded (chip old).geometry p).spare) (status ∷ []) new
     → Did (λ passed s. Program row p passed (page_at s row)) (chip old) (chip new) outcome
 
-abbrev pub EraseLaw : (B : Type 0) → (B → Flash) → (B → Bool) → (B → Cycle → Result (Unit {0}) BusFault → List ℕ → B → Type 0) → Type 0
-EraseLaw B chip keeps called =
+abbrev pub ChipEraseLaw : (B : Type 0) → (B → Flash) → (B → Bool) → (B → Cycle → Result (Unit {0}) BusFault → List ℕ → B → Type 0) → Type 0
+ChipEraseLaw B chip keeps called =
     (old new : B) (block : ℕ) (status : ℕ) (outcome : Outcome) → keeps old ≡ true → block < (chip old).geometry.blocks
     → outcome_of status ≡ Ok outcome → Sent called old (erase_cycles (chip old).geometry block) (status ∷ []) new
     → Did (λ passed s. Erase block passed (block_at s block)) (chip old) (chip new) outcome

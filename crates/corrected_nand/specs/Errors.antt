@@ -23,8 +23,8 @@ pub record AreFor (g : Geometry) (e : Errors) : Type 0 where
   pub lost_whole : length e.lost_in ≡ g.blocks
 
 -- so many bits more were turned back in a block
-abbrev pub with_turned : Errors → ℕ → ℕ → Errors
-with_turned e block bits = record {
+abbrev pub with_more_turned : Errors → ℕ → ℕ → Errors
+with_more_turned e block bits = record {
   turned = raised e.turned bits;
   lost = e.lost;
   turned_in = slice_set e.turned_in block (raised (slice_index e.turned_in block) bits);

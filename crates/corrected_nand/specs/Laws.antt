@@ -20,8 +20,8 @@ pub record RaisesTurned (g : Geometry) (row bits : ℕ) (old new : Errors) : Typ
   pub lost : new.lost ≡ old.lost
   pub lost_in : new.lost_in ≡ old.lost_in
 
-abbrev pub TurnedLaw : Type 0
-TurnedLaw = (g : Geometry) (row : ℕ) (put shown : Page) (e : Errors) → row / g.pages < length e.turned_in → is_shown shown ≡ true → RaisesTurned g row (bits_wrong g shown put) e (after_read g row put shown e)
+abbrev pub RaisesTurnedLaw : Type 0
+RaisesTurnedLaw = (g : Geometry) (row : ℕ) (put shown : Page) (e : Errors) → row / g.pages < length e.turned_in → is_shown shown ≡ true → RaisesTurned g row (bits_wrong g shown put) e (after_read g row put shown e)
 
 -- one of a page that is lost raises the lost ones by one
 pub record RaisesLost (g : Geometry) (row : ℕ) (old new : Errors) : Type 0 where
@@ -31,15 +31,15 @@ pub record RaisesLost (g : Geometry) (row : ℕ) (old new : Errors) : Type 0 whe
   pub turned : new.turned ≡ old.turned
   pub turned_in : new.turned_in ≡ old.turned_in
 
-abbrev pub LostLaw : Type 0
-LostLaw = (g : Geometry) (row : ℕ) (put shown : Page) (e : Errors) → row / g.pages < length e.lost_in → is_shown shown ≡ false → RaisesLost g row e (after_read g row put shown e)
+abbrev pub RaisesLostLaw : Type 0
+RaisesLostLaw = (g : Geometry) (row : ℕ) (put shown : Page) (e : Errors) → row / g.pages < length e.lost_in → is_shown shown ≡ false → RaisesLost g row e (after_read g row put shown e)
 
 -- a count that is the greatest u64 stays, whatever is read
-pub record Stays (old new : Errors) : Type 0 where
+pub record KeepsTopCounts (old new : Errors) : Type 0 where
   pub turned : old.turned ≡ 2 ^ 64 - 1 → new.turned ≡ 2 ^ 64 - 1
   pub lost : old.lost ≡ 2 ^ 64 - 1 → new.lost ≡ 2 ^ 64 - 1
   pub turned_in : (k : ℕ) → slice_index old.turned_in k ≡ 2 ^ 64 - 1 → slice_index new.turned_in k ≡ 2 ^ 64 - 1
   pub lost_in : (k : ℕ) → slice_index old.lost_in k ≡ 2 ^ 64 - 1 → slice_index new.lost_in k ≡ 2 ^ 64 - 1
 
-abbrev pub TopLaw : Type 0
-TopLaw = (g : Geometry) (row : ℕ) (put shown : Page) (e : Errors) → Stays e (after_read g row put shown e)
+abbrev pub StaysAtTopLaw : Type 0
+StaysAtTopLaw = (g : Geometry) (row : ℕ) (put shown : Page) (e : Errors) → KeepsTopCounts e (after_read g row put shown e)

@@ -26,7 +26,7 @@ use std::marker::Model;
 pub trait ChipBus: Bus {
     ghost use Rattle.std.specs.Prelude.{Bool};
     ghost use Rattle.page_layout.specs.Flash.{Flash};
-    ghost use Rattle.corrected_nand.specs.ChipBus.{SteadyLaw, ReadLaw, ProgramLaw, EraseLaw};
+    ghost use Rattle.corrected_nand.specs.ChipBus.{SteadyLaw, ReadLaw, CodedProgramLaw, ChipEraseLaw};
 
     /// The die that the chip is, without the codes.
     ghost chip: { Self → Flash };
@@ -41,10 +41,10 @@ pub trait ChipBus: Bus {
     ghost read: { ReadLaw Self chip keeps Self.called };
 
     /// What a program does.
-    ghost programmed: { ProgramLaw Self chip keeps Self.called };
+    ghost programmed: { CodedProgramLaw Self chip keeps Self.called };
 
     /// What an erase does.
-    ghost erased: { EraseLaw Self chip keeps Self.called };
+    ghost erased: { ChipEraseLaw Self chip keeps Self.called };
 }
 
 /// A chip behind a bus: its reads, programs and erases are spelled as cycles of whole pages, with their codes. It has two geometries, of two

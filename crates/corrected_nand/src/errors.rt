@@ -1,6 +1,6 @@
 //! What was wrong with the reads of a die.
 ghost use Rattle.std.specs.Prelude.{◌≡◌, ◌<◌, ◌^◌, length, slice_index, IfOk, IfSome, IfNone};
-ghost use Rattle.corrected_nand.specs.Errors.{no_errors, with_turned, with_lost, IsMost, AreNone};
+ghost use Rattle.corrected_nand.specs.Errors.{no_errors, with_more_turned, with_lost, IsMost, AreNone};
 
 use std::alloc::{AllocError, Global};
 use std::marker::Model;
@@ -59,7 +59,7 @@ impl ReadErrors {
     // So many wrong bits of a block were turned back.
     pub(crate) fn count_turned(&mut self, block: u32, bits: u32)
         requires { block < length self.old.turned_in }
-        ensures { self.new ≡ with_turned self.old block bits }
+        ensures { self.new ≡ with_more_turned self.old block bits }
     {
         let bits = u64::from(bits);
         self.turned = self.turned.saturating_add(bits);

@@ -26,7 +26,7 @@ use Rattle.image_check.specs.Blocks.{class, is_factory, is_grown, table_class}
 use Rattle.image_laws.proofs.PowerLemmas.{both, stays, which}
 use Rattle.crash_recovery.specs.Torn.{IsCut, IsCutFrom, IsFirstUnsound, row_in}
 use Rattle.crash_recovery.specs.Taken.{HasTaken}
-use Rattle.crash_recovery.specs.Laws.{AgainLaw, CutLaw, GoodInOrderLaw, HealedLaw, OrderLaw}
+use Rattle.crash_recovery.specs.Laws.{CutAgainLaw, CutLaw, GoodInOrderLaw, CutShowsNoDamageLaw, OrderLaw}
 use Rattle.crash_recovery.proofs.CutLemmas.{has_it, not_before}
 use Rattle.crash_recovery.proofs.TakesLemmas.{spared_same}
 use Rattle.crash_recovery.proofs.Rows.{mark_in, page_below, row_split, unsound_in}
@@ -146,7 +146,7 @@ after_cut mark s t block page k w lt has from within = elim (cases_lt k page) [
       inr (le, has.left.erased row inside (is_cut_behind s.geometry s.pages mark block page k from le within) ∙ ap erased_page has.takes.geometry)
 ]
 
-pub healed : HealedLaw
+pub healed : CutShowsNoDamageLaw
 healed mark s t block page w lt has from =
     let g = s.geometry in
     let ps = block_pages g t.pages block in
@@ -186,7 +186,7 @@ healed mark s t block page w lt has from =
 
 -- ---- a cut that was stopped
 
-pub again : AgainLaw
+pub again : CutAgainLaw
 again mark s t block page w lt takes from =
     let g = s.geometry in
     let long : length t.pages ≡ row_count g = (takes.whole w).pages_whole.rows ∙ ap row_count takes.geometry in

@@ -32,12 +32,12 @@ abbrev pub DeadSpareLaw : Type 0
 DeadSpareLaw = (s t : Held) → AreImages s → HasOneArray s.geometry s.pages → Takes (IsDeadRow s.geometry s.pages) (lasting s) t → StandsFor s.geometry s.pages t.pages × StandsFor s.geometry s.pages t.durable
 
 -- no sound page of the block stood behind one that is not
-pub record IsInOrder (g : Geometry) (image : Image) (block : ℕ) : Type 0 where
+pub record HasSoundPagesFirst (g : Geometry) (image : Image) (block : ℕ) : Type 0 where
   pub behind : (a b : ℕ) → a < b → b < g.pages → IsUnsoundAt image (row_in g block a) → IsUnsoundAt image (row_in g block b)
 
 -- the blocks that are cut were in order when the image was stored
 abbrev pub CutsInOrder : Geometry → (stored found : Image) → (mark : ℕ) → Type 0
-CutsInOrder g stored found mark = (block page : ℕ) → IsCutFrom g found mark block page → IsInOrder g stored block
+CutsInOrder g stored found mark = (block page : ℕ) → IsCutFrom g found mark block page → HasSoundPagesFirst g stored block
 
 -- AFTER A LOSS OF POWER: what is left by a cut is what a loss of power leaves of the same image. So all that is said of one
 -- is so of it: nothing that was stored is lost, and each sector is as it was then or as a page of it since
@@ -54,12 +54,12 @@ LossLastsLaw = (mark : ℕ) (stored left : Image) (s t : Held) → AreImages s �
 
 -- so it is of a block that is not bad
 abbrev pub GoodInOrderLaw : Type 0
-GoodInOrderLaw = (g : Geometry) (image : Image) (block : ℕ) → IsImage g image → block < g.blocks → class g image block < 4 → IsInOrder g image block
+GoodInOrderLaw = (g : Geometry) (image : Image) (block : ℕ) → IsImage g image → block < g.blocks → class g image block < 4 → HasSoundPagesFirst g image block
 
 -- THE PAGES OF A BLOCK ARE PROGRAMMED IN ORDER, and a sync makes all before it last: so where the block's first page is found that is not sound none from there
 -- on was stored
 abbrev pub OrderLaw : Type 0
-OrderLaw = (g : Geometry) (stored left found : Image) (block page k : ℕ) → LosesPower g stored left found → IsInOrder g stored block → IsFirstUnsound g found block page
+OrderLaw = (g : Geometry) (stored left found : Image) (block page k : ℕ) → LosesPower g stored left found → HasSoundPagesFirst g stored block → IsFirstUnsound g found block page
     → page ≤ k → k < g.pages → IsUnsoundAt stored (row_in g block k)
 
 -- so no row that is cut had a record when the image was stored
@@ -76,12 +76,12 @@ abbrev pub DeadLaw : Type 0
 DeadLaw = (g : Geometry) (image : Image) → HasOneArray g image → TakesNoNewest (IsDeadRow g image) image
 
 -- A BLOCK THAT WAS CUT SHOWS NO DAMAGE: no page of it is torn, and none is missing
-abbrev pub HealedLaw : Type 0
-HealedLaw = (mark : ℕ) (s t : Held) (block page : ℕ) → AreImages s → block < s.geometry.blocks → HasTaken (IsCut s.geometry s.pages mark) s t → IsCutFrom s.geometry s.pages mark block page
+abbrev pub CutShowsNoDamageLaw : Type 0
+CutShowsNoDamageLaw = (mark : ℕ) (s t : Held) (block page : ℕ) → AreImages s → block < s.geometry.blocks → HasTaken (IsCut s.geometry s.pages mark) s t → IsCutFrom s.geometry s.pages mark block page
     → (list_any is_broken (block_pages s.geometry t.pages block) ≡ false) × (has_gap (block_pages s.geometry t.pages block) ≡ false)
 
 -- WHERE A CUT WAS STOPPED, at whatever write, the block is cut from the same page once more, or shows no damage: that page is its first that is not sound
 -- still, and none behind it is marked
-abbrev pub AgainLaw : Type 0
-AgainLaw = (mark : ℕ) (s t : Held) (block page : ℕ) → AreImages s → block < s.geometry.blocks → Takes (IsCut s.geometry s.pages mark) s t → IsCutFrom s.geometry s.pages mark block page
+abbrev pub CutAgainLaw : Type 0
+CutAgainLaw = (mark : ℕ) (s t : Held) (block page : ℕ) → AreImages s → block < s.geometry.blocks → Takes (IsCut s.geometry s.pages mark) s t → IsCutFrom s.geometry s.pages mark block page
     → IsFirstUnsound s.geometry t.pages block page × NoneIsMarked s.geometry t.pages mark block page

@@ -1,5 +1,5 @@
 //! What the taking of pages away from a store comes to, and that what is cut back may be taken. Each function does nothing: its contract is the law.
-ghost use Rattle.crash_recovery.specs.Laws.{AgainLaw, CutLaw, DeadLaw, DeadSpareLaw, GoodInOrderLaw, HealedLaw, LossLastsLaw, LossLaw, OrderLaw, SpareLaw, TailLaw};
+ghost use Rattle.crash_recovery.specs.Laws.{CutAgainLaw, CutLaw, DeadLaw, DeadSpareLaw, GoodInOrderLaw, CutShowsNoDamageLaw, LossLastsLaw, LossLaw, OrderLaw, SpareLaw, TailLaw};
 
 /// Where blocks are cut back, as far as it came and whatever failed: if none of the pages was a key's newest one, the same array is held, and what mounted mounts; and after a loss of
 /// power, what is left is what one leaves of the same image, so that nothing that was stored is lost. So is what is found if the power goes meanwhile. Where blocks are erased
@@ -20,6 +20,6 @@ pub fn cut_laws()
     ensures cut { CutLaw }
     ensures tail { TailLaw }
     ensures dead { DeadLaw }
-    ensures healed { HealedLaw }
-    ensures again { AgainLaw }
+    ensures healed { CutShowsNoDamageLaw }
+    ensures again { CutAgainLaw }
 {}

@@ -9,7 +9,7 @@ use Rattle.collection.specs.Collect.{has_moved, waiting}
 use Rattle.collection.specs.Room.{IsWorth}
 use Rattle.ftl_device.proofs.PinLemmas.{none_moved}
 use Rattle.promises.specs.Log.{programs_in}
-use Rattle.device_laws.specs.Collections.{VictimLaw, PinnedFirstLaw, NoneWaitsLaw, LowestPageLaw, RoomLaw, AilingLaw, LessLeftLaw}
+use Rattle.device_laws.specs.Collections.{VictimLaw, PinnedFirstLaw, NoneWaitsLaw, LowestPageLaw, FiveFreeBlocksLaw, AilingLaw, LessLeftLaw}
 use Rattle.device_laws.specs.Logs.{NothingLaw, LedLaw, TakesLaw, LegalCallLaw}
 
 pub victim : VictimLaw
@@ -34,7 +34,7 @@ none_waits flushing block t old new did = (few, λ unshared. ap (λ l. not (leng
 pub lowest_page : LowestPageLaw
 lowest_page flushing old new w t = (w.lowest.due, w.lowest.lowest t, w.of_moved)
 
-pub room : RoomLaw
+pub room : FiveFreeBlocksLaw
 room many r block has = (
   has.five,
   λ few within closed. (elim has.wanted [

@@ -6,11 +6,11 @@ use Rattle.collection.specs.declared.engine.room.Reserve.TheVariants as reserve
 use Rattle.collection.specs.Room.{IsWorth, wanted}
 use Rattle.allocation.specs.State.{State}
 use Rattle.ftl_device.specs.declared.fault.DeviceFault.TheVariants.{OutOfRange, ReadOnly, SequenceSpent, OutOfMemory, Damaged, BusFault}
-use Rattle.device_laws.specs.Turns.{GoesOnLaw, BeginsLaw, RescueFirstLaw}
+use Rattle.device_laws.specs.Turns.{TurnGoesOnLaw, BeginsLaw, RescueFirstLaw}
 use Rattle.device_laws.specs.Reads.{KeepsRowsLaw, RefusedReadLaw, ReadFaultsLaw}
 use Rattle.device_laws.specs.Flushes.{NoneStaleLaw, NoTableOldLaw, OneFailureLaw, ShownShortLaw, CallFailuresLaw}
 
-pub goes_on : GoesOnLaw
+pub goes_on : TurnGoesOnLaw
 goes_on old new pinned on some =
     let P : Option Pinned → Type 0 = λ o. MatchOption o (IsWorth (wanted reserve.Turn old) old on.block.block × (on.block.first ≡ 0)) (λ p. p ≡ on.block) in
     sym (subst P some on.which)

@@ -14,7 +14,7 @@ use Rattle.collection.specs.declared.engine.Engine.{Engine}
 use Rattle.collection.specs.declared.engine.collect_in_turns.Step.{Step}
 use Rattle.collection.specs.declared.engine.collect_in_turns.Step.TheVariants as steps
 use Rattle.collection.specs.State.{Ram}
-use Rattle.collection.specs.Safe.{IsRam, ram, page_in}
+use Rattle.collection.specs.Safe.{IsRam, ram, page_in_buffer}
 use Rattle.collection.specs.Results.{IsLastPage}
 use Rattle.collection.specs.Cost.{HasPut}
 use Rattle.collection.specs.Collect.{LeadTo}
@@ -157,9 +157,9 @@ module _ {N : Type 0} (view : View N) where
   sized_first zero a b h = ap (λ (e : Engine N). e.geometry) h
   sized_first (suc k) a b h = h.2.blocks.geometry ∙ sized_first k a h.0 h.1
 
-  last_of : (k u : ℕ) (a b : Engine N) → k ≡ suc u → WritesFirst view k a b → IsLastPage kind.Table u (ram b) (page_in b.page)
+  last_of : (k u : ℕ) (a b : Engine N) → k ≡ suc u → WritesFirst view k a b → IsLastPage kind.Table u (ram b) (page_in_buffer b.page)
   last_of zero u a b is h = absurd (omega (arith, is))
-  last_of (suc k) u a b is h = (let same : k ≡ u = omega (arith, is) in subst (λ j. IsLastPage kind.Table j (ram b) (page_in b.page)) same h.2.page)
+  last_of (suc k) u a b is h = (let same : k ≡ u = omega (arith, is) in subst (λ j. IsLastPage kind.Table j (ram b) (page_in_buffer b.page)) same h.2.page)
 
   pub last_table : LastTableLaw view
   last_table u old new h is =

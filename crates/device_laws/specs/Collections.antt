@@ -10,7 +10,7 @@ use Rattle.collection.specs.declared.engine.collect_in_turns.Step.TheVariants.{E
 use Rattle.collection.specs.State.{Ram}
 use Rattle.collection.specs.Collect.{has_moved, is_over, is_due, waiting, HasWritten, HasCollected, HasRoom, IsAiling}
 use Rattle.collection.specs.Room.{IsNextFor}
-use Rattle.collection.specs.Left.{StepsOn, left_in}
+use Rattle.collection.specs.Left.{StepsOn, left_to_program}
 
 -- THE BLOCK THAT IS COLLECTED NEXT, where none is pinned: fewer are free than are wanted, and it is a closed one, with newest pages so few that it
 -- pays, and no other closed one has fewer
@@ -34,8 +34,8 @@ LowestPageLaw = (flushing : Bool) (old new : Ram) (w : HasWritten flushing old n
     → (is_due flushing old w.page ≡ true) × (t < w.page → is_due flushing old t ≡ false) × (flushing ≡ false → is_over old.mapping w.page ≡ true)
 
 -- ROOM IS FIVE FREE BLOCKS, and as many as are wanted where a closed block pays
-abbrev pub RoomLaw : Type 0
-RoomLaw = (many : ℕ) (r : Ram) (block : ℕ) → HasRoom many r → (5 ≤ free_count r.blocks)
+abbrev pub FiveFreeBlocksLaw : Type 0
+FiveFreeBlocksLaw = (many : ℕ) (r : Ram) (block : ℕ) → HasRoom many r → (5 ≤ free_count r.blocks)
     × (free_count r.blocks < many → block < r.geometry.blocks → is_closed r.blocks block ≡ true → vmax_at r.geometry r.mapping.share < live_at r.blocks block)
 
 -- A PAGE IS RESCUED from a bad block alone
@@ -45,4 +45,4 @@ AilingLaw = (s : State) (block : ℕ) → IsAiling s block → (is_good_at s.tab
 -- EACH STEP LEAVES LESS TO DO, but the erase that ends the collection
 abbrev pub LessLeftLaw : Type 0
 LessLeftLaw = (flushing : Bool) (p : Pinned) (old new : Ram) (before after : Image) (step : Step) → StepsOn flushing p old before new after step
-    → step ≢ Erased → left_in flushing new after p.block < left_in flushing old before p.block
+    → step ≢ Erased → left_to_program flushing new after p.block < left_to_program flushing old before p.block

@@ -7,7 +7,7 @@ use Rattle.bad_blocks.specs.Table.{good_count}
 use Rattle.bad_blocks.specs.TablePage.{table_bytes}
 use Rattle.allocation.specs.State.{free_count}
 use Rattle.collection.specs.declared.engine.Engine.{Engine}
-use Rattle.collection.specs.Safe.{IsRam, ram, page_in}
+use Rattle.collection.specs.Safe.{IsRam, ram, page_in_buffer}
 use Rattle.collection.specs.Results.{IsLastPage}
 use Rattle.ftl_device.specs.Flush.{IsClean}
 use Rattle.ftl_device.specs.FlushSteps.{FlushesPages, WritesTable, HasFlushed}
@@ -18,12 +18,12 @@ use Rattle.ftl_device.specs.FlushSteps.{FlushesPages, WritesTable, HasFlushed}
 abbrev pub HighestLastLaw : {N : Type 0} → View N → Type 0
 HighestLastLaw {N} view = (t : ℕ) (old new : Engine N) → IsRam (ram old) → (IsClean old.geometry t old.mapping → ⊥)
     → 9 + t + good_count (ram old).blocks.table ≤ free_count (ram old).blocks + good_count (ram new).blocks.table
-    → FlushesPages view (suc t) old new → IsLastPage kind.Translation t (ram new) (page_in new.page)
+    → FlushesPages view (suc t) old new → IsLastPage kind.Translation t (ram new) (page_in_buffer new.page)
 
 -- A FLUSH ENDS WITH THE LAST TABLE PAGE
 abbrev pub LastTableLaw : {N : Type 0} → View N → Type 0
 LastTableLaw {N} view = (u : ℕ) (old new : Engine N) → HasFlushed view old new → table_pages new.geometry ≡ suc u
-    → IsLastPage kind.Table u (ram new) (page_in new.page)
+    → IsLastPage kind.Table u (ram new) (page_in_buffer new.page)
 
 -- A TABLE PAGE spells the table as it is when its turn comes
 abbrev pub SpelledTableLaw : {N : Type 0} → View N → Type 0

@@ -10,7 +10,7 @@ use Rattle.promises.specs.Step.{Command}
 use Rattle.promises.specs.Log.{failed_count, IsShort}
 use Rattle.image_check.specs.Stale.{stale_sectors}
 use Rattle.ftl_device.specs.declared.fault.DeviceFault.TheVariants.{ReadOnly}
-use Rattle.ftl_device.specs.Counts.{IsShown, IsLeftReadOnly}
+use Rattle.ftl_device.specs.Counts.{IsShownByRefusal, IsLeftReadOnly}
 use Rattle.ftl_device.specs.Flush.{First, IsFlushedOut}
 
 -- NO SECTOR IS STALE after a flush that is done
@@ -29,9 +29,9 @@ OneFailureLaw = (command : Command) (g : Geometry) (share : ℕ) (bad : ℕ → 
 -- READ-ONLY IS ANSWERED IN A SHORTAGE alone
 abbrev pub ShownShortLaw : Type 0
 ShownShortLaw = (g : Geometry) (share : ℕ) (bad : ℕ → Bool) (next : ℕ) (before call : List Operation) (ro : Bool) (image : Image) (good wanted failed : ℕ)
-    → IsShown g share bad next before call ro image (ReadOnly good wanted failed) → IsShort g share bad before call ro
+    → IsShownByRefusal g share bad next before call ro image (ReadOnly good wanted failed) → IsShort g share bad before call ro
 
 -- AND TELLS THE FAILURES OF ITS OWN CALL, not those of the calls before it
 abbrev pub CallFailuresLaw : Type 0
 CallFailuresLaw = (g : Geometry) (share : ℕ) (bad : ℕ → Bool) (next : ℕ) (before call : List Operation) (ro : Bool) (image : Image) (good wanted failed : ℕ)
-    → IsShown g share bad next before call ro image (ReadOnly good wanted failed) → failed ≡ failed_count g call
+    → IsShownByRefusal g share bad next before call ro image (ReadOnly good wanted failed) → failed ≡ failed_count g call

@@ -8,8 +8,8 @@ use Rattle.collection.specs.Collect.{HasAiling, HasRescuedPage}
 use Rattle.ftl_device.specs.Turn.{HasGoneOn, TurnsOn}
 
 -- A TURN GOES ON with the pinned block, from the page on where it stood
-abbrev pub GoesOnLaw : Type 0
-GoesOnLaw = (old new : Ram) (pinned : Pinned) (on : HasGoneOn old new) → old.pin.block ≡ Some pinned → on.block ≡ pinned
+abbrev pub TurnGoesOnLaw : Type 0
+TurnGoesOnLaw = (old new : Ram) (pinned : Pinned) (on : HasGoneOn old new) → old.pin.block ≡ Some pinned → on.block ≡ pinned
 
 -- IT BEGINS A COLLECTION with fewer than twelve blocks free beside those of a flush alone, of a closed block that pays, from page 0
 abbrev pub BeginsLaw : Type 0

@@ -2,9 +2,9 @@
 //! what one log says. They stand in no crate that others rest on, so that a new one has nothing proved again.
 #![tactic(auto)]
 
-ghost use Rattle.device_laws.specs.Collections.{VictimLaw, PinnedFirstLaw, NoneWaitsLaw, LowestPageLaw, RoomLaw, AilingLaw, LessLeftLaw};
+ghost use Rattle.device_laws.specs.Collections.{VictimLaw, PinnedFirstLaw, NoneWaitsLaw, LowestPageLaw, FiveFreeBlocksLaw, AilingLaw, LessLeftLaw};
 ghost use Rattle.device_laws.specs.Logs.{NothingLaw, LedLaw, TakesLaw, RisesLaw, LegalCallLaw};
-ghost use Rattle.device_laws.specs.Turns.{GoesOnLaw, BeginsLaw, RescueFirstLaw};
+ghost use Rattle.device_laws.specs.Turns.{TurnGoesOnLaw, BeginsLaw, RescueFirstLaw};
 ghost use Rattle.device_laws.specs.Reads.{KeepsRowsLaw, RefusedReadLaw, ReadFaultsLaw};
 ghost use Rattle.device_laws.specs.Brought.{CountedByLaw, FewProgramsLaw, OneRenewedLaw, RoomLogLaw};
 ghost use Rattle.device_laws.specs.FlushOrder.{HighestLastLaw, LastTableLaw, SpelledTableLaw};
@@ -20,7 +20,7 @@ pub fn collection_laws()
     ensures pinned { PinnedFirstLaw }
     ensures waits { NoneWaitsLaw }
     ensures lowest { LowestPageLaw }
-    ensures room { RoomLaw }
+    ensures room { FiveFreeBlocksLaw }
     ensures ailing { AilingLaw }
     ensures less { LessLeftLaw }
 {}
@@ -38,7 +38,7 @@ pub fn log_laws()
 /// What a turn does: it goes on with the pinned block; it begins a collection only with fewer than twelve blocks free, from page 0 of the next
 /// victim; and while a bad block holds a newest page it collects none. (This project.)
 pub fn turn_laws()
-    ensures on { GoesOnLaw }
+    ensures on { TurnGoesOnLaw }
     ensures begins { BeginsLaw }
     ensures rescue { RescueFirstLaw }
 {}

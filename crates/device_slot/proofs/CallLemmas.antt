@@ -19,7 +19,7 @@ use Rattle.command_queue.proofs.ToldLemmas.{bus_stops, told_none, told_more, unt
 use Rattle.device_slot.specs.declared.slot.CallFault.{CallFault}
 use Rattle.device_slot.specs.declared.slot.Shortage.{Shortage}
 use Rattle.device_slot.specs.Begun.{IsDeviceKept}
-use Rattle.device_slot.specs.Calls.{answer_of, ToldCommand, Call, CalledEach, exchange_by, exchanges_in}
+use Rattle.device_slot.specs.Calls.{call_answer, ToldCommand, SlotCall, CalledEach, exchange_by, exchanges_of_calls}
 use Rattle.device_slot.specs.Laws.{SizedCallLaw, CallsToldLaw, CallsRunLaw, RunsFromBegun}
 
 nil_on : (xs : List Exchange) → [] ++ xs ≡ xs
@@ -81,33 +81,33 @@ module _ {N : Type 0} (view : View N) where
   -- ---- many calls
 
   its_exchange : (command : step.Command) (result : Result (Unit {0}) DeviceFault) (out : List ℕ)
-      → exchange_by command (answer_of result) out ≡ record { command = command; result = result; bytes = out } ∷ []
+      → exchange_by command (call_answer result) out ≡ record { command = command; result = result; bytes = out } ∷ []
   its_exchange command (Ok done) out = refl
   its_exchange command (Err fault) out = refl
 
-  told_on : (old mid new : Device N) (xs : List Exchange) (calls : List Call) → IsDevice view.flash old → WasTold view old xs mid
-      → CalledEach view mid calls new → WasTold view old (xs ++ exchanges_in calls) new
+  told_on : (old mid new : Device N) (xs : List Exchange) (calls : List SlotCall) → IsDevice view.flash old → WasTold view old xs mid
+      → CalledEach view mid calls new → WasTold view old (xs ++ exchanges_of_calls calls) new
   told_on old mid new xs [] safe told each =
       subst (λ (ys : List Exchange). WasTold view old ys new) (sym (append-nil xs))
       (subst (λ (d : Device N). WasTold view old xs d) (sym each) told)
   told_on old mid new xs (call ∷ calls) safe told each = elim each.1 [
     | inl untold ↦
-        subst (λ (a : Result (Unit {0}) CallFault). WasTold view old (xs ++ (exchange_by call.command a call.out ++ exchanges_in calls)) new) (sym untold.0)
-        (subst (λ (ys : List Exchange). WasTold view old (xs ++ ys) new) (sym (nil_on (exchanges_in calls)))
+        subst (λ (a : Result (Unit {0}) CallFault). WasTold view old (xs ++ (exchange_by call.command a call.out ++ exchanges_of_calls calls)) new) (sym untold.0)
+        (subst (λ (ys : List Exchange). WasTold view old (xs ++ ys) new) (sym (nil_on (exchanges_of_calls calls)))
         (told_on old each.0 new xs calls safe (subst (λ (d : Device N). WasTold view old xs d) (sym untold.1) told) each.2))
     | inr its ↦
         let x : Exchange = record { command = call.command; result = its.told.result; bytes = call.out } in
         let one : exchange_by call.command call.answer call.out ≡ x ∷ [] =
         ap (λ (a : Result (Unit {0}) CallFault). exchange_by call.command a call.out) its.told.answered ∙ its_exchange call.command its.told.result call.out in
         let more = told_more view old mid each.0 xs x safe told its.told.tells in
-        subst (λ (ys : List Exchange). WasTold view old (xs ++ (ys ++ exchanges_in calls)) new) (sym one)
-        (subst (λ (ys : List Exchange). WasTold view old ys new) (append_assoc xs (x ∷ []) (exchanges_in calls))
+        subst (λ (ys : List Exchange). WasTold view old (xs ++ (ys ++ exchanges_of_calls calls)) new) (sym one)
+        (subst (λ (ys : List Exchange). WasTold view old ys new) (append_assoc xs (x ∷ []) (exchanges_of_calls calls))
         (told_on old each.0 new (xs ++ x ∷ []) calls safe more each.2))
   ]
 
   pub calls_told : CallsToldLaw view
   calls_told old new calls safe each =
-      subst (λ (xs : List Exchange). WasTold view old xs new) (nil_on (exchanges_in calls))
+      subst (λ (xs : List Exchange). WasTold view old xs new) (nil_on (exchanges_of_calls calls))
       (told_on old old new [] calls safe (told_none view old safe) each)
 
   pub calls_run : CallsRunLaw view
@@ -115,7 +115,7 @@ module _ {N : Type 0} (view : View N) where
       let s = view.flash first.engine.nand in
       let told = calls_told first new calls begun.kept.device each in
       until_so (λ d. d) (RunsTo view first) (RunsFromBegun view first begun)
-      (Tells view) (Tells view) (exchanges_in calls) new
+      (Tells view) (Tells view) (exchanges_of_calls calls) new
       (λ before mid runs h.
       let well = started_well view.flash first s.geometry 0 begun.accepted.claim begun.accepted.stale begun.begun (begun.truth h) in
       let both = runs.1 h well in

@@ -17,7 +17,7 @@ use Rattle.image_check.specs.Accepted.{Acceptance}
 use Rattle.image_check.specs.Stale.{stale_count}
 use Rattle.image_check.specs.declared.refusal.Refusal.{Refusal}
 use Rattle.image_check.specs.declared.refusal.Refusal.TheVariants.{GeometryDiffers, Source, TooStale, WrongLength}
-use Rattle.mount.specs.Mounted.{Refuses, Shows}
+use Rattle.mount.specs.Mounted.{Refuses, ShowsRefusal}
 use Rattle.collection.specs.Safe.{ram, image_in}
 use Rattle.collection.specs.State.{Ram}
 use Rattle.collection.specs.Truth.{IsTrue}
@@ -34,7 +34,7 @@ use Rattle.collection.proofs.Costs.{risen_over}
 use Rattle.device_slot.specs.declared.power.PowerFault.{PowerFault}
 use Rattle.device_slot.specs.declared.power.PowerFault.TheVariants.{Refused, Start, Flush as OfFlush}
 use Rattle.device_slot.specs.Begun.{IsDeviceBegun}
-use Rattle.device_slot.specs.Power.{nand_of, entries_for, HasCertificate, HoldsSame, IsBrought, IsDieHandedBack, IsPastEachCache, IsTooStale, IsUnbrought, ArePagesUnmounted, IsUnsettled, IsUnsettledWith, StopsFlush, WantsCache, WantsMore}
+use Rattle.device_slot.specs.Power.{unpowered_nand, entries_for, HasCertificate, HoldsSame, IsBrought, IsDieHandedBack, IsPastEachCache, IsTooStale, IsUnbrought, ArePagesUnmounted, IsUnsettled, IsUnsettledWith, StopsFlush, WantsCache, WantsMore}
 
 pub begun_so : {N : Type 0} (view : View N) (d : Device N) (nand : N) (a : Acceptance) → IsDevice view.flash d → d.engine.nand ≡ nand
     → ram d.engine ≡ begun_ram (view.flash nand).geometry 0 a.claim a.stale
@@ -102,7 +102,7 @@ certificate_at g capacity stale image more is its =
     subst (λ (n : ℕ). HasCertificate g n image) same its
 
 -- a refusal at a cache with room for what is stale is for something else
-shows_less : (g : Geometry) (capacity stale : ℕ) (image : Image) (why : Refusal) → stale ≡ stale_count g image → Shows g stale image why → Shows g capacity image why
+shows_less : (g : Geometry) (capacity stale : ℕ) (image : Image) (why : Refusal) → stale ≡ stale_count g image → ShowsRefusal g stale image why → ShowsRefusal g capacity image why
 shows_less g capacity stale image (TooStale count most) is shows = absurd (omega (arith, is, shows.0, shows.2))
 shows_less g capacity stale image _ is shows = shows
 
@@ -137,7 +137,7 @@ past_each g capacity image _ given refuses none = tt
 
 module _ {N : Type 0} (view : View N) (nand : N) (g : Geometry) (capacity : ℕ) where
   -- a die that was refused for what is stale is as it was
-  pub wanted_same : (fault : PowerFault N) (n : ℕ) → ArePagesUnmounted view nand g capacity fault → WantsCache capacity fault n → view.honest nand ≡ true → view.flash (nand_of fault) ≡ view.flash nand
+  pub wanted_same : (fault : PowerFault N) (n : ℕ) → ArePagesUnmounted view nand g capacity fault → WantsCache capacity fault n → view.honest nand ≡ true → view.flash (unpowered_nand fault) ≡ view.flash nand
   wanted_same (Refused (TooStale stale most) given) n un wants h = un.same (λ e. let no : ⊥ = cc in no) h
   wanted_same (Refused _ given) n un wants h = absurd wants
   wanted_same (Start given) n un wants h = absurd wants
@@ -168,7 +168,7 @@ module _ {N : Type 0} (view : View N) (nand : N) (g : Geometry) (capacity : ℕ)
       let cache = wanted_cache fault n wants in
       omega (arith, its.stale_is, cache.0, few)
 
-  pub wanted_array : (fault : PowerFault N) (n : ℕ) → ArePagesUnmounted view nand g capacity fault → WantsCache capacity fault n → HoldsSame view g nand (nand_of fault)
+  pub wanted_array : (fault : PowerFault N) (n : ℕ) → ArePagesUnmounted view nand g capacity fault → WantsCache capacity fault n → HoldsSame view g nand (unpowered_nand fault)
   wanted_array fault n un wants h = ap (λ (s : Flash). array_of g s.image) (wanted_same fault n un wants h)
 
   -- where no larger cache is tried
@@ -313,7 +313,7 @@ pub back_same : {N : Type 0} (view : View N) (nand : N) → IsDieHandedBack view
 back_same view nand = record { honest_is = refl; geometry_is = refl; failed_is = omega arith }
 
 pub if_back_on : {N : Type 0} (view : View N) (nand mid : N) → IsDieHandedBack view nand mid → (r : Result (Device N) (PowerFault N))
-    → IfErr r (λ fault. IsDieHandedBack view mid (nand_of fault)) → IfErr r (λ fault. IsDieHandedBack view nand (nand_of fault))
+    → IfErr r (λ fault. IsDieHandedBack view mid (unpowered_nand fault)) → IfErr r (λ fault. IsDieHandedBack view nand (unpowered_nand fault))
 if_back_on view nand mid back (Ok d) its = tt
 if_back_on view nand mid back (Err fault) its = record {
   honest_is = its.honest_is ∙ back.honest_is;
@@ -411,20 +411,20 @@ module _ {N : Type 0} (view : View N) (nand : N) (g : Geometry) (stale : ℕ) (d
 
 -- the die that a refusal gives back
 module _ {N : Type 0} (view : View N) (nand mid : N) (g : Geometry) (capacity n : ℕ) (fault : PowerFault N)
-    (is : mid ≡ nand_of fault) (un : ArePagesUnmounted view nand g capacity fault) (wants : WantsCache capacity fault n) where
+    (is : mid ≡ unpowered_nand fault) (un : ArePagesUnmounted view nand g capacity fault) (wants : WantsCache capacity fault n) where
   pub mid_flash : view.honest nand ≡ true → view.flash mid ≡ view.flash nand
   mid_flash h = ap view.flash is ∙ wanted_same view nand g capacity fault n un wants h
 
   pub mid_same : HoldsSame view g nand mid
   mid_same = subst (λ (m : N). HoldsSame view g nand m) (sym is) (wanted_array view nand g capacity fault n un wants)
 
-  pub mid_back : IsDieHandedBack view nand (nand_of fault) → IsDieHandedBack view nand mid
+  pub mid_back : IsDieHandedBack view nand (unpowered_nand fault) → IsDieHandedBack view nand mid
   mid_back back = subst (λ (m : N). IsDieHandedBack view nand m) (sym is) back
 
-  pub mid_sized : IsDieHandedBack view nand (nand_of fault) → (view.flash nand).geometry ≡ g → (view.flash mid).geometry ≡ g
+  pub mid_sized : IsDieHandedBack view nand (unpowered_nand fault) → (view.flash nand).geometry ≡ g → (view.flash mid).geometry ≡ g
   mid_sized back was = ap (λ (m : N). (view.flash m).geometry) is ∙ (back.geometry_is ∙ was)
 
-  pub mid_wanted : IsDieHandedBack view nand (nand_of fault) → view.honest mid ≡ true → IsTooStale g capacity (view.flash mid).image n
+  pub mid_wanted : IsDieHandedBack view nand (unpowered_nand fault) → view.honest mid ≡ true → IsTooStale g capacity (view.flash mid).image n
   mid_wanted back h =
       let was : view.honest nand ≡ true = sym (ap view.honest is ∙ back.honest_is) ∙ h in
       subst (λ (s : Flash). IsTooStale g capacity s.image n) (sym (mid_flash was)) (wanted_stale view nand g capacity fault n un wants was)

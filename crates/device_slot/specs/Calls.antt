@@ -14,9 +14,9 @@ use Rattle.device_slot.specs.declared.slot.Shortage.{Shortage}
 use Rattle.device_slot.specs.Slot.{SlotState}
 
 -- the device's answer as that of a call
-abbrev pub answer_of : Result (Unit {0}) DeviceFault → Result (Unit {0}) CallFault
-answer_of (Ok done) = Ok done
-answer_of (Err fault) = Err (OfDevice fault)
+abbrev pub call_answer : Result (Unit {0}) DeviceFault → Result (Unit {0}) CallFault
+call_answer (Ok done) = Ok done
+call_answer (Err fault) = Err (OfDevice fault)
 
 -- the counts of a refusal for want of blocks
 abbrev pub shortage_in : Result (Unit {0}) DeviceFault → Option Shortage
@@ -35,7 +35,7 @@ shortage_in (Err BusFault) = None
 pub record ToldCommand {N : Type 0} (view : View N)
     (old : Device N) (command : step.Command) (given : List ℕ) (answer : Result (Unit {0}) CallFault) (out : List ℕ) (new : Device N) (noted : Option Shortage) : Type 0 where
   pub result : Result (Unit {0}) DeviceFault
-  pub answered : answer ≡ answer_of result
+  pub answered : answer ≡ call_answer result
   pub shortage : noted ≡ shortage_in result
   pub tells : Tells view old (record { command = command; result = result; bytes = out }) new
   pub kept : KeepsBytes command result given out
@@ -66,22 +66,22 @@ IsSlotCall old comes given answer out new = IsCallOn old.device old comes given 
 -- ---- many calls
 
 -- what a program called for, and what it got
-pub record Call : Type 0 where
+pub record SlotCall : Type 0 where
   pub command : step.Command
   pub answer : Result (Unit {0}) CallFault
   pub out : List ℕ
 
 -- the device was told it, or it was refused before that and changed nothing
-pub record IsCallTold {N : Type 0} (view : View N) (old : Device N) (call : Call) (new : Device N) : Type 0 where
+pub record IsCallTold {N : Type 0} (view : View N) (old : Device N) (call : SlotCall) (new : Device N) : Type 0 where
   pub given : List ℕ
   pub noted : Option Shortage
   pub told : ToldCommand view old call.command given call.answer call.out new noted
 
-abbrev pub HasCalled : {N : Type 0} → (view : View N) → Device N → Call → Device N → Type 0
+abbrev pub HasCalled : {N : Type 0} → (view : View N) → Device N → SlotCall → Device N → Type 0
 HasCalled view old call new = ((call.answer ≡ Err WrongSize) × (new ≡ old)) ⊎ IsCallTold view old call new
 
 -- ONE CALL AFTER ANOTHER, from a device to the next
-abbrev pub CalledEach : {N : Type 0} → (view : View N) → Device N → List Call → Device N → Type 0
+abbrev pub CalledEach : {N : Type 0} → (view : View N) → Device N → List SlotCall → Device N → Type 0
 CalledEach view old [] new = new ≡ old
 CalledEach {N} view old (call ∷ calls) new =
     (mid : Device N) × HasCalled view old call mid × CalledEach view mid calls new
@@ -94,6 +94,6 @@ exchange_by command (Err WrongSize) out = []
 exchange_by command (Err (OfDevice fault)) out = record { command = command; result = Err fault; bytes = out } ∷ []
 
 -- THE EXCHANGES OF CALLS: a command each that the device was told, with its answer
-abbrev pub exchanges_in : List Call → List Exchange
-exchanges_in [] = []
-exchanges_in (call ∷ calls) = exchange_by call.command call.answer call.out ++ exchanges_in calls
+abbrev pub exchanges_of_calls : List SlotCall → List Exchange
+exchanges_of_calls [] = []
+exchanges_of_calls (call ∷ calls) = exchange_by call.command call.answer call.out ++ exchanges_of_calls calls

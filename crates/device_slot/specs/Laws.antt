@@ -10,17 +10,17 @@ use Rattle.command_queue.specs.Tells.{Tells}
 use Rattle.command_queue.specs.Told.{Until, WasTold}
 use Rattle.device_slot.specs.declared.slot.Shortage.{Shortage}
 use Rattle.device_slot.specs.Begun.{IsDeviceBegun}
-use Rattle.device_slot.specs.Calls.{Call, ToldSized, HasCalled, CalledEach, exchanges_in}
+use Rattle.device_slot.specs.Calls.{SlotCall, ToldSized, HasCalled, CalledEach, exchanges_of_calls}
 
 -- a call that hands over bytes is one of these
 abbrev pub SizedCallLaw : {N : Type 0} → (view : View N) → Type 0
-SizedCallLaw {N} view = (old new : Device N) (noted noted' : Option Shortage) (call : Call) (size : ℕ) (given : List ℕ)
+SizedCallLaw {N} view = (old new : Device N) (noted noted' : Option Shortage) (call : SlotCall) (size : ℕ) (given : List ℕ)
     → ToldSized view old noted call.command size given call.answer call.out new noted' → HasCalled view old call new
 
 -- CALLS ARE A LIST OF COMMANDS, told one after another: whatever the die does
 abbrev pub CallsToldLaw : {N : Type 0} → (view : View N) → Type 0
-CallsToldLaw {N} view = (old new : Device N) (calls : List Call) → IsDevice view.flash old
-    → CalledEach view old calls new → WasTold view old (exchanges_in calls) new
+CallsToldLaw {N} view = (old new : Device N) (calls : List SlotCall) → IsDevice view.flash old
+    → CalledEach view old calls new → WasTold view old (exchanges_of_calls calls) new
 
 -- of an honest die, the device is well, and these are a run of the array that the image of this die holds
 abbrev pub RunsFromBegun : {N : Type 0} → (view : View N) → (first : Device N) → IsDeviceBegun view first → List Exchange → Device N → Type 0
@@ -29,6 +29,6 @@ RunsFromBegun view first begun xs mid = view.honest first.engine.nand ≡ true
 
 -- AND FROM A DEVICE THAT POWER BROUGHT they are the headline's run: those before the first fault of the bus
 abbrev pub CallsRunLaw : {N : Type 0} → (view : View N) → Type 0
-CallsRunLaw {N} view = (first new : Device N) (calls : List Call) (begun : IsDeviceBegun view first)
+CallsRunLaw {N} view = (first new : Device N) (calls : List SlotCall) (begun : IsDeviceBegun view first)
     → CalledEach view first calls new
-    → Until (RunsFromBegun view first begun) (Tells view) (exchanges_in calls) new
+    → Until (RunsFromBegun view first begun) (Tells view) (exchanges_of_calls calls) new

@@ -21,10 +21,10 @@ use Rattle.device_slot.specs.Begun.{IsDeviceBegun}
 use Rattle.device_slot.specs.declared.power.PowerFault.{PowerFault}
 use Rattle.device_slot.specs.declared.power.PowerFault.TheVariants.{Refused, Start, Flush}
 
-abbrev pub nand_of : {N : Type 0} → PowerFault N → N
-nand_of (Refused refusal nand) = nand
-nand_of (Start nand) = nand
-nand_of (Flush fault nand) = nand
+abbrev pub unpowered_nand : {N : Type 0} → PowerFault N → N
+unpowered_nand (Refused refusal nand) = nand
+unpowered_nand (Start nand) = nand
+unpowered_nand (Flush fault nand) = nand
 
 -- ---- after one look at the pages
 

@@ -7,7 +7,7 @@ ghost use Rattle.image_check.specs.Stale.{stale_count};
 ghost use Rattle.ftl_device.specs.Calls.{array_in};
 ghost use Rattle.ftl_device.specs.Device.{IsDevice, IsAcceptedFor};
 ghost use Rattle.device_slot.specs.Begun.{IsDeviceBegun, IsDeviceKept};
-ghost use Rattle.device_slot.specs.Power.{nand_of, HoldsSame, IsBrought, IsDieHandedBack, IsTooStale, IsCertificateUnaccepted, IsUnbrought, ArePagesUnmounted, IsUnsettled, IsUnsettledWith, StopsFlush, WantsCache};
+ghost use Rattle.device_slot.specs.Power.{unpowered_nand, HoldsSame, IsBrought, IsDieHandedBack, IsTooStale, IsCertificateUnaccepted, IsUnbrought, ArePagesUnmounted, IsUnsettled, IsUnsettledWith, StopsFlush, WantsCache};
 
 use certificate::Certificate;
 use ftl_device::{Device, DeviceFault, StartFault};
@@ -34,11 +34,11 @@ pub enum PowerFault<N> {
 
 impl<N> PowerFault<N> {
     ghost use Rattle.std.specs.Prelude.{◌≡◌};
-    ghost use Rattle.device_slot.specs.Power.{nand_of};
+    ghost use Rattle.device_slot.specs.Power.{unpowered_nand};
 
     /// The die that comes back.
     pub fn into_nand(self) -> N
-        ensures { result ≡ nand_of self }
+        ensures { result ≡ unpowered_nand self }
     {
         match self {
             PowerFault::Refused { nand, .. }
@@ -92,7 +92,7 @@ pub fn start_mounted<N: Nand>(
     ensures pages { IfOk result (λ d. N.view.honest nand ≡ true → N.view.flash d.engine.nand ≡ N.view.flash nand) }
     ensures reads { IfOk result (λ d. OnlyReads N.view nand d.engine.nand) }
     ensures fault { IfErr result (ArePagesUnmounted N.view nand geometry.now capacity) }
-    ensures given { IfErr result (λ fault. OnlyReads N.view nand (nand_of fault)) }
+    ensures given { IfErr result (λ fault. OnlyReads N.view nand (unpowered_nand fault)) }
 {
     let (certificate, stale) = match mount_counted(alloc, &mut nand, geometry, capacity) {
         Ok(Mounted { certificate, stale }) => (certificate, stale),
@@ -130,7 +130,7 @@ pub fn start_checked<N: Nand>(
     ensures pages { IfOk result (λ d. N.view.honest nand ≡ true → N.view.flash d.engine.nand ≡ N.view.flash nand) }
     ensures reads { IfOk result (λ d. OnlyReads N.view nand d.engine.nand) }
     ensures fault { IfErr result (IsCertificateUnaccepted N.view nand geometry.now capacity certificate.now) }
-    ensures given { IfErr result (λ fault. OnlyReads N.view nand (nand_of fault)) }
+    ensures given { IfErr result (λ fault. OnlyReads N.view nand (unpowered_nand fault)) }
 {
     let accepted = match check(alloc, &mut nand, geometry, capacity, certificate) {
         Ok(accepted) => accepted,
@@ -179,7 +179,7 @@ fn settle<N: Nand>(
     ensures back { IfOk result (IsDieHandedBack N.view nand) }
     ensures array { IfOk result (HoldsSame N.view geometry.now nand) }
     ensures fault { IfErr result (IsUnsettledWith N.view nand geometry.now stale) }
-    ensures given { IfErr result (λ fault. IsDieHandedBack N.view nand (nand_of fault)) }
+    ensures given { IfErr result (λ fault. IsDieHandedBack N.view nand (unpowered_nand fault)) }
 {
     let mut device = start_mounted(alloc, nand, geometry, stale)?;
     match settled(device.flush()) {
@@ -220,7 +220,7 @@ fn look<N: Nand>(
     ensures brings { IfOk result (IsBrought N.view nand geometry.now entries) }
     ensures pages { IfOk result (λ d. N.view.honest nand ≡ true → N.view.flash d.engine.nand ≡ N.view.flash nand) }
     ensures fault { IfErr result (ArePagesUnmounted N.view nand geometry.now entries) }
-    ensures given { IfErr result (λ fault. IsDieHandedBack N.view nand (nand_of fault)) }
+    ensures given { IfErr result (λ fault. IsDieHandedBack N.view nand (unpowered_nand fault)) }
 {
     match start_mounted(alloc, nand, geometry, entries) {
         Ok(device) => Ok(device),
@@ -240,7 +240,7 @@ fn start_either<N: Nand>(
     requires most { capacity ≤ 65536 }
     ensures brings { IfOk result (IsBrought N.view nand geometry.now capacity) }
     ensures fault { IfErr result (IsUnbrought N.view nand geometry.now capacity) }
-    ensures given { IfErr result (λ fault. IsDieHandedBack N.view nand (nand_of fault)) }
+    ensures given { IfErr result (λ fault. IsDieHandedBack N.view nand (unpowered_nand fault)) }
 {
     let fault = match look(alloc, nand, geometry, capacity) {
         Ok(device) => return Ok(device),
@@ -267,7 +267,7 @@ fn start_settled<N: Nand>(
     requires wanted { N.view.honest nand ≡ true → IsTooStale geometry.now capacity (N.view.flash nand).image stale }
     ensures brings { IfOk result (IsBrought N.view nand geometry.now capacity) }
     ensures fault { IfErr result (IsUnsettled N.view nand geometry.now capacity) }
-    ensures given { IfErr result (λ fault. IsDieHandedBack N.view nand (nand_of fault)) }
+    ensures given { IfErr result (λ fault. IsDieHandedBack N.view nand (unpowered_nand fault)) }
 {
     let nand = settle(alloc, nand, geometry, stale)?;
     start_either(alloc, nand, geometry, capacity)
@@ -299,7 +299,7 @@ pub fn start<N: Nand>(
     // Where the cache has room for what is stale, nothing is written.
     ensures still { IfOk result (λ d. N.view.honest nand ≡ true → stale_count geometry.now (N.view.flash nand).image ≤ capacity → N.view.flash d.engine.nand ≡ N.view.flash nand) }
     ensures fault { IfErr result (IsUnsettled N.view nand geometry.now capacity) }
-    ensures given { IfErr result (λ fault. IsDieHandedBack N.view nand (nand_of fault)) }
+    ensures given { IfErr result (λ fault. IsDieHandedBack N.view nand (unpowered_nand fault)) }
 {
     let fault = match look(alloc, nand, geometry, capacity) {
         Ok(device) => return Ok(device),

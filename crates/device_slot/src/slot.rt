@@ -1,9 +1,9 @@
 //! A device between calls, or none.
 ghost use Rattle.std.specs.Prelude.{◌≡◌, ◌≢◌, false, [], length};
 ghost use Rattle.promises.specs.Step as step;
-ghost use Rattle.command_queue.specs.Commands.{command_of, is_read, HasRoom};
+ghost use Rattle.command_queue.specs.Commands.{promised_command, is_read, HasDataArea};
 ghost use Rattle.device_slot.specs.Begun.{IsDeviceKept};
-ghost use Rattle.device_slot.specs.Calls.{answer_of, shortage_in, ToldCommand, ToldSized};
+ghost use Rattle.device_slot.specs.Calls.{call_answer, shortage_in, ToldCommand, ToldSized};
 
 use crate::report::{Report, report_of};
 use command_queue::{Command, tell};
@@ -53,7 +53,7 @@ impl<N: Nand> Model for DeviceSlot<N> {
 
 // The device's answer as that of a call.
 fn answer_for(done: Result<(), DeviceFault>) -> Result<(), CallFault>
-    ensures { result ≡ answer_of done }
+    ensures { result ≡ call_answer done }
 {
     match done {
         Ok(()) => Ok(()),
@@ -86,9 +86,9 @@ fn told<N: Nand>(
     bytes: &mut [u8],
 ) -> Result<(), CallFault>
     requires kept { IsDeviceKept N.view device.old }
-    requires room { HasRoom device.old.engine.geometry command bytes.old }
+    requires room { HasDataArea device.old.engine.geometry command bytes.old }
     ensures kept { IsDeviceKept N.view device.new }
-    ensures told { ToldCommand N.view device.old (command_of command.entry) bytes.old result bytes.new device.new shortage.new }
+    ensures told { ToldCommand N.view device.old (promised_command command.entry) bytes.old result bytes.new device.new shortage.new }
 {
     let done = tell(device, command, bytes);
     *shortage = shortage_for(done);
@@ -102,10 +102,10 @@ fn told_only<N: Nand>(
     command: Command<'_>,
 ) -> Result<(), CallFault>
     requires kept { IsDeviceKept N.view device.old }
-    requires room { HasRoom device.old.engine.geometry command [] }
-    requires only { is_read (command_of command) ≡ false }
+    requires room { HasDataArea device.old.engine.geometry command [] }
+    requires only { is_read (promised_command command) ≡ false }
     ensures kept { IsDeviceKept N.view device.new }
-    ensures told { ToldCommand N.view device.old (command_of command.entry) [] result [] device.new shortage.new }
+    ensures told { ToldCommand N.view device.old (promised_command command.entry) [] result [] device.new shortage.new }
 {
     told(device, shortage, command, &mut [])
 }

@@ -19,13 +19,13 @@ use Rattle.disk_commands.specs.Asked.{IsShapeAsked}
 use Rattle.disk_commands.specs.BadBlocks.{AreBadAsked, HasMarks, is_copied}
 use Rattle.disk_commands.specs.declared.files.DiskFileFault.{DiskFileFault}
 use Rattle.disk_commands.specs.Opening.{told_at, told_of_copy}
-use Rattle.disk_commands.specs.Created.{HasCreated, IsDieAskedFor, IsNoDump, IsUncreated, IsUnformatted, IsUnkept, unformatted}
-use Rattle.disk_commands.specs.Files.{DiskFileAnswers, FailsCopy, FailsNoMore, Kept, with_kept}
+use Rattle.disk_commands.specs.Created.{HasCreated, IsDieAskedFor, IsNoDump, IsUncreated, IsNewDieUnformatted, IsDieUnplaced, unformatted}
+use Rattle.disk_commands.specs.Files.{DiskFileAnswers, FailsCopy, FailsNoMore, Kept, with_kept_disk}
 
 -- erased pages were not formatted, for this
 pub not_formatted : {S : Type 0} (held : S → Held) (honest : S → Bool) (failed : S → ℕ) (a : DiskFileAnswers) (path : Bor (List ℕ)) (shape : DiskShape) (bad : List ℕ) (store given : S) (why : CreateFault)
     → honest store ≡ a.honest → (honest store ≡ true → HasMarks shape.geometry bad (held store)) → IsDiskUnmade held honest failed shape.share store given why
-    → IsUnformatted held honest failed a path.now shape bad (unformatted path why)
+    → IsNewDieUnformatted held honest failed a path.now shape bad (unformatted path why)
 not_formatted held honest failed a path shape bad store given (create.Open open_store.OutOfMemory) is erased un = tt
 not_formatted held honest failed a path shape bad store given (create.Open open_store.Device) is erased un = (refl, (store, given, is, erased, un))
 not_formatted held honest failed a path shape bad store given (create.Open open_store.Reset) is erased un = (refl, (store, given, is, erased, un))
@@ -37,7 +37,7 @@ not_formatted held honest failed a path shape bad store given create.Sync is era
 
 -- no erased pages were made, for this
 pub not_blank : {S : Type 0} (held : S → Held) (honest : S → Bool) (failed : S → ℕ) (a : DiskFileAnswers) (path : Bor (List ℕ)) (shape : DiskShape) (bad : List ℕ) (why : DiskFileFault) → a.fails path.now why
-    → IsUnformatted held honest failed a path.now shape bad (told_at why path 0)
+    → IsNewDieUnformatted held honest failed a path.now shape bad (told_at why path 0)
 not_blank held honest failed a path shape bad file.Read is = (refl, is)
 not_blank held honest failed a path shape bad file.Write is = (refl, inl is)
 not_blank held honest failed a path shape bad file.InUse is = (refl, is)
@@ -62,14 +62,14 @@ not_copied held honest failed a path dump shape wanted why told fails bytes is =
 -- they were not marked
 pub not_marked : {S : Type 0} (held : S → Held) (honest : S → Bool) (failed : S → ℕ) (a : DiskFileAnswers) (path : Bor (List ℕ)) (shape : DiskShape) (bad : List ℕ) (store left : S) (told : DiskCommandFault)
     → honest store ≡ a.honest → (honest store ≡ true → held store ≡ blank shape.geometry) → 0 < length bad → ((told ≡ fault.OutOfMemory) ⊎ ((told ≡ fault.Write path) × HasRisen (failed store) (failed left)))
-    → IsUnformatted held honest failed a path.now shape bad told
-not_marked held honest failed a path shape bad store left told is erased some (inl memory) = subst (IsUnformatted held honest failed a path.now shape bad) (sym memory) tt
-not_marked held honest failed a path shape bad store left told is erased some (inr h) = subst (IsUnformatted held honest failed a path.now shape bad) (sym h.0) (refl, inr (some, (store, left, is, erased, h.1)))
+    → IsNewDieUnformatted held honest failed a path.now shape bad told
+not_marked held honest failed a path shape bad store left told is erased some (inl memory) = subst (IsNewDieUnformatted held honest failed a path.now shape bad) (sym memory) tt
+not_marked held honest failed a path shape bad store left told is erased some (inr h) = subst (IsNewDieUnformatted held honest failed a path.now shape bad) (sym h.0) (refl, inr (some, (store, left, is, erased, h.1)))
 
 -- a die that was made was put in its place
 pub created : {S : Type 0} (held : S → Held) (honest : S → Bool) (a : DiskFileAnswers) (words : CreateWords) (shape : DiskShape) (bad : List ℕ) (before between after : Option (List Kept)) (store : S) (result : Result (Unit {0}) DiskCommandFault)
     → IsShapeAsked words shape → AreBadAsked (is_copied words.make) words.bad shape.geometry bad → a.says_there words.disk.now false → (honest store ≡ true → IsDieAskedFor a words.make shape bad (held store)) → honest store ≡ a.honest → between ≡ before
-    → OnOk result (after ≡ with_kept between (record { path = words.disk.now; held = held store; text = shape_text shape }))
+    → OnOk result (after ≡ with_kept_disk between (record { path = words.disk.now; held = held store; text = shape_text shape }))
     → OnOk result (HasCreated held honest a words before after)
 created held honest a words shape bad before between after store (Ok done) asked named free die is same kept =
     record {
@@ -81,12 +81,12 @@ created held honest a words shape bad before between after store (Ok done) asked
       store = store;
       die = die;
       is_honest = is;
-      kept = subst (λ b. after ≡ with_kept b (record { path = words.disk.now; held = held store; text = shape_text shape })) same kept;
+      kept = subst (λ b. after ≡ with_kept_disk b (record { path = words.disk.now; held = held store; text = shape_text shape })) same kept;
     }
 created held honest a words shape bad before between after store (Err told) asked named free die is same kept = tt
 
 -- or was not
-unkept_before : (a b : DiskFileAnswers) (path : List ℕ) (told : DiskCommandFault) → FailsNoMore a b → IsUnkept b path told → IsUnkept a path told
+unkept_before : (a b : DiskFileAnswers) (path : List ℕ) (told : DiskCommandFault) → FailsNoMore a b → IsDieUnplaced b path told → IsDieUnplaced a path told
 unkept_before a b path (fault.Read word) no_more h = (h.0, no_more path file.Read h.1)
 unkept_before a b path (fault.Write word) no_more h = (h.0, no_more path file.Write h.1)
 unkept_before a b path (fault.InUse word) no_more h = (h.0, no_more path file.InUse h.1)
@@ -100,6 +100,6 @@ kept_then (Ok done) after between before h same = tt
 kept_then (Err told) after between before h same = h ∙ same
 
 pub not_kept : {S : Type 0} (held : S → Held) (honest : S → Bool) (failed : S → ℕ) (a b : DiskFileAnswers) (words : CreateWords) (shape : DiskShape) (bad : List ℕ) (result : Result (Unit {0}) DiskCommandFault)
-    → IsShapeAsked words shape → AreBadAsked (is_copied words.make) words.bad shape.geometry bad → a.says_there words.disk.now false → FailsNoMore a b → IfErr result (IsUnkept b words.disk.now) → IfErr result (IsUncreated held honest failed a words)
+    → IsShapeAsked words shape → AreBadAsked (is_copied words.make) words.bad shape.geometry bad → a.says_there words.disk.now false → FailsNoMore a b → IfErr result (IsDieUnplaced b words.disk.now) → IfErr result (IsUncreated held honest failed a words)
 not_kept held honest failed a b words shape bad (Ok done) asked named free no_more h = tt
 not_kept held honest failed a b words shape bad (Err told) asked named free no_more h = inr (shape, asked, inr (bad, named, inr (free, inr (unkept_before a b words.disk.now told no_more h))))

@@ -23,7 +23,7 @@ use Rattle.disk_commands.specs.declared.text.DiskCommandFault.{DiskCommandFault}
 use Rattle.disk_commands.specs.declared.text.DiskCommandFault.TheVariants as fault
 use Rattle.disk_commands.specs.Damage.{IsListAt, IsListBy, IsLookedAt, IsNoListAt, IsUnlookedAt}
 use Rattle.disk_commands.specs.declared.files.DiskFileFault.{DiskFileFault}
-use Rattle.disk_commands.specs.Files.{AnswersNoMore, DiskFileAnswers, SaysNoMore}
+use Rattle.disk_commands.specs.Files.{DiskFilesAnswerNoMore, DiskFileAnswers, SaysNoMore}
 use Rattle.disk_commands.specs.Opening.{file_bytes, IsFaultAt, IsMarkAt, IsNotAt, IsShapeFault, IsStoreAt, IsTextAt, told_at}
 use Rattle.disk_commands.proofs.OpeningLemmas.{no_file}
 
@@ -64,11 +64,11 @@ shape_of a path why h = absurd h
 pub mark_fault : (a b : DiskFileAnswers) (path : List ℕ) (why : DiskCommandFault) → SaysNoMore a b → IsFaultAt b path 0 why → IsNotAt a path why
 mark_fault a b path why less h = inl (shape_of a path why (fault_back a b path 0 why less h))
 
-pub text_back : (a m : DiskFileAnswers) (path : List ℕ) (told : DiskText) → AnswersNoMore a m → IsTextAt m path told → IsTextAt a path told
+pub text_back : (a m : DiskFileAnswers) (path : List ℕ) (told : DiskText) → DiskFilesAnswerNoMore a m → IsTextAt m path told → IsTextAt a path told
 text_back a m path told less h = record { text = h.text; tells = less.tells path h.text h.tells; says = h.says }
 
 -- its shape was not told
-pub shape_back : (a m : DiskFileAnswers) (path : List ℕ) (why : DiskCommandFault) → AnswersNoMore a m → IsShapeFault m path why → IsShapeFault a path why
+pub shape_back : (a m : DiskFileAnswers) (path : List ℕ) (why : DiskCommandFault) → DiskFilesAnswerNoMore a m → IsShapeFault m path why → IsShapeFault a path why
 shape_back a m path (fault.Shape told why) less h = (h.0, (h.1.0, less.tells path h.1.0 h.1.1, h.1.2))
 shape_back a m path (fault.Read told) less h = fault_back a m path 0 (fault.Read told) less.says h
 shape_back a m path (fault.Write told) less h = fault_back a m path 0 (fault.Write told) less.says h
@@ -79,7 +79,7 @@ shape_back a m path fault.OutOfMemory less h = fault_back a m path 0 fault.OutOf
 shape_back a m path why less h = absurd h
 
 -- with the answers that it had once it was locked
-module _ (a m t : DiskFileAnswers) (path : Bor (List ℕ)) (text : DiskText) (less : AnswersNoMore a m) (same : t ≡ m) (at : IsTextAt m path.now text) where
+module _ (a m t : DiskFileAnswers) (path : Bor (List ℕ)) (text : DiskText) (less : DiskFilesAnswerNoMore a m) (same : t ≡ m) (at : IsTextAt m path.now text) where
   pub not_opened : (f : DiskFileFault) (wanted : ℕ) (told : DiskCommandFault) → t.fails path.now f → wanted ≡ file_bytes text.shape → told ≡ told_at f path wanted → IsNotAt a path.now told
   not_opened f wanted told fails bytes is =
       no_file a f path wanted text told (text_back a m path.now text less at) (less.says.fails path.now f (subst (λ x. x.fails path.now f) same fails)) bytes is
@@ -94,7 +94,7 @@ module _ (a m t : DiskFileAnswers) (path : Bor (List ℕ)) (text : DiskText) (le
   }
 
 -- what says no more than what says no more
-pub no_more_then : (a m t n : DiskFileAnswers) → AnswersNoMore a m → t ≡ m → SaysNoMore t n → SaysNoMore a n
+pub no_more_then : (a m t n : DiskFileAnswers) → DiskFilesAnswerNoMore a m → t ≡ m → SaysNoMore t n → SaysNoMore a n
 no_more_then a m t n less same more =
     let then : SaysNoMore m n = subst (λ x. SaysNoMore x n) same more in
     record {

@@ -10,7 +10,7 @@ use Rattle.disk_commands.specs.declared.text.DiskCommandFault.{DiskCommandFault}
 use Rattle.disk_commands.specs.Check.{HasChecked, IsUnclean}
 use Rattle.disk_commands.specs.Created.{HasCreated, IsUncreated}
 use Rattle.disk_commands.specs.Files.{DiskFileAnswers}
-use Rattle.disk_commands.specs.Program.{Around, Checks, Creates, PrintsText, Tells}
+use Rattle.disk_commands.specs.Program.{Around, Checks, Creates, PrintsText, TellsInfo}
 use Rattle.disk_commands.specs.Told.{HasTold, IsDiskUntold, IsPrintedInPart}
 
 pub creates : {S : Type 0} (held : S → Held) (honest : S → Bool) (failed : S → ℕ) (a : DiskFileAnswers) (words : CreateWords) (old new : Around) (result : Result (Unit {0}) DiskCommandFault)
@@ -20,7 +20,7 @@ creates held honest failed a words old new (Ok done) made fault kept = made
 creates held honest failed a words old new (Err told) made fault kept = (fault, kept)
 
 pub tells : {S : Type 0} (held : S → Held) (honest : S → Bool) (mended : S → Mended) (failed : S → ℕ) (a : DiskFileAnswers) (words : InfoWords) (old new : Around) (result : Result (Unit {0}) DiskCommandFault)
-    → OnOk result (HasTold held honest mended a words old.out new.out) → IfErr result (IsDiskUntold held honest mended failed a words old.out new.out) → Tells held honest mended failed a words old new result
+    → OnOk result (HasTold held honest mended a words old.out new.out) → IfErr result (IsDiskUntold held honest mended failed a words old.out new.out) → TellsInfo held honest mended failed a words old new result
 tells held honest mended failed a words old new (Ok done) printed fault = printed
 tells held honest mended failed a words old new (Err told) printed fault = fault
 

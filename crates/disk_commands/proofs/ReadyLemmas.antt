@@ -9,7 +9,7 @@ use Rattle.disk_commands.specs.declared.text.DiskCommandFault.{DiskCommandFault}
 use Rattle.disk_commands.specs.declared.text.DiskCommandFault.TheVariants as fault
 use Rattle.disk_commands.specs.declared.words.DiskServeWords.{DiskServeWords}
 use Rattle.disk_commands.specs.Damage.{IsLookedAt}
-use Rattle.disk_commands.specs.Files.{DiskFileAnswers, Opened, OpensMarked, OpensMarkedIf, OpensOnce, SaysNoMore, with_mark, with_opened}
+use Rattle.disk_commands.specs.Files.{DiskFileAnswers, Opened, OpensMarked, OpensMarkedIf, OpensOnce, SaysNoMore, with_mark_opened, with_opened}
 use Rattle.disk_commands.specs.Guard.{IsUnlistedAt}
 use Rattle.disk_commands.specs.Opening.{IsUnkeptAt}
 use Rattle.disk_commands.specs.Ready.{IsNoneOf, IsUnkeptBy, IsUnreadyAt, MarksBy, access_of}
@@ -31,7 +31,7 @@ opens_alone words a before after same is = opens_marked words.disk.now (access_o
 
 marks_if : (writes : Bool) (path : List ℕ) (access : Access) (before mid after : Option (List Opened)) → mid ≡ with_opened before path access → MarksBy writes path mid after → OpensMarkedIf writes path access before after
 marks_if true path access before mid after is (inl same) = inl (same ∙ is)
-marks_if true path access before mid after is (inr marked) = inr (marked ∙ ap (λ x. with_mark x path) is)
+marks_if true path access before mid after is (inr marked) = inr (marked ∙ ap (λ x. with_mark_opened x path) is)
 marks_if false path access before mid after is same = same ∙ is
 
 pub marks_then : (words : DiskServeWords) (a : Access) (before mid after : Option (List Opened)) → a ≡ access_of words → mid ≡ with_opened before words.disk.now a → MarksBy (not words.read_only) words.disk.now mid after

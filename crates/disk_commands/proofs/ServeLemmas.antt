@@ -9,7 +9,7 @@ use Rattle.file_die.specs.Store.{Held}
 use Rattle.coded_store.specs.declared.coded.Mended.{Mended}
 use Rattle.disk_server.specs.declared.guarded.GuardedSectors.{GuardedSectors}
 use Rattle.disk_server.specs.declared.mark.SyncMark.{SyncMark}
-use Rattle.disk_server.specs.Reopened.{Reopened, holds_in, next_in, takes_in}
+use Rattle.disk_server.specs.Reopened.{Reopened, holds_in, next_to_program, takes_in}
 use Rattle.disk_server.specs.Guarded.{PassesOn, ReadsGuarded}
 use Rattle.nbd_stream.specs.declared.fault.DiskFault.{DiskFault as NbdFault}
 use Rattle.nbd_stream.specs.declared.request.StreamEnd.{StreamEnd}
@@ -29,7 +29,7 @@ use Rattle.disk_commands.specs.declared.text.DiskCommandFault.TheVariants as fau
 use Rattle.disk_commands.specs.Damage.{NamesAll}
 use Rattle.disk_commands.specs.Files.{DiskFileAnswers}
 use Rattle.disk_commands.specs.Ready.{IsNoneOf, IsNotOpened, IsReadyAt, IsUnkeptBy, IsUnreadyAt}
-use Rattle.disk_commands.specs.Serve.{HasNotServed, HasReadDisk, HasServedAt, HasServedDisk, HasServedOn, IsDiskClosed, ServedBy, does_in, end_of, reads_in, rests_in, shown_in, terms_of, told_at_end}
+use Rattle.disk_commands.specs.Serve.{HasNotServed, HasReadDisk, HasServedAt, HasServedDisk, HasServedOn, IsDiskClosed, ServedBy, does_in, end_of, reads_in, rests_in, contents_once_guarded, terms_told, told_at_end}
 
 -- by how the disk was closed
 pub closed : {D Y : Type 0} (contents : D → Contents) (honest : D → Bool) (does : D → Task → Result (Unit {0}) NbdFault → D → Type 0) (next : D → ℕ) (takes : D → Bool) (synced failed : Y → ℕ) (marked : Y → SyncMark)
@@ -66,9 +66,9 @@ pub served_at : {S Y K : Type 0} (held : S → Held) (honest full : S → Bool) 
     (marked : Y → SyncMark) (kept : K → List Bool) (unlisted : K → ℕ) (a : DiskFileAnswers) (words : DiskServeWords) (told : DiskText)
     (mended : Mended)
     (disk : GuardedSectors (Reopened S) K) (syncs : Y) (terms : Terms) (unread left before after telling told_after : Option (List ℕ)) (result : Result (Unit {0}) DiskCommandFault)
-    → IsReadyAt held honest failed mended_in marked kept a words.disk.now words.read_only words.sync_always told mended disk syncs → NamesAll disk.lost.items told.shape.code mended telling told_after → terms ≡ terms_of told words.read_only
-    → HasServedOn (shown_in held honest failed) (λ d. holds_in honest d.sectors) (does_in held honest full failed) (PassesOn (rests_in held honest full failed)) (ReadsGuarded (reads_in held honest failed))
-    (λ d. next_in d.sectors) (λ d. takes_in d.sectors) synced missed marked terms words.disk disk syncs unread left before after result
+    → IsReadyAt held honest failed mended_in marked kept a words.disk.now words.read_only words.sync_always told mended disk syncs → NamesAll disk.lost.items told.shape.code mended telling told_after → terms ≡ terms_told told words.read_only
+    → HasServedOn (contents_once_guarded held honest failed) (λ d. holds_in honest d.sectors) (does_in held honest full failed) (PassesOn (rests_in held honest full failed)) (ReadsGuarded (reads_in held honest failed))
+    (λ d. next_to_program d.sectors) (λ d. takes_in d.sectors) synced missed marked terms words.disk disk syncs unread left before after result
     ⊎ ((result ≡ Err fault.OutOfMemory) × Keeps before after)
     → HasServedAt held honest full mended_in failed synced missed marked kept a words unread left before after telling told_after result ⊎ HasNotServed held honest failed missed kept unlisted a words before after telling told_after result
 served_at held honest full mended_in failed synced missed marked kept unlisted a words told mended disk syncs terms unread left before after telling told_after result at named is (inl h) =
@@ -79,8 +79,8 @@ served_at held honest full mended_in failed synced missed marked kept unlisted a
       mended = mended;
       at = at;
       named = named;
-      served = subst (λ t. HasServedOn (shown_in held honest failed) (λ d. holds_in honest d.sectors) (does_in held honest full failed) (PassesOn (rests_in held honest full failed)) (ReadsGuarded (reads_in held honest failed))
-          (λ d. next_in d.sectors) (λ d. takes_in d.sectors) synced missed marked t words.disk disk syncs unread left before after result) is h;
+      served = subst (λ t. HasServedOn (contents_once_guarded held honest failed) (λ d. holds_in honest d.sectors) (does_in held honest full failed) (PassesOn (rests_in held honest full failed)) (ReadsGuarded (reads_in held honest failed))
+          (λ d. next_to_program d.sectors) (λ d. takes_in d.sectors) synced missed marked t words.disk disk syncs unread left before after result) is h;
     })
 served_at held honest full mended_in failed synced missed marked kept unlisted a words told mended disk syncs terms unread left before after telling told_after result at named is (inr h) =
     inr (record { told = fault.OutOfMemory; is = h.0; why = inr (inr (inr tt)); silent = h.1; unnamed = inr tt })

@@ -8,7 +8,7 @@ use Rattle.std.proofs.lemmas.Grind.{div_ceil_times}
 use Rattle.page_layout.specs.declared.geometry.Geometry.{Geometry}
 use Rattle.page_layout.specs.Geometry.{flush_blocks_at, key_count, need_at, table_pages, translation_pages, vmax_at}
 use Rattle.page_layout.proofs.GeometryLemmas.{greater_share}
-use Rattle.disk_commands.specs.Shapes.{HasBlocksForFormat, HasNoSpared, IsDie, IsDieForSectors, IsDieOfSectors, IsGreatestDie, IsLeast, IsPages, IsSparedDie, spare_of}
+use Rattle.disk_commands.specs.Shapes.{HasBlocksForFormat, HasNoSpared, IsDie, IsDieForSectors, IsDieOfSectors, IsGreatestDie, AreFewestBlocks, IsPages, IsSparedDie, spare_of}
 
 -- what holds of each count of pages
 pub by_pages : (P : ℕ → Type 0) → P 64 → P 128 → P 256 → (p : ℕ) → IsPages p → P p
@@ -99,7 +99,7 @@ some_spare share n some = some_by (share == 0) n some
 -- ---- the die of so many pages
 
 -- the fewest blocks are one number
-least_same : (p share s n m : ℕ) → IsLeast p share s n → IsLeast p share s m → n ≡ m
+least_same : (p share s n m : ℕ) → AreFewestBlocks p share s n → AreFewestBlocks p share s m → n ≡ m
 least_same p share s n m one other = elim (cases_lt n m) [
   | inl less ↦ absurd (other.least n less one.formats)
   | inr from ↦ elim (cases_lt m n) [
@@ -114,7 +114,7 @@ none_enough p share s none g is =
     let most : is.needed + spare_of share is.needed ≤ 4096 = subst (λ n. n ≤ 4096) is.die.blocks_is g.limits.block_count.most in
     none is.needed (omega (arith, most)) is.least.formats
 
-pub none_spare : (p share s n spare : ℕ) → IsLeast p share s n → spare ≡ spare_of share n → ((g : Geometry) → ¬ IsDie p (n + spare) s g) → (g : Geometry) → ¬ IsDieForSectors p share s g
+pub none_spare : (p share s n spare : ℕ) → AreFewestBlocks p share s n → spare ≡ spare_of share n → ((g : Geometry) → ¬ IsDie p (n + spare) s g) → (g : Geometry) → ¬ IsDieForSectors p share s g
 none_spare p share s n spare least is none g its =
     let same : its.needed ≡ n = least_same p share s its.needed n its.least least in
     none g (subst (λ m. IsDie p (n + m) s g) (sym is) (subst (λ m. IsDie p (m + spare_of share m) s g) same its.die))

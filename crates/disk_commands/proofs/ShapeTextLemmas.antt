@@ -3,7 +3,7 @@ use Rattle.std.proofs.Common.{◌≡◌, ℕ, ◌==◌, false, List, [], ◌∷�
 use Rattle.serde_json.specs.Data.{Data, Members}
 use Rattle.serde_json.specs.Events.{members_len}
 use Rattle.serde_json.specs.Find.{as_object}
-use Rattle.disk_commands.specs.ShapeText.{size_of, without_feed}
+use Rattle.disk_commands.specs.ShapeText.{member_count, without_feed}
 
 -- a line feed at the end is left out
 pub feed_left_out : (front : List ℕ) → without_feed (front ++ (10 ∷ [])) ≡ front
@@ -18,5 +18,5 @@ none_left_out (c ∷ []) last other = ap (λ l. c ∷ l) (none_left_out [] last 
 none_left_out (c ∷ d ∷ cs) last other = ap (λ l. c ∷ l) (none_left_out (d ∷ cs) last other)
 
 -- how many members an object has
-pub size_is : (d : Data) (ms : Members) (n : ℕ) → as_object d ≡ Some ms → members_len ms ≡ n → size_of d ≡ Some n
+pub size_is : (d : Data) (ms : Members) (n : ℕ) → as_object d ≡ Some ms → members_len ms ≡ n → member_count d ≡ Some n
 size_is d ms n is size = ap (option_map members_len) is ∙ ap Some size

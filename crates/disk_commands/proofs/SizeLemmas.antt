@@ -49,7 +49,7 @@ use Rattle.std.specs.Option.{option_and_then}
 use Rattle.std.proofs.Math.Nat.{mod-eq-sub-div-mul, mul-div_cancel, mul-mod_left, one-le-pow}
 use Rattle.std.proofs.Math.Seq.{take-append_seam, drop-append_seam}
 use Rattle.std.proofs.lemmas.List.{take-append-drop}
-use Rattle.disk_commands.specs.Sizes.{SaysUnits, behind_point, binary_of, count_from, decimal_of, digits_before, is_digit, next_count, part_of, rest_of, suffix_of, unit_by, unit_of, whole_of}
+use Rattle.disk_commands.specs.Sizes.{SaysUnits, behind_point, binary_of, count_from, decimal_of, digits_before, is_digit, next_count, digits_behind_point, rest_of, suffix_of, unit_by, unit_of, whole_of}
 
 -- ---- numbers
 
@@ -168,7 +168,7 @@ more_if : (n k : ℕ) (xs ys : List ℕ) → n ≡ suc k → (if nat_lt 0 n then
 more_if n k xs ys e = ap (λ b. if b then xs else ys) (more_by n (nat_lt 0 n) refl (omega (arith, e)))
 
 pub part_is : (part suffix : List ℕ) (e d u : ℕ) → count_from e part ≡ Some d → unit_of suffix ≡ Some u
-    → (part_of (behind_point part ++ suffix) ≡ part) × (suffix_of (behind_point part ++ suffix) ≡ suffix)
+    → (digits_behind_point (behind_point part ++ suffix) ≡ part) × (suffix_of (behind_point part ++ suffix) ≡ suffix)
 part_is [] [] e d u counted named = (refl, refl)
 part_is [] (c ∷ behind) e d u counted named =
     let none = no_point behind c u named in
@@ -181,18 +181,18 @@ part_is (p ∷ ps) suffix e d u counted named =
 -- A WORD'S PARTS are those that it is taken apart into
 pub record Parts (word : List ℕ) (digits places unit : ℕ) : Type 0 where
   pub some_whole : 1 ≤ length (whole_of word)
-  pub few : length (part_of (rest_of word)) ≤ 18
-  pub places_are : places ≡ length (part_of (rest_of word))
-  pub digits_are : count_from 0 (whole_of word ++ part_of (rest_of word)) ≡ Some digits
+  pub few : length (digits_behind_point (rest_of word)) ≤ 18
+  pub places_are : places ≡ length (digits_behind_point (rest_of word))
+  pub digits_are : count_from 0 (whole_of word ++ digits_behind_point (rest_of word)) ≡ Some digits
   pub unit_is : unit_of (suffix_of (rest_of word)) ≡ Some unit
 
-parts_by : (whole part suffix word : List ℕ) (digits places unit : ℕ) → whole_of word ≡ whole → part_of (rest_of word) ≡ part → suffix_of (rest_of word) ≡ suffix
+parts_by : (whole part suffix word : List ℕ) (digits places unit : ℕ) → whole_of word ≡ whole → digits_behind_point (rest_of word) ≡ part → suffix_of (rest_of word) ≡ suffix
     → 1 ≤ length whole → places ≤ 18 → places ≡ length part → count_from 0 (whole ++ part) ≡ Some digits → unit_of suffix ≡ Some unit → Parts word digits places unit
 parts_by whole part suffix word digits places unit w p s some few are counted named = record {
   some_whole = subst (λ xs. 1 ≤ length xs) (sym w) some;
   few = subst (λ n. n ≤ 18) (are ∙ ap length (sym p)) few;
   places_are = are ∙ ap length (sym p);
-  digits_are = ap (λ xs. count_from 0 (xs ++ part_of (rest_of word))) w ∙ ap (λ ys. count_from 0 (whole ++ ys)) p ∙ counted;
+  digits_are = ap (λ xs. count_from 0 (xs ++ digits_behind_point (rest_of word))) w ∙ ap (λ ys. count_from 0 (whole ++ ys)) p ∙ counted;
   unit_is = ap unit_of s ∙ named;
 }
 
@@ -203,7 +203,7 @@ parts_of word digits places unit says =
     let ends = part_is says.part says.suffix it.0 digits unit it.2 says.unit_is in
     let w = ap whole_of says.split ∙ both.0 in
     let r = ap rest_of says.split ∙ both.1 in
-    parts_by says.whole says.part says.suffix word digits places unit w (ap part_of r ∙ ends.0) (ap suffix_of r ∙ ends.1)
+    parts_by says.whole says.part says.suffix word digits places unit w (ap digits_behind_point r ∙ ends.0) (ap suffix_of r ∙ ends.1)
     says.some_whole says.few says.places_are says.digits_are says.unit_is
 
 -- a text is its digits and what stands behind them; of that a point, digits and a suffix
@@ -217,17 +217,17 @@ rest_by c (x ∷ xs) (suc k) true e many =
     ap (λ l. 46 ∷ (x ∷ (take k xs ++ l))) (more_if (suc k) k (drop k xs) (c ∷ (x ∷ xs)) refl)
     ∙ ap (λ t. 46 ∷ (x ∷ t)) (take-append-drop k xs) ∙ ap (λ l. l ∷ (x ∷ xs)) (sym same)
 
-rest_joined : (rest : List ℕ) → behind_point (part_of rest) ++ suffix_of rest ≡ rest
+rest_joined : (rest : List ℕ) → behind_point (digits_behind_point rest) ++ suffix_of rest ≡ rest
 rest_joined [] = refl
 rest_joined (c ∷ cs) = rest_by c cs (digits_before cs) (c == 46) refl refl
 
-pub joined : (word : List ℕ) → word ≡ whole_of word ++ (behind_point (part_of (rest_of word)) ++ suffix_of (rest_of word))
+pub joined : (word : List ℕ) → word ≡ whole_of word ++ (behind_point (digits_behind_point (rest_of word)) ++ suffix_of (rest_of word))
 joined word = sym (ap (λ r. whole_of word ++ r) (rest_joined (rest_of word)) ∙ take-append-drop (digits_before word) word)
 
 pub says_by : (word : List ℕ) (digits places unit : ℕ) → Parts word digits places unit → SaysUnits word digits places unit
 says_by word digits places unit p = record {
   whole = whole_of word;
-  part = part_of (rest_of word);
+  part = digits_behind_point (rest_of word);
   suffix = suffix_of (rest_of word);
   split = joined word;
   some_whole = p.some_whole;
@@ -238,12 +238,12 @@ says_by word digits places unit p = record {
 }
 
 -- what the parts of a word are, by the calls that take it apart
-pub taken_apart : (word text front back part suffix : List ℕ) (k : ℕ) → text ≡ word → k ≡ digits_before text → front ≡ take k text → back ≡ drop k text → part ≡ part_of back → suffix ≡ suffix_of back
-    → (front ≡ whole_of word) × (part ≡ part_of (rest_of word)) × (suffix ≡ suffix_of (rest_of word))
+pub taken_apart : (word text front back part suffix : List ℕ) (k : ℕ) → text ≡ word → k ≡ digits_before text → front ≡ take k text → back ≡ drop k text → part ≡ digits_behind_point back → suffix ≡ suffix_of back
+    → (front ≡ whole_of word) × (part ≡ digits_behind_point (rest_of word)) × (suffix ≡ suffix_of (rest_of word))
 taken_apart word text front back part suffix k t e f b p s =
     let k_is : k ≡ digits_before word = e ∙ ap digits_before t in
     let back_is : back ≡ rest_of word = b ∙ ap (drop k) t ∙ ap (λ i. drop i word) k_is in
-    (f ∙ ap (take k) t ∙ ap (λ i. take i word) k_is, p ∙ ap part_of back_is, s ∙ ap suffix_of back_is)
+    (f ∙ ap (take k) t ∙ ap (λ i. take i word) k_is, p ∙ ap digits_behind_point back_is, s ∙ ap suffix_of back_is)
 
 -- ---- amounts
 

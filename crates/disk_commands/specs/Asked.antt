@@ -9,7 +9,7 @@ use Rattle.disk_commands.specs.declared.shapes.DiskShape.{DiskShape}
 use Rattle.disk_commands.specs.declared.shape_words.GeometryWordFault.TheVariants as word
 use Rattle.disk_commands.specs.Shapes.{IsNewShare, IsNoSize, IsShapeFor, IsShareFor, cache_of}
 use Rattle.disk_commands.specs.Sizes.{SpellsPart, SpellsSize}
-use Rattle.disk_commands.specs.ShapeText.{IsWithin}
+use Rattle.disk_commands.specs.ShapeText.{IsCacheSize}
 use Rattle.disk_commands.specs.ShapeWords.{SaysGeometry, SaysNone}
 use Rattle.disk_commands.specs.declared.words.CreateWords.{CreateWords}
 use Rattle.disk_commands.specs.declared.words.MakeWords.{MakeWords}
@@ -44,7 +44,7 @@ IsGeometryAsked (make.Dump word from) share g = SaysGeometry word.now g
 
 -- a word that is a number from 1 to 65,536
 abbrev pub IsCacheAt : List ℕ → ℕ → Type 0
-IsCacheAt word cache = (number_of word ≡ Some cache) × IsWithin cache
+IsCacheAt word cache = (number_of word ≡ Some cache) × IsCacheSize cache
 
 -- the cache that is named, or the one for the geometry
 abbrev pub IsCacheAsked : Option (Bor (List ℕ)) → Geometry → (share cache : ℕ) → Type 0

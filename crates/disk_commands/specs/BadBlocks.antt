@@ -23,7 +23,7 @@ is_copied (make.Geometry word) = false
 is_copied (make.Dump word from) = true
 
 -- a word names these blocks: numbers with commas between them, each of a block of the die, none twice
-pub record Names (word : List ℕ) (g : Geometry) (blocks : List ℕ) : Type 0 where
+pub record NamesBlocks (word : List ℕ) (g : Geometry) (blocks : List ℕ) : Type 0 where
   pub spelled : SpellsNumbers word blocks
   pub named : AreNames g blocks
 
@@ -31,20 +31,20 @@ pub record Names (word : List ℕ) (g : Geometry) (blocks : List ℕ) : Type 0 w
 abbrev pub AreBadAsked : (copied : Bool) → Option (Bor (List ℕ)) → Geometry → List ℕ → Type 0
 AreBadAsked copied None g blocks = blocks ≡ []
 AreBadAsked true (Some word) g blocks = ⊥
-AreBadAsked false (Some word) g blocks = Names word.now g blocks
+AreBadAsked false (Some word) g blocks = NamesBlocks word.now g blocks
 
 -- a word that writes no numbers is told; or the first block that the die has not, or that was named before
-abbrev pub NamesNone : Bor (List ℕ) → Geometry → DiskCommandFault → Type 0
-NamesNone word g (fault.BadNumber told) = (told.now ≡ word.now) × ((blocks : List ℕ) → ¬ SpellsNumbers word.now blocks)
-NamesNone word g (fault.BadBlock block) = (blocks : List ℕ) × SpellsNumbers word.now blocks × IsFirstMisnamed g blocks block
-NamesNone word g fault.OutOfMemory = Unit {0}
-NamesNone word g _ = ⊥
+abbrev pub NamesNoBlocks : Bor (List ℕ) → Geometry → DiskCommandFault → Type 0
+NamesNoBlocks word g (fault.BadNumber told) = (told.now ≡ word.now) × ((blocks : List ℕ) → ¬ SpellsNumbers word.now blocks)
+NamesNoBlocks word g (fault.BadBlock block) = (blocks : List ℕ) × SpellsNumbers word.now blocks × IsFirstMisnamed g blocks block
+NamesNoBlocks word g fault.OutOfMemory = Unit {0}
+NamesNoBlocks word g _ = ⊥
 
 -- why there are none: none are asked of a die that is copied
 abbrev pub AreNoneAsked : (copied : Bool) → Option (Bor (List ℕ)) → Geometry → DiskCommandFault → Type 0
 AreNoneAsked copied None g told = ⊥
 AreNoneAsked true (Some word) g told = told ≡ fault.NoSuchCommand
-AreNoneAsked false (Some word) g told = NamesNone word g told
+AreNoneAsked false (Some word) g told = NamesNoBlocks word g told
 
 -- ---- their marks
 

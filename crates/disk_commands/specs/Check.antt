@@ -52,14 +52,14 @@ pub record FailsCheck {S : Type 0} (held : S → Held) (honest : S → Bool) (fa
   pub left : S
   pub rose : HasRisen (failed store) (failed left)
 
-abbrev pub IsUnseen : {S : Type 0} → (S → Held) → (honest : S → Bool) → (failed : S → ℕ) → DiskFileAnswers → (path : List ℕ) → DiskCommandFault → Type 0
-IsUnseen held honest failed a path (fault.Open at why.Device) = (at.now ≡ path) × FailsCheck held honest failed a path
-IsUnseen held honest failed a path fault.OutOfMemory = Unit {0}
-IsUnseen held honest failed a path _ = ⊥
+abbrev pub ArePagesUnseen : {S : Type 0} → (S → Held) → (honest : S → Bool) → (failed : S → ℕ) → DiskFileAnswers → (path : List ℕ) → DiskCommandFault → Type 0
+ArePagesUnseen held honest failed a path (fault.Open at why.Device) = (at.now ≡ path) × FailsCheck held honest failed a path
+ArePagesUnseen held honest failed a path fault.OutOfMemory = Unit {0}
+ArePagesUnseen held honest failed a path _ = ⊥
 
 -- the disk was not looked at, or not all of its pages
 abbrev pub IsUncheckedAt : {S : Type 0} → (S → Held) → (honest : S → Bool) → (failed : S → ℕ) → DiskFileAnswers → (path : List ℕ) → DiskCommandFault → Type 0
-IsUncheckedAt held honest failed a path told = IsUnlookedAt held honest failed a path told ⊎ IsUnseen held honest failed a path told
+IsUncheckedAt held honest failed a path told = IsUnlookedAt held honest failed a path told ⊎ ArePagesUnseen held honest failed a path told
 
 -- ---- what is told
 

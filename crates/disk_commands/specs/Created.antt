@@ -23,7 +23,7 @@ use Rattle.disk_commands.specs.declared.files.DiskFileFault.TheVariants as file
 use Rattle.disk_commands.specs.declared.text.DiskCommandFault.TheVariants as fault
 use Rattle.disk_commands.specs.BadBlocks.{AreBadAsked, AreNoneAsked, HasMarks, is_copied}
 use Rattle.disk_commands.specs.Asked.{IsNoShapeAsked, IsShapeAsked}
-use Rattle.disk_commands.specs.Files.{DiskFileAnswers, Kept, with_kept}
+use Rattle.disk_commands.specs.Files.{DiskFileAnswers, Kept, with_kept_disk}
 use Rattle.disk_commands.specs.Opening.{IsCopyFault, IsFaultAt, IsNotFree}
 
 -- ---- the die
@@ -66,7 +66,7 @@ pub record HasCreated {S : Type 0} (held : S → Held) (honest : S → Bool) (a 
   pub store : S
   pub die : honest store ≡ true → IsDieAskedFor a words.make shape bad (held store)
   pub is_honest : honest store ≡ a.honest
-  pub kept : after ≡ with_kept before (record { path = words.disk.now; held = held store; text = shape_text shape })
+  pub kept : after ≡ with_kept_disk before (record { path = words.disk.now; held = held store; text = shape_text shape })
 
 -- ---- why there is none
 
@@ -81,12 +81,12 @@ IsUnmarked {S} held honest failed a g bad =
     (0 < length bad) × ((store left : S) × (honest store ≡ a.honest) × (honest store ≡ true → held store ≡ blank g) × HasRisen (failed store) (failed left))
 
 -- erased pages were not marked or not formatted
-abbrev pub IsUnformatted : {S : Type 0} → (S → Held) → (honest : S → Bool) → (failed : S → ℕ) → DiskFileAnswers → (path : List ℕ) → DiskShape → (bad : List ℕ) → DiskCommandFault → Type 0
-IsUnformatted {S} held honest failed a path shape bad (fault.Create told why) =
+abbrev pub IsNewDieUnformatted : {S : Type 0} → (S → Held) → (honest : S → Bool) → (failed : S → ℕ) → DiskFileAnswers → (path : List ℕ) → DiskShape → (bad : List ℕ) → DiskCommandFault → Type 0
+IsNewDieUnformatted {S} held honest failed a path shape bad (fault.Create told why) =
     (told.now ≡ path) × ((store given : S) × (honest store ≡ a.honest) × (honest store ≡ true → HasMarks shape.geometry bad (held store)) × IsDiskUnmade held honest failed shape.share store given why)
-IsUnformatted held honest failed a path shape bad (fault.Write told) = (told.now ≡ path) × (a.fails path file.Write ⊎ IsUnmarked held honest failed a shape.geometry bad)
-IsUnformatted held honest failed a path shape bad fault.OutOfMemory = Unit {0}
-IsUnformatted held honest failed a path shape bad told = IsFaultAt a path 0 told
+IsNewDieUnformatted held honest failed a path shape bad (fault.Write told) = (told.now ≡ path) × (a.fails path file.Write ⊎ IsUnmarked held honest failed a shape.geometry bad)
+IsNewDieUnformatted held honest failed a path shape bad fault.OutOfMemory = Unit {0}
+IsNewDieUnformatted held honest failed a path shape bad told = IsFaultAt a path 0 told
 
 -- a dump was not copied, or is no die with a device on it
 abbrev pub IsNoDump : {S : Type 0} → (S → Held) → (honest : S → Bool) → (failed : S → ℕ) → DiskFileAnswers → (path dump : List ℕ) → DiskShape → DiskCommandFault → Type 0
@@ -95,14 +95,14 @@ IsNoDump {S} held honest failed a path dump shape (fault.Open told why) =
 IsNoDump held honest failed a path dump shape told = IsCopyFault a path dump (row_count shape.geometry * page_bytes shape.geometry) told
 
 abbrev pub IsUnmadeFor : {S : Type 0} → (S → Held) → (honest : S → Bool) → (failed : S → ℕ) → DiskFileAnswers → (path : List ℕ) → MakeWords → DiskShape → (bad : List ℕ) → DiskCommandFault → Type 0
-IsUnmadeFor held honest failed a path (make.Size word) shape bad told = IsUnformatted held honest failed a path shape bad told
-IsUnmadeFor held honest failed a path (make.Geometry word) shape bad told = IsUnformatted held honest failed a path shape bad told
+IsUnmadeFor held honest failed a path (make.Size word) shape bad told = IsNewDieUnformatted held honest failed a path shape bad told
+IsUnmadeFor held honest failed a path (make.Geometry word) shape bad told = IsNewDieUnformatted held honest failed a path shape bad told
 IsUnmadeFor held honest failed a path (make.Dump word from) shape bad told = IsNoDump held honest failed a path from.now shape told
 
 -- the die was not put in its place, or memory for the text was refused
-abbrev pub IsUnkept : DiskFileAnswers → (path : List ℕ) → DiskCommandFault → Type 0
-IsUnkept a path fault.OutOfMemory = Unit {0}
-IsUnkept a path told = IsFaultAt a path 0 told
+abbrev pub IsDieUnplaced : DiskFileAnswers → (path : List ℕ) → DiskCommandFault → Type 0
+IsDieUnplaced a path fault.OutOfMemory = Unit {0}
+IsDieUnplaced a path told = IsFaultAt a path 0 told
 
 -- the first of this order: no shape was asked for, or no bad blocks of it, something stands there, the die was not made, it was not put in its place
 abbrev pub IsUncreated : {S : Type 0} → (S → Held) → (honest : S → Bool) → (failed : S → ℕ) → DiskFileAnswers → CreateWords → DiskCommandFault → Type 0
@@ -110,4 +110,4 @@ IsUncreated held honest failed a words told =
     IsNoShapeAsked words told
     ⊎ ((shape : DiskShape) × IsShapeAsked words shape × (AreNoneAsked (is_copied words.make) words.bad shape.geometry told
     ⊎ ((bad : List ℕ) × AreBadAsked (is_copied words.make) words.bad shape.geometry bad × (IsNotFree a words.disk.now told
-    ⊎ (a.says_there words.disk.now false × (IsUnmadeFor held honest failed a words.disk.now words.make shape bad told ⊎ IsUnkept a words.disk.now told))))))
+    ⊎ (a.says_there words.disk.now false × (IsUnmadeFor held honest failed a words.disk.now words.make shape bad told ⊎ IsDieUnplaced a words.disk.now told))))))

@@ -90,8 +90,8 @@ named_text [] = []
 named_text (n ∷ ns) = lost_lines (n ∷ ns)
 
 -- THE LOST SECTORS WERE NAMED
-abbrev pub Names : (lost : List Bool) → (before after : Option (List ℕ)) → Type 0
-Names lost before after = Appends before after (named_text (listed_sectors lost))
+abbrev pub NamesLost : (lost : List Bool) → (before after : Option (List ℕ)) → Type 0
+NamesLost lost before after = Appends before after (named_text (listed_sectors lost))
 
 -- WHAT WAS WRONG WITH ITS PAGES WAS TOLD: nothing where nothing was, or where they have no code
 abbrev pub told_mended : Code → Mended → List ℕ
@@ -102,4 +102,4 @@ NamesMended code mended before after = Appends before after (told_mended code me
 
 -- both, one after the other
 abbrev pub NamesAll : (lost : List Bool) → Code → Mended → (before after : Option (List ℕ)) → Type 0
-NamesAll lost code mended before after = (between : Option (List ℕ)) × Names lost before between × NamesMended code mended between after
+NamesAll lost code mended before after = (between : Option (List ℕ)) × NamesLost lost before between × NamesMended code mended between after

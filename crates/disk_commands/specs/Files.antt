@@ -24,8 +24,8 @@ pub record DiskFileAnswers : Type 1 where
   pub honest : Bool
 
 -- files of which nothing is known
-abbrev pub unknown : DiskFileAnswers
-unknown = record {
+abbrev pub unknown_disk_files : DiskFileAnswers
+unknown_disk_files = record {
   says_there = λ path yes. Unit {0};
   tells = λ path text. Unit {0};
   lists = λ path text. Unit {0};
@@ -46,7 +46,7 @@ pub record SaysNoMore (old new : DiskFileAnswers) : Type 0 where
   pub fails : FailsNoMore old new
 
 -- nor anything else
-pub record AnswersNoMore (old new : DiskFileAnswers) : Type 0 where
+pub record DiskFilesAnswerNoMore (old new : DiskFileAnswers) : Type 0 where
   pub tells : (path text : List ℕ) → new.tells path text → old.tells path text
   pub holds : (path : List ℕ) (held : Held) → new.holds path held → old.holds path held
   pub honest : new.honest ≡ old.honest
@@ -75,8 +75,8 @@ pub record Opened : Type 0 where
 abbrev pub with_opened : Option (List Opened) → (path : List ℕ) → Access → Option (List Opened)
 with_opened opened path access = option_map (λ known. known ++ (record { path = path; mark = false; writes = access.writes; wait = access.wait } ∷ [])) opened
 
-abbrev pub with_mark : Option (List Opened) → (path : List ℕ) → Option (List Opened)
-with_mark opened path = option_map (λ known. known ++ (record { path = path; mark = true; writes = true; wait = 0 } ∷ [])) opened
+abbrev pub with_mark_opened : Option (List Opened) → (path : List ℕ) → Option (List Opened)
+with_mark_opened opened path = option_map (λ known. known ++ (record { path = path; mark = true; writes = true; wait = 0 } ∷ [])) opened
 
 -- this one was to be opened, once
 abbrev pub OpensOnce : (path : List ℕ) → Access → (before after : Option (List Opened)) → Type 0
@@ -84,7 +84,7 @@ OpensOnce path access before after = after ≡ with_opened before path access
 
 -- and where it is to be written, its mark behind it, or not
 abbrev pub OpensMarkedIf : (writes : Bool) → (path : List ℕ) → Access → (before after : Option (List Opened)) → Type 0
-OpensMarkedIf true path access before after = OpensOnce path access before after ⊎ (after ≡ with_mark (with_opened before path access) path)
+OpensMarkedIf true path access before after = OpensOnce path access before after ⊎ (after ≡ with_mark_opened (with_opened before path access) path)
 OpensMarkedIf false path access before after = OpensOnce path access before after
 
 abbrev pub OpensMarked : (path : List ℕ) → Access → (before after : Option (List Opened)) → Type 0
@@ -96,10 +96,10 @@ pub record Kept : Type 0 where
   pub held : Held
   pub text : List ℕ
 
-abbrev pub with_kept : Option (List Kept) → Kept → Option (List Kept)
-with_kept kept disk = option_map (λ known. known ++ (disk ∷ [])) kept
+abbrev pub with_kept_disk : Option (List Kept) → Kept → Option (List Kept)
+with_kept_disk kept disk = option_map (λ known. known ++ (disk ∷ [])) kept
 
 -- the disks after one more was to be put in its place, by the answer
 abbrev pub kept_after : Option (List Kept) → Kept → Result (Unit {0}) DiskFileFault → Option (List Kept)
-kept_after kept disk (Ok done) = with_kept kept disk
+kept_after kept disk (Ok done) = with_kept_disk kept disk
 kept_after kept disk (Err fault) = kept

@@ -3,7 +3,7 @@ use Rattle.std.specs.Prelude.{ℕ, ◌+◌, ◌-◌, ◌*◌, ◌^◌, ◌==◌,
 use Rattle.std.specs.List.{fold}
 use Rattle.page_layout.specs.declared.geometry.Geometry.{Geometry}
 use Rattle.certificate.specs.declared.block_state.BlockState.{BlockState}
-use Rattle.certificate.specs.Claim.{Claim, is_good}
+use Rattle.certificate.specs.Claim.{Claim, is_good_state}
 use Rattle.coded_store.specs.declared.coded.Mended.{Mended}
 use Rattle.disk_commands.specs.declared.shapes.Code.{Code}
 use Rattle.disk_commands.specs.declared.shapes.Code.TheVariants.{Plain, Hamming}
@@ -16,29 +16,29 @@ use Rattle.disk_commands.specs.declared.printed.Form.TheVariants.{Text, Json}
 
 -- ---- the blocks
 
-abbrev pub free_count : List BlockState → ℕ
-free_count states = count_by (λ s. s.class == 0) states
+abbrev pub claimed_free_count : List BlockState → ℕ
+claimed_free_count states = count_by (λ s. s.class == 0) states
 
 abbrev pub bad_count : List BlockState → ℕ
 bad_count states = count_by (λ s. nat_le 4 s.class) states
 
 -- of the good blocks the most erases, the fewest, and all together, which stay at 2 ^ 64 - 1 once there
-abbrev pub most_wear : List BlockState → ℕ
-most_wear states = fold (λ most s. if is_good s then max s.wear most else most) 0 states
+abbrev pub most_wear_of_good : List BlockState → ℕ
+most_wear_of_good states = fold (λ most s. if is_good_state s then max s.wear most else most) 0 states
 
 abbrev pub least_wear : List BlockState → ℕ
-least_wear states = fold (λ least s. if is_good s then min s.wear least else least) (most_wear states) states
+least_wear states = fold (λ least s. if is_good_state s then min s.wear least else least) (most_wear_of_good states) states
 
 abbrev pub erase_sum : List BlockState → ℕ
-erase_sum states = fold (λ sum s. if is_good s then min (sum + s.wear) (2 ^ 64 - 1) else sum) 0 states
+erase_sum states = fold (λ sum s. if is_good_state s then min (sum + s.wear) (2 ^ 64 - 1) else sum) 0 states
 
 abbrev pub info_of : DiskShape → Claim → Mended → Info
 info_of s c mended = record {
   shape = s;
-  free = free_count c.blocks;
+  free = claimed_free_count c.blocks;
   bad = bad_count c.blocks;
   least = least_wear c.blocks;
-  most = most_wear c.blocks;
+  most = most_wear_of_good c.blocks;
   erases = erase_sum c.blocks;
   next = c.next;
   mended = mended;

@@ -1,7 +1,7 @@
 -- THE FILES OF A DISK AS IT IS SYNCED: that of its die, and that of its mark, where one is kept.
 use Rattle.std.specs.Prelude.{◌≡◌, ◌⊎◌, ℕ, Bool, true, false, not, if◌then◌else◌, List, length, replicate, slice_set, Option, Some, None, Result}
 use Rattle.file_die.specs.declared.bytes.ByteFault.{ByteFault}
-use Rattle.file_die.specs.Bytes.{Bytes, FailsBy, HasRefused, SyncsBytes}
+use Rattle.file_die.specs.Bytes.{Bytes, WritesFailBy, HasRefused, SyncsBytes}
 use Rattle.file_die.specs.Rows.{WritesAll}
 use Rattle.disk_server.specs.declared.mark.SyncMark.{SyncMark}
 use Rattle.disk_commands.specs.declared.files.DiskFileFault.{DiskFileFault}
@@ -18,7 +18,7 @@ IsMarkBytes s = length s.bytes ≡ file_length
 
 -- A CALL FAILED where the last call of the file did, by this fault: a write, or a sync
 abbrev pub FailsLast : {F : Type 0} → (wrote : F → ℕ → List ℕ → Result ℕ ByteFault → F → Type 0) → (refused : F → ByteFault → F → Type 0) → ByteFault → F → Type 0
-FailsLast wrote refused why new = FailsBy wrote why new ⊎ HasRefused refused why new
+FailsLast wrote refused why new = WritesFailBy wrote why new ⊎ HasRefused refused why new
 
 -- a mark is written over a slot, done or failed, and no other byte
 abbrev pub WritesSlot : Bytes → (second : Bool) → SyncMark → (done : Bool) → Bytes → Type 0

@@ -7,7 +7,7 @@ use Rattle.disk_commands.specs.declared.words.CreateWords.{CreateWords}
 use Rattle.disk_commands.specs.declared.words.InfoWords.{InfoWords}
 use Rattle.disk_commands.specs.declared.words.DiskWords.{DiskWords}
 use Rattle.disk_commands.specs.declared.words.DiskWords.TheVariants as asked
-use Rattle.disk_commands.specs.Words.{IsAsked, IsNoCommand}
+use Rattle.disk_commands.specs.Words.{AsksDiskProgram, IsNoDiskCommand}
 use Rattle.disk_commands.specs.declared.text.DiskCommandFault.{DiskCommandFault}
 use Rattle.disk_commands.specs.declared.text.DiskCommandFault.TheVariants as fault
 use Rattle.disk_commands.specs.Check.{HasChecked, IsUnclean}
@@ -40,9 +40,9 @@ Creates held honest failed a words old new (Ok done) = HasCreated held honest a 
 Creates held honest failed a words old new (Err told) = IsUncreated held honest failed a words told × (new.kept ≡ old.kept)
 
 -- it was told what a disk is, or not
-abbrev pub Tells : {S : Type 0} → (S → Held) → (honest : S → Bool) → (mended : S → Mended) → (failed : S → ℕ) → DiskFileAnswers → InfoWords → (old new : Around) → Result (Unit {0}) DiskCommandFault → Type 0
-Tells held honest mended failed a words old new (Ok done) = HasTold held honest mended a words old.out new.out
-Tells held honest mended failed a words old new (Err told) = IsDiskUntold held honest mended failed a words old.out new.out told
+abbrev pub TellsInfo : {S : Type 0} → (S → Held) → (honest : S → Bool) → (mended : S → Mended) → (failed : S → ℕ) → DiskFileAnswers → InfoWords → (old new : Around) → Result (Unit {0}) DiskCommandFault → Type 0
+TellsInfo held honest mended failed a words old new (Ok done) = HasTold held honest mended a words old.out new.out
+TellsInfo held honest mended failed a words old new (Err told) = IsDiskUntold held honest mended failed a words old.out new.out told
 
 -- all of a disk was looked at, or not; or sectors are lost
 abbrev pub Checks : {S : Type 0} → (S → Held) → (honest : S → Bool) → (failed : S → ℕ) → DiskFileAnswers → InfoWords → (old new : Around) → Result (Unit {0}) DiskCommandFault → Type 0
@@ -56,7 +56,7 @@ DoesAsked held honest full mended failed synced missed marked kept unlisted a (a
 DoesAsked held honest full mended failed synced missed marked kept unlisted a (asked.Serve words) old new result =
     (HasServedAt held honest full mended failed synced missed marked kept a words old.input new.input old.out new.out old.err new.err result ⊎ HasNotServed held honest failed missed kept unlisted a words old.out new.out old.err new.err result) × (new.kept ≡ old.kept)
     × OpensMarked words.disk.now (access_of words) old.opened new.opened
-DoesAsked held honest full mended failed synced missed marked kept unlisted a (asked.Info words) old new result = Tells held honest mended failed a words old new result × (new.kept ≡ old.kept) × (new.input ≡ old.input)
+DoesAsked held honest full mended failed synced missed marked kept unlisted a (asked.Info words) old new result = TellsInfo held honest mended failed a words old new result × (new.kept ≡ old.kept) × (new.input ≡ old.input)
     × OpensOnce words.disk.now to_look old.opened new.opened × (new.err ≡ old.err)
 DoesAsked held honest full mended failed synced missed marked kept unlisted a (asked.Check words) old new result = Checks held honest failed a words old new result × (new.kept ≡ old.kept) × (new.input ≡ old.input)
     × OpensOnce words.disk.now to_look old.opened new.opened × (new.err ≡ old.err)
@@ -66,7 +66,7 @@ DoesAsked held honest full mended failed synced missed marked kept unlisted a (a
 pub record AsksNothing (words : List (List ℕ)) (old new : Around) (result : Result (Unit {0}) DiskCommandFault) : Type 0 where
   pub told : DiskCommandFault
   pub is : result ≡ Err told
-  pub why : ((told ≡ fault.NoSuchCommand) × IsNoCommand words) ⊎ (told ≡ fault.OutOfMemory)
+  pub why : ((told ≡ fault.NoSuchCommand) × IsNoDiskCommand words) ⊎ (told ≡ fault.OutOfMemory)
   pub same : new ≡ old
 
 -- ---- all of it
@@ -75,7 +75,7 @@ abbrev pub ObeysDiskWords : {S Y K : Type 0} → (S → Held) → (honest full :
     → Result (Unit {0}) DiskCommandFault → Type 0
 ObeysDiskWords held honest full mended failed synced missed marked kept unlisted a words old new result =
     AsksNothing words old new result
-    ⊎ ((found : DiskWords) × IsAsked words found × DoesAsked held honest full mended failed synced missed marked kept unlisted a found old new result)
+    ⊎ ((found : DiskWords) × AsksDiskProgram words found × DoesAsked held honest full mended failed synced missed marked kept unlisted a found old new result)
 
 -- status 0 where it was done, with no more on standard error; else the fault's line there, and its status
 abbrev pub IsAnswered : Result (Unit {0}) DiskCommandFault → (told telling : Option (List ℕ)) → (status : ℕ) → Type 0

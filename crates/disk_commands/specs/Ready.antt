@@ -26,7 +26,7 @@ use Rattle.disk_commands.specs.declared.words.DiskServeWords.{DiskServeWords}
 use Rattle.disk_commands.specs.declared.text.DiskCommandFault.TheVariants as fault
 use Rattle.disk_commands.specs.Anew.{most_stale}
 use Rattle.disk_commands.specs.Damage.{IsLookedAt, IsUnlookedAt}
-use Rattle.disk_commands.specs.Files.{DiskFileAnswers, Opened, with_mark}
+use Rattle.disk_commands.specs.Files.{DiskFileAnswers, Opened, with_mark_opened}
 use Rattle.disk_commands.specs.Guard.{IsUnlistedAt}
 use Rattle.disk_commands.specs.Opening.{IsUnkeptAt}
 use Rattle.disk_commands.specs.Told.{HasPrintingFailed}
@@ -83,7 +83,7 @@ IsUnkeptBy false missed a path why = IsUnkeptAt missed a path why
 
 -- a mark was to be written, or none, where the disk was
 abbrev pub MarksBy : (writes : Bool) → (path : List ℕ) → (before after : Option (List Opened)) → Type 0
-MarksBy true path before after = (after ≡ before) ⊎ (after ≡ with_mark before path)
+MarksBy true path before after = (after ≡ before) ⊎ (after ≡ with_mark_opened before path)
 MarksBy false path before after = after ≡ before
 
 -- ---- the disk at a path

@@ -8,7 +8,7 @@ use Rattle.request_stream.specs.declared.reply.ServeFault.{ServeFault}
 use Rattle.file_die.specs.Store.{Held}
 use Rattle.coded_store.specs.declared.coded.Mended.{Mended}
 use Rattle.disk_server.specs.Asked.{AsksSectors}
-use Rattle.disk_server.specs.Reopened.{Reopened, AsksDevice, ReadsDevice, changes_in, contents_in, flushes_of, holds_in, next_in, reads_of, rests_of, takes_in}
+use Rattle.disk_server.specs.Reopened.{Reopened, AsksDevice, ReadsDevice, changes_in, contents_in, flushes_of, holds_in, next_to_program, reads_of, rests_of, takes_in}
 use Rattle.nbd_stream.specs.declared.fault.DiskFault.{DiskFault as NbdFault}
 use Rattle.nbd_stream.specs.declared.fault.DiskFault.TheVariants as nbd
 use Rattle.nbd_stream.specs.declared.request.StreamEnd.{StreamEnd}
@@ -53,8 +53,8 @@ pace_of s = record {
 }
 
 -- by what is told beside it: whether a mark of it counts is told there
-abbrev pub terms_of : DiskText → (read_only : Bool) → Terms
-terms_of told read_only = record { offer = offer_of told.shape.geometry read_only; pace = pace_of told.shape; marked = told.marked }
+abbrev pub terms_told : DiskText → (read_only : Bool) → Terms
+terms_told told read_only = record { offer = offer_of told.shape.geometry read_only; pace = pace_of told.shape; marked = told.marked }
 
 -- ---- how it ended
 
@@ -140,11 +140,11 @@ abbrev pub flushes_in : {S : Type 0} → (S → Held) → (honest full : S → B
 flushes_in held honest full failed = AsksDevice held honest full failed (flushes_of held honest failed) nbd.Failed
 
 -- what it shows, once its lost sectors are guarded, and what a task asks of it
-abbrev pub shown_in : {S K : Type 0} → (S → Held) → (honest : S → Bool) → (failed : S → ℕ) → GuardedSectors (Reopened S) K → Contents
-shown_in held honest failed = guarded_contents (contents_in held honest failed) (λ d. d.size)
+abbrev pub contents_once_guarded : {S K : Type 0} → (S → Held) → (honest : S → Bool) → (failed : S → ℕ) → GuardedSectors (Reopened S) K → Contents
+contents_once_guarded held honest failed = guarded_contents (contents_in held honest failed) (λ d. d.size)
 
 abbrev pub does_in : {S K : Type 0} → (S → Held) → (honest full : S → Bool) → (failed : S → ℕ) → GuardedSectors (Reopened S) K → Task → Result (Unit {0}) NbdFault → GuardedSectors (Reopened S) K → Type 0
-does_in held honest full failed = AsksSectors (shown_in held honest failed) (λ d. holds_in honest d.sectors) (ReadsGuarded (reads_in held honest failed)) (ChangesGuarded (changes_in held honest full failed)) (PassesOn (flushes_in held honest full failed))
+does_in held honest full failed = AsksSectors (contents_once_guarded held honest failed) (λ d. holds_in honest d.sectors) (ReadsGuarded (reads_in held honest failed)) (ChangesGuarded (changes_in held honest full failed)) (PassesOn (flushes_in held honest full failed))
 
 -- ---- the command
 
@@ -158,8 +158,8 @@ pub record HasServedAt {S Y K : Type 0} (held : S → Held) (honest full : S →
   pub mended : Mended
   pub at : IsReadyAt held honest failed mended_in marked kept a words.disk.now words.read_only words.sync_always told mended disk syncs
   pub named : NamesAll disk.lost.items told.shape.code mended telling told_after
-  pub served : HasServedOn (shown_in held honest failed) (λ d. holds_in honest d.sectors) (does_in held honest full failed) (PassesOn (rests_in held honest full failed)) (ReadsGuarded (reads_in held honest failed))
-      (λ d. next_in d.sectors) (λ d. takes_in d.sectors) synced missed marked (terms_of told words.read_only) words.disk disk syncs unread left before after result
+  pub served : HasServedOn (contents_once_guarded held honest failed) (λ d. holds_in honest d.sectors) (does_in held honest full failed) (PassesOn (rests_in held honest full failed)) (ReadsGuarded (reads_in held honest failed))
+      (λ d. next_to_program d.sectors) (λ d. takes_in d.sectors) synced missed marked (terms_told told words.read_only) words.disk disk syncs unread left before after result
 
 -- or it did not, and nothing was sent: the disk was not ready. Lost sectors may have been named where that is told, or where a growth was refused
 pub record HasNotServed {S Y K : Type 0} (held : S → Held) (honest : S → Bool) (failed : S → ℕ) (missed : Y → ℕ) (kept : K → List Bool) (unlisted : K → ℕ) (a : DiskFileAnswers) (words : DiskServeWords) (before after telling told_after : Option (List ℕ))

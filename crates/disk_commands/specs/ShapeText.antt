@@ -77,8 +77,8 @@ abbrev pub IsTextMember : declared.Member → Type 0
 IsTextMember m = (m ≡ name.Geometry) ⊎ (m ≡ name.Code)
 
 -- how many members an object has
-abbrev pub size_of : Data → Option ℕ
-size_of d = option_map members_len (as_object d)
+abbrev pub member_count : Data → Option ℕ
+member_count d = option_map members_len (as_object d)
 
 -- the word of the member `geometry` says this geometry
 abbrev pub IsGeometryTold : Data → Geometry → Type 0
@@ -88,13 +88,13 @@ IsGeometryTold d g = (word : List ℕ) × (text_at name.Geometry d ≡ Some word
 abbrev pub HasBadGeometry : Data → GeometryWordFault → Type 0
 HasBadGeometry d why = (word : List ℕ) × (text_at name.Geometry d ≡ Some word) × SaysNone word why
 
-abbrev pub IsWithin : ℕ → Type 0
-IsWithin cache = (1 ≤ cache) × (cache ≤ 65536)
+abbrev pub IsCacheSize : ℕ → Type 0
+IsCacheSize cache = (1 ≤ cache) × (cache ≤ 65536)
 
 -- its members say this geometry and this cache
 pub record TellsShape (d : Data) (g : Geometry) (cache : ℕ) : Type 0 where
   pub cache_is : number_at name.Cache d ≡ Some cache
-  pub within : IsWithin cache
+  pub within : IsCacheSize cache
   pub geometry_is : IsGeometryTold d g
 
 -- those that version 1 lacks say which code there is, whether a list of lost sectors stands beside the disk, and how many moved sectors may wait
@@ -123,7 +123,7 @@ pub record TellsText (d : Data) (t : DiskText) : Type 0 where
   pub shape : TellsShape d t.shape.geometry t.shape.cache
   pub later : TellsLaterBy t.marked t.shape.code t.lost t.shape.share d
   pub may_wait : IsShareFor t.shape.geometry t.shape.cache t.shape.share
-  pub alone : size_of d ≡ Some (members_of t.marked)
+  pub alone : member_count d ≡ Some (members_of t.marked)
 
 -- the text is such an object
 pub record IsShapeText (text : List ℕ) (t : DiskText) : Type 0 where
@@ -146,8 +146,8 @@ HasOther d name.Share = number_at name.Share d ≡ None
 HasOther d name.Version = number_at name.Version d ≡ None
 
 -- it tells a disk that may not have this share
-abbrev pub HasNoShare : Data → (share : ℕ) → Type 0
-HasNoShare d share = (number_at name.Share d ≡ Some share) × ((g : Geometry) × (cache : ℕ) × TellsShape d g cache × (¬ IsShareFor g cache share))
+abbrev pub TellsUnfitShare : Data → (share : ℕ) → Type 0
+TellsUnfitShare d share = (number_at name.Share d ≡ Some share) × ((g : Geometry) × (cache : ℕ) × TellsShape d g cache × (¬ IsShareFor g cache share))
 
 -- what is wrong with the value
 abbrev pub TellsNone : Data → ShapeFault → Type 0
@@ -155,13 +155,13 @@ TellsNone d fault.NotJson = ⊥
 TellsNone d fault.NotObject = as_object d ≡ None
 TellsNone d (fault.Missing m) = LacksMember d m
 TellsNone d (fault.WrongType m) = HasOther d m
-TellsNone d fault.Unknown = (second : Bool) × (number_at name.Version d ≡ Some (shape_version_of second)) × ((size : ℕ) × (size_of d ≡ Some size) × (size ≢ members_of second))
+TellsNone d fault.Unknown = (second : Bool) × (number_at name.Version d ≡ Some (shape_version_of second)) × ((size : ℕ) × (member_count d ≡ Some size) × (size ≢ members_of second))
 TellsNone d fault.Version = (version : ℕ) × (number_at name.Version d ≡ Some version) × (version ≢ 1) × (version ≢ 2)
 TellsNone d fault.BadGeometry = HasBadGeometry d word.NoNumbers
 TellsNone d (fault.Geometry limit) = HasBadGeometry d (word.Limit limit)
-TellsNone d fault.CacheRange = (cache : ℕ) × (number_at name.Cache d ≡ Some cache) × (¬ IsWithin cache)
+TellsNone d fault.CacheRange = (cache : ℕ) × (number_at name.Cache d ≡ Some cache) × (¬ IsCacheSize cache)
 TellsNone d fault.Code = (code : List ℕ) × (text_at name.Code d ≡ Some code) × (code ≢ codes "none") × (code ≢ codes "hamming")
-TellsNone d (fault.Share share) = HasNoShare d share
+TellsNone d (fault.Share share) = TellsUnfitShare d share
 TellsNone d fault.OutOfMemory = ⊥
 
 -- what is wrong with the text; a growth may have been refused whatever it says

@@ -35,7 +35,7 @@ abbrev pub HasBlocksForFormat : (pages share sectors blocks : ℕ) → Type 0
 HasBlocksForFormat pages share sectors blocks = (g : Geometry) × IsDie pages blocks sectors g × (need_at g share ≤ blocks)
 
 -- of fewer they are not
-pub record IsLeast (pages share sectors blocks : ℕ) : Type 0 where
+pub record AreFewestBlocks (pages share sectors blocks : ℕ) : Type 0 where
   pub formats : HasBlocksForFormat pages share sectors blocks
   pub least : (fewer : ℕ) → fewer < blocks → ¬ HasBlocksForFormat pages share sectors fewer
 
@@ -46,7 +46,7 @@ spare_of share needed = if share == 0 then div_ceil needed 20 else div_ceil need
 -- As many blocks as a format needs, and the spare ones.
 pub record IsDieForSectors (pages share sectors : ℕ) (g : Geometry) : Type 0 where
   pub needed : ℕ
-  pub least : IsLeast pages share sectors needed
+  pub least : AreFewestBlocks pages share sectors needed
   pub die : IsDie pages (needed + spare_of share needed) sectors g
 
 -- of the fewest pages a block of which there is such a die

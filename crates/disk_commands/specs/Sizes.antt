@@ -33,9 +33,9 @@ abbrev pub rest_of : List ℕ → List ℕ
 rest_of word = drop (digits_before word) word
 
 -- of the rest the digits behind a point
-abbrev pub part_of : List ℕ → List ℕ
-part_of [] = []
-part_of (c ∷ cs) = if c == 46 then whole_of cs else []
+abbrev pub digits_behind_point : List ℕ → List ℕ
+digits_behind_point [] = []
+digits_behind_point (c ∷ cs) = if c == 46 then whole_of cs else []
 
 -- and what stands behind them; a point with no digit is one more letter
 abbrev pub suffix_of : List ℕ → List ℕ
@@ -110,8 +110,8 @@ SizeLaw = (whole part suffix : List ℕ) (digits unit bytes : ℕ) → 1 ≤ len
 abbrev pub OneSizeLaw : Type 0
 OneSizeLaw = (word : List ℕ) (a b : ℕ) → SpellsSize word a → SpellsSize word b → a ≡ b
 
-abbrev pub PartLaw : Type 0
-PartLaw = (word : List ℕ) (bytes : ℕ) → SpellsPart word → SpellsSize word bytes → ⊥
+abbrev pub PartOfByteLaw : Type 0
+PartOfByteLaw = (word : List ℕ) (bytes : ℕ) → SpellsPart word → SpellsSize word bytes → ⊥
 
 -- each unit is so many times the one before
 pub record AreUnits (thousand : ℕ) (k m g t : List ℕ) : Type 0 where

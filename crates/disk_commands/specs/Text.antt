@@ -44,66 +44,66 @@ shape_words shape.OutOfMemory = codes "out of memory"
 
 -- ---- the line, without its line feed
 
-unfoldable pub line_of : DiskCommandFault → List ℕ
-line_of fault.NoSuchCommand = codes "usage: no such command, see nanddisk --help"
-line_of (fault.BadSize word) = codes "usage: bad size " ++ word.now
-line_of (fault.PartOfByte word) = codes "usage: part of a byte " ++ word.now
-line_of (fault.BadNumber word) = codes "usage: bad number " ++ word.now
-line_of (fault.Size why) = codes "refused size: " ++ size_words why
-line_of (fault.Geometry why) = codes "refused geometry " ++ limit_words why
-line_of (fault.Share share) = codes "refused share " ++ (decimal share ++ codes ": no cache has room for all that may be stale")
-line_of (fault.BadBlock block) = codes "refused: block " ++ (decimal block ++ codes " is past the die, or named twice")
-line_of (fault.Exists path) = codes "refused: " ++ (path.now ++ codes " exists")
-line_of (fault.InUse path) = codes "refused: " ++ (path.now ++ codes " is in use")
-line_of (fault.Shape path why) = codes "refused: " ++ (path.now ++ (codes ".json: " ++ shape_words why))
-line_of (fault.Length path found wanted) = codes "refused: " ++ (path.now ++ (codes " has " ++ (decimal found ++ (codes " bytes, and its shape " ++ decimal wanted))))
-line_of (fault.Open path why) = codes "refused: " ++ (path.now ++ (codes " is no disk: " ++ open_words why))
-line_of (fault.Create path why) = codes "refused: " ++ (path.now ++ (codes " was not formatted: " ++ create_words why))
-line_of (fault.List path why) = codes "refused: " ++ (path.now ++ (codes ".lost: " ++ list_words why))
-line_of (fault.Lost path count) = codes "refused: " ++ (path.now ++ (codes " has " ++ (decimal count ++ codes " lost sectors")))
-line_of fault.OutOfMemory = codes "refused: no memory"
-line_of (fault.Read path) = codes "fault read " ++ path.now
-line_of (fault.Write path) = codes "fault write " ++ path.now
-line_of (fault.ReadList path) = codes "fault read " ++ (path.now ++ codes ".lost")
-line_of (fault.WriteList path) = codes "fault write " ++ (path.now ++ codes ".lost")
-line_of fault.BadFrame = codes "fault serve: the client's bytes are no requests"
-line_of fault.Stream = codes "fault serve: standard input or output failed"
-line_of (fault.Device path) = codes "fault serve: " ++ (path.now ++ codes " failed")
+unfoldable pub disk_fault_line : DiskCommandFault → List ℕ
+disk_fault_line fault.NoSuchCommand = codes "usage: no such command, see nanddisk --help"
+disk_fault_line (fault.BadSize word) = codes "usage: bad size " ++ word.now
+disk_fault_line (fault.PartOfByte word) = codes "usage: part of a byte " ++ word.now
+disk_fault_line (fault.BadNumber word) = codes "usage: bad number " ++ word.now
+disk_fault_line (fault.Size why) = codes "refused size: " ++ size_words why
+disk_fault_line (fault.Geometry why) = codes "refused geometry " ++ limit_words why
+disk_fault_line (fault.Share share) = codes "refused share " ++ (decimal share ++ codes ": no cache has room for all that may be stale")
+disk_fault_line (fault.BadBlock block) = codes "refused: block " ++ (decimal block ++ codes " is past the die, or named twice")
+disk_fault_line (fault.Exists path) = codes "refused: " ++ (path.now ++ codes " exists")
+disk_fault_line (fault.InUse path) = codes "refused: " ++ (path.now ++ codes " is in use")
+disk_fault_line (fault.Shape path why) = codes "refused: " ++ (path.now ++ (codes ".json: " ++ shape_words why))
+disk_fault_line (fault.Length path found wanted) = codes "refused: " ++ (path.now ++ (codes " has " ++ (decimal found ++ (codes " bytes, and its shape " ++ decimal wanted))))
+disk_fault_line (fault.Open path why) = codes "refused: " ++ (path.now ++ (codes " is no disk: " ++ open_words why))
+disk_fault_line (fault.Create path why) = codes "refused: " ++ (path.now ++ (codes " was not formatted: " ++ create_words why))
+disk_fault_line (fault.List path why) = codes "refused: " ++ (path.now ++ (codes ".lost: " ++ list_words why))
+disk_fault_line (fault.Lost path count) = codes "refused: " ++ (path.now ++ (codes " has " ++ (decimal count ++ codes " lost sectors")))
+disk_fault_line fault.OutOfMemory = codes "refused: no memory"
+disk_fault_line (fault.Read path) = codes "fault read " ++ path.now
+disk_fault_line (fault.Write path) = codes "fault write " ++ path.now
+disk_fault_line (fault.ReadList path) = codes "fault read " ++ (path.now ++ codes ".lost")
+disk_fault_line (fault.WriteList path) = codes "fault write " ++ (path.now ++ codes ".lost")
+disk_fault_line fault.BadFrame = codes "fault serve: the client's bytes are no requests"
+disk_fault_line fault.Stream = codes "fault serve: standard input or output failed"
+disk_fault_line (fault.Device path) = codes "fault serve: " ++ (path.now ++ codes " failed")
 
 -- the exit status: 1 refused, 2 usage, 3 input or output
-abbrev pub status_of : DiskCommandFault → ℕ
-status_of fault.NoSuchCommand = 2
-status_of (fault.BadSize word) = 2
-status_of (fault.PartOfByte word) = 2
-status_of (fault.BadNumber word) = 2
-status_of (fault.Size why) = 1
-status_of (fault.Geometry why) = 1
-status_of (fault.Share share) = 1
-status_of (fault.BadBlock block) = 1
-status_of (fault.Exists path) = 1
-status_of (fault.InUse path) = 1
-status_of (fault.Shape path why) = 1
-status_of (fault.Length path found wanted) = 1
-status_of (fault.Open path why) = 1
-status_of (fault.Create path why) = 1
-status_of (fault.List path why) = 1
-status_of (fault.Lost path count) = 1
-status_of fault.OutOfMemory = 1
-status_of (fault.Read path) = 3
-status_of (fault.Write path) = 3
-status_of (fault.ReadList path) = 3
-status_of (fault.WriteList path) = 3
-status_of fault.BadFrame = 3
-status_of fault.Stream = 3
-status_of (fault.Device path) = 3
+abbrev pub disk_exit_status : DiskCommandFault → ℕ
+disk_exit_status fault.NoSuchCommand = 2
+disk_exit_status (fault.BadSize word) = 2
+disk_exit_status (fault.PartOfByte word) = 2
+disk_exit_status (fault.BadNumber word) = 2
+disk_exit_status (fault.Size why) = 1
+disk_exit_status (fault.Geometry why) = 1
+disk_exit_status (fault.Share share) = 1
+disk_exit_status (fault.BadBlock block) = 1
+disk_exit_status (fault.Exists path) = 1
+disk_exit_status (fault.InUse path) = 1
+disk_exit_status (fault.Shape path why) = 1
+disk_exit_status (fault.Length path found wanted) = 1
+disk_exit_status (fault.Open path why) = 1
+disk_exit_status (fault.Create path why) = 1
+disk_exit_status (fault.List path why) = 1
+disk_exit_status (fault.Lost path count) = 1
+disk_exit_status fault.OutOfMemory = 1
+disk_exit_status (fault.Read path) = 3
+disk_exit_status (fault.Write path) = 3
+disk_exit_status (fault.ReadList path) = 3
+disk_exit_status (fault.WriteList path) = 3
+disk_exit_status fault.BadFrame = 3
+disk_exit_status fault.Stream = 3
+disk_exit_status (fault.Device path) = 3
 
 -- the line, with its line feed
-abbrev pub told_line : DiskCommandFault → List ℕ
-told_line fault = line_of fault ++ (10 ∷ [])
+abbrev pub told_disk_line : DiskCommandFault → List ℕ
+told_disk_line fault = disk_fault_line fault ++ (10 ∷ [])
 
 -- The fault's line was written, and the status is the fault's. Or it could not be written: the status is 3, and a beginning of the line
 -- stands there, or nothing, and never all of it.
 abbrev pub IsDiskFaultTold : DiskCommandFault → Option (List ℕ) → Option (List ℕ) → ℕ → Type 0
 IsDiskFaultTold fault before after status =
-    ((status ≡ status_of fault) × Appends before after (told_line fault))
-    ⊎ ((status ≡ 3) × AppendsPart before after (told_line fault))
+    ((status ≡ disk_exit_status fault) × Appends before after (told_disk_line fault))
+    ⊎ ((status ≡ 3) × AppendsPart before after (told_disk_line fault))

@@ -4,7 +4,7 @@ use Rattle.std.specs.Str.{bytes_eq}
 use Rattle.std.specs.Borrow.{Bor}
 use Rattle.program_words.specs.Numbers.{number_of}
 use Rattle.clap.specs.Words.{App, Row, Shape, first_of, count_of}
-use Rattle.program_words.specs.Grammar.{command_of, flag, option, place, program_of}
+use Rattle.program_words.specs.Grammar.{command_with_words, flag, option, place, program_of}
 use Rattle.program_words.specs.Met.{AsksText, NamesCommand, once}
 use Rattle.program_words.specs.Met as met
 use Rattle.disk_commands.specs.declared.shapes.Code.{Code}
@@ -20,20 +20,20 @@ use Rattle.disk_commands.specs.declared.words.DiskWords.TheVariants as asked
 -- ---- what `clap` is told
 
 abbrev pub create : Shape
-create = command_of (codes "create") (option (codes "size") ∷ option (codes "geometry") ∷ option (codes "from") ∷ option (codes "bad") ∷ option (codes "cache") ∷ option (codes "share") ∷ option (codes "code") ∷ place (codes "DISK") ∷ [])
+create = command_with_words (codes "create") (option (codes "size") ∷ option (codes "geometry") ∷ option (codes "from") ∷ option (codes "bad") ∷ option (codes "cache") ∷ option (codes "share") ∷ option (codes "code") ∷ place (codes "DISK") ∷ [])
 
 abbrev pub serve : Shape
-serve = command_of (codes "serve") (flag (codes "read-only") ∷ option (codes "sync") ∷ option (codes "wait") ∷ place (codes "DISK") ∷ [])
+serve = command_with_words (codes "serve") (flag (codes "read-only") ∷ option (codes "sync") ∷ option (codes "wait") ∷ place (codes "DISK") ∷ [])
 
 abbrev pub info : Shape
-info = command_of (codes "info") (flag (codes "json") ∷ place (codes "DISK") ∷ [])
+info = command_with_words (codes "info") (flag (codes "json") ∷ place (codes "DISK") ∷ [])
 
 abbrev pub check : Shape
-check = command_of (codes "check") (flag (codes "json") ∷ place (codes "DISK") ∷ [])
+check = command_with_words (codes "check") (flag (codes "json") ∷ place (codes "DISK") ∷ [])
 
 -- the commands that the program has
-abbrev pub grammar : App
-grammar = program_of (codes "nanddisk") (create ∷ serve ∷ info ∷ check ∷ [])
+abbrev pub disk_grammar : App
+disk_grammar = program_of (codes "nanddisk") (create ∷ serve ∷ info ∷ check ∷ [])
 
 -- ---- what the words ask for
 
@@ -94,21 +94,21 @@ pub record IsInfoAt (rows : List Row) (read : InfoWords) : Type 0 where
   pub json_is : once (count_of (codes "json") rows) ≡ Some read.json
 
 -- the command of this name with these entries asks for that
-abbrev pub IsAt : List ℕ → List Row → DiskWords → Type 0
-IsAt name rows (asked.Create read) = (name ≡ codes "create") × IsCreateAt rows read
-IsAt name rows (asked.Serve read) = (name ≡ codes "serve") × IsServeAt rows read
-IsAt name rows (asked.Info read) = (name ≡ codes "info") × IsInfoAt rows read
-IsAt name rows (asked.Check read) = (name ≡ codes "check") × IsInfoAt rows read
-IsAt name rows (asked.Text text) = ⊥
+abbrev pub IsDiskCommandAt : List ℕ → List Row → DiskWords → Type 0
+IsDiskCommandAt name rows (asked.Create read) = (name ≡ codes "create") × IsCreateAt rows read
+IsDiskCommandAt name rows (asked.Serve read) = (name ≡ codes "serve") × IsServeAt rows read
+IsDiskCommandAt name rows (asked.Info read) = (name ≡ codes "info") × IsInfoAt rows read
+IsDiskCommandAt name rows (asked.Check read) = (name ≡ codes "check") × IsInfoAt rows read
+IsDiskCommandAt name rows (asked.Text text) = ⊥
 
 -- Of the words as `clap` reads them: they name a command, with these words, or they ask for help or for the version.
-abbrev pub IsAsked : List (List ℕ) → DiskWords → Type 0
-IsAsked words (asked.Create read) = NamesCommand IsAt grammar words (asked.Create read)
-IsAsked words (asked.Serve read) = NamesCommand IsAt grammar words (asked.Serve read)
-IsAsked words (asked.Info read) = NamesCommand IsAt grammar words (asked.Info read)
-IsAsked words (asked.Check read) = NamesCommand IsAt grammar words (asked.Check read)
-IsAsked words (asked.Text text) = AsksText grammar words
+abbrev pub AsksDiskProgram : List (List ℕ) → DiskWords → Type 0
+AsksDiskProgram words (asked.Create read) = NamesCommand IsDiskCommandAt disk_grammar words (asked.Create read)
+AsksDiskProgram words (asked.Serve read) = NamesCommand IsDiskCommandAt disk_grammar words (asked.Serve read)
+AsksDiskProgram words (asked.Info read) = NamesCommand IsDiskCommandAt disk_grammar words (asked.Info read)
+AsksDiskProgram words (asked.Check read) = NamesCommand IsDiskCommandAt disk_grammar words (asked.Check read)
+AsksDiskProgram words (asked.Text text) = AsksText disk_grammar words
 
 -- `clap` finds another fault in them, or they name no command with its words
-abbrev pub IsNoCommand : List (List ℕ) → Type 0
-IsNoCommand words = met.IsNoCommand IsAt grammar words
+abbrev pub IsNoDiskCommand : List (List ℕ) → Type 0
+IsNoDiskCommand words = met.IsNoCommand IsDiskCommandAt disk_grammar words

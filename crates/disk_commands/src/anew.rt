@@ -1,7 +1,7 @@
 //! How the device of a disk is opened anew, where its file was full.
 ghost use Rattle.std.specs.Prelude.{◌≡◌, ◌≤◌, false, Some};
 ghost use Rattle.disk_commands.specs.Anew.{most_stale};
-ghost use Rattle.disk_commands.specs.ShapeText.{IsWithin};
+ghost use Rattle.disk_commands.specs.ShapeText.{IsCacheSize};
 
 use crate::shapes::{DiskShape, MOST_ENTRIES, waiting};
 use disk_server::{ReopenedDevice, StoreDisk};
@@ -10,7 +10,7 @@ use std::alloc::Global;
 
 // As many sectors as may be stale at a moment. A cache of as many entries has room for them.
 fn most_stale(shape: &DiskShape) -> u32
-    requires { IsWithin shape.now.cache }
+    requires { IsCacheSize shape.now.cache }
     ensures is { result ≡ most_stale shape.now }
     ensures least { 1 ≤ result }
     ensures most { result ≤ 65536 }
@@ -32,7 +32,7 @@ pub(crate) fn reopening<S: Store + TellsFull + Drop>(
     shape: &DiskShape,
     sync_when: SyncWhen,
 ) -> ReopenedDevice<S>
-    requires { IsWithin shape.now.cache }
+    requires { IsCacheSize shape.now.cache }
     ensures device { result.device ≡ Some disk }
     ensures reopened { result.reopened ≡ false }
     ensures capacity { result.capacity ≡ most_stale shape.now }

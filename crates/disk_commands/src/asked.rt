@@ -1,6 +1,6 @@
 //! The shape that the words of `create` ask for.
 ghost use Rattle.std.specs.Prelude.{◌≡◌, IfOk, IfErr, None, Some};
-ghost use Rattle.disk_commands.specs.ShapeText.{IsWithin};
+ghost use Rattle.disk_commands.specs.ShapeText.{IsCacheSize};
 ghost use Rattle.disk_commands.specs.ShapeWords.{SaysGeometry};
 ghost use Rattle.disk_commands.specs.Asked.{IsCacheAsked, IsCacheAt, IsGeometryAsked, IsGeometryFor, IsNoCacheAsked, IsNoGeometryAsked, IsNoGeometryAt, IsNoGeometryFor};
 ghost use Rattle.disk_commands.specs.Asked.{IsNoShapeAsked, IsNoShapeAt, IsNoShareAsked, IsShapeAsked, IsShareAsked, IsShareFrom};
@@ -95,7 +95,7 @@ fn cache_asked<'a>(
     share: u32,
 ) -> Result<u32, DiskCommandFault<'a>>
     ensures ok { IfOk result (IsCacheAsked word.entry geometry.now share) }
-    ensures within { IfOk result IsWithin }
+    ensures within { IfOk result IsCacheSize }
     ensures fault { IfErr result (IsNoCacheAsked word.entry) }
 {
     let Some(word) = word else {
@@ -111,7 +111,7 @@ fn cache_asked<'a>(
 fn shape_at<'a>(words: CreateWords<'a>, share: u32) -> Result<DiskShape, DiskCommandFault<'a>>
     requires { IsShareAsked words.share words.make share }
     ensures ok { IfOk result (IsShapeAsked words.entry) }
-    ensures within { IfOk result (λ shape. IsWithin shape.cache) }
+    ensures within { IfOk result (λ shape. IsCacheSize shape.cache) }
     ensures fault { IfErr result (IsNoShapeAt words.entry share) }
 {
     let geometry = geometry_asked(words.make, share)?;
@@ -137,7 +137,7 @@ fn shape_at<'a>(words: CreateWords<'a>, share: u32) -> Result<DiskShape, DiskCom
 /// room for all that may be stale of such a disk with this share. (This project's.)
 pub fn shape_of<'a>(words: CreateWords<'a>) -> Result<DiskShape, DiskCommandFault<'a>>
     ensures ok { IfOk result (IsShapeAsked words.entry) }
-    ensures within { IfOk result (λ shape. IsWithin shape.cache) }
+    ensures within { IfOk result (λ shape. IsCacheSize shape.cache) }
     ensures fault { IfErr result (IsNoShapeAsked words.entry) }
 {
     let share = share_asked(words)?;

@@ -1,10 +1,10 @@
 //! The command `create`: a new disk, of a size, of a geometry, or from a dump.
 ghost use Rattle.std.specs.Prelude.{◌≡◌, ◌≤◌, true, false, IfOk, IfErr, OnOk, OnErr};
-ghost use Rattle.disk_commands.specs.ShapeText.{IsWithin, shape_text};
+ghost use Rattle.disk_commands.specs.ShapeText.{IsCacheSize, shape_text};
 ghost use Rattle.nand_die.specs.Made.{AreNames};
-ghost use Rattle.disk_commands.specs.Created.{HasCreated, IsDieAskedFor, IsDieOf, IsNewDie, IsNoDump, IsUncreated, IsUnformatted, IsUnkept, IsUnmadeFor, Mounts};
+ghost use Rattle.disk_commands.specs.Created.{HasCreated, IsDieAskedFor, IsDieOf, IsNewDie, IsNoDump, IsUncreated, IsNewDieUnformatted, IsDieUnplaced, IsUnmadeFor, Mounts};
 ghost use Rattle.disk_server.specs.Opened.{IsUnopened};
-ghost use Rattle.disk_commands.specs.Files.{FailsNoMore, with_kept};
+ghost use Rattle.disk_commands.specs.Files.{FailsNoMore, with_kept_disk};
 
 use crate::asked::shape_of;
 use crate::files::DiskFiles;
@@ -40,7 +40,7 @@ fn make_new<'a, F: DiskFiles>(
     requires { AreNames shape.now.geometry bad.now }
     ensures made { IfOk result (λ store. F.Store.honest store ≡ true → IsNewDie shape.now bad.now (F.Store.held store)) }
     ensures honest { IfOk result (λ store. F.Store.honest store ≡ (F.answers files.old).honest) }
-    ensures fault { IfErr result (IsUnformatted F.Store.held F.Store.honest F.Store.failed (F.answers files.old) path.now shape.now bad.now) }
+    ensures fault { IfErr result (IsNewDieUnformatted F.Store.held F.Store.honest F.Store.failed (F.answers files.old) path.now shape.now bad.now) }
     ensures no_more { OnOk result (FailsNoMore (F.answers files.old) (F.answers files.new)) }
     ensures kept { F.kept files.new ≡ F.kept files.old }
     ensures opened { F.opened files.new ≡ F.opened files.old }
@@ -88,7 +88,7 @@ fn make_copy<'a, F: DiskFiles>(
     shape: &DiskShape,
     dump: &'a str,
 ) -> Result<F::Store, DiskCommandFault<'a>>
-    requires { IsWithin shape.now.cache }
+    requires { IsCacheSize shape.now.cache }
     ensures made { IfOk result (λ store. F.Store.honest store ≡ true → IsDieOf (F.answers files.old) dump.now shape.now (F.Store.held store)) }
     ensures honest { IfOk result (λ store. F.Store.honest store ≡ (F.answers files.old).honest) }
     ensures fault { IfErr result (IsNoDump F.Store.held F.Store.honest F.Store.failed (F.answers files.old) path.now dump.now shape.now) }
@@ -117,7 +117,7 @@ fn make<'a, F: DiskFiles>(
     shape: &DiskShape,
     bad: &[u32],
 ) -> Result<F::Store, DiskCommandFault<'a>>
-    requires cache { IsWithin shape.now.cache }
+    requires cache { IsCacheSize shape.now.cache }
     requires named { AreNames shape.now.geometry bad.now }
     ensures made { IfOk result (λ store. F.Store.honest store ≡ true → IsDieAskedFor (F.answers files.old) words.now.make shape.now bad.now (F.Store.held store)) }
     ensures honest { IfOk result (λ store. F.Store.honest store ≡ (F.answers files.old).honest) }
@@ -142,8 +142,8 @@ fn put<'a, F: DiskFiles>(
     shape: &DiskShape,
     store: F::Store,
 ) -> Result<(), DiskCommandFault<'a>>
-    ensures ok { OnOk result (F.kept files.new ≡ with_kept (F.kept files.old) (record { path = path.now; held = F.Store.held store; text = shape_text shape.now })) }
-    ensures fault { IfErr result (IsUnkept (F.answers files.old) path.now) }
+    ensures ok { OnOk result (F.kept files.new ≡ with_kept_disk (F.kept files.old) (record { path = path.now; held = F.Store.held store; text = shape_text shape.now })) }
+    ensures fault { IfErr result (IsDieUnplaced (F.answers files.old) path.now) }
     ensures kept { OnErr result (F.kept files.new ≡ F.kept files.old) }
     ensures opened { F.opened files.new ≡ F.opened files.old }
 {

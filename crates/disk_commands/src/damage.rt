@@ -1,8 +1,8 @@
 //! What is lost of the disk at a path: the list beside it, and what its pages show.
 ghost use Rattle.std.specs.Prelude.{◌≡◌, false, IfErr, IfOk, OnOk, replicate};
-ghost use Rattle.disk_commands.specs.Damage.{IsListAt, IsLookedAt, IsNoListAt, IsUnlookedAt, Names, NamesMended};
+ghost use Rattle.disk_commands.specs.Damage.{IsListAt, IsLookedAt, IsNoListAt, IsUnlookedAt, NamesLost, NamesMended};
 ghost use Rattle.disk_commands.specs.Files.{OpensOnce, SaysNoMore};
-ghost use Rattle.disk_commands.specs.ShapeText.{IsWithin};
+ghost use Rattle.disk_commands.specs.ShapeText.{IsCacheSize};
 ghost use Rattle.disk_commands.specs.Told.{HasPrintingFailed};
 
 use crate::files::{Access, DiskFileFault, DiskFiles};
@@ -95,7 +95,7 @@ pub(crate) fn look_at<'a, F: DiskFiles>(
     ensures ok { IfOk result (λ looked. IsLookedAt F.Store.held F.Store.honest (F.answers files.old) path.now looked.told looked.found looked.store looked.certificate looked.lost.items) }
     ensures fault { IfErr result (IsUnlookedAt F.Store.held F.Store.honest F.Store.failed (F.answers files.old) path.now) }
     ensures opened { OpensOnce path.now access (F.opened files.old) (F.opened files.new) }
-    ensures within { IfOk result (λ looked. IsWithin looked.told.shape.cache) }
+    ensures within { IfOk result (λ looked. IsCacheSize looked.told.shape.cache) }
     ensures no_more { OnOk result (SaysNoMore (F.answers files.old) (F.answers files.new)) }
     ensures kept { F.kept files.new ≡ F.kept files.old }
 {
@@ -143,7 +143,7 @@ pub(crate) fn name_lost<'a, E: Write>(
     lost: &[bool],
     err: &mut E,
 ) -> Result<(), DiskCommandFault<'a>>
-    ensures named { OnOk result (Names lost.now (E.contents err.old) (E.contents err.new)) }
+    ensures named { OnOk result (NamesLost lost.now (E.contents err.old) (E.contents err.new)) }
     ensures fault { IfErr result HasPrintingFailed }
 {
     let Ok(sectors) = numbers_of(alloc, lost) else {

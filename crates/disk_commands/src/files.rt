@@ -64,7 +64,7 @@ pub trait LockedDie {
 pub trait DiskFiles {
     ghost use Rattle.std.specs.Prelude.{◌≡◌, true, List, [], Option, option_map, IfOk, IfErr};
     ghost use Rattle.file_die.specs.Store.{blank};
-    ghost use Rattle.disk_commands.specs.Files.{AnswersNoMore, DiskFileAnswers, FailsCopy, FailsNoMore, Kept, Opened, SaysNoMore, kept_after, with_mark, with_opened};
+    ghost use Rattle.disk_commands.specs.Files.{DiskFilesAnswerNoMore, DiskFileAnswers, FailsCopy, FailsNoMore, Kept, Opened, SaysNoMore, kept_after, with_mark_opened, with_opened};
 
     /// The file of a die, open and locked: while it is there no other program writes or makes the disk, nor opens it, where this one is to write it.
     type Locked: LockedDie + Drop;
@@ -105,7 +105,7 @@ pub trait DiskFiles {
     fn lock(&mut self, path: &str, access: Access) -> Result<Self::Locked, DiskFileFault>
         ensures writes { IfOk result (λ locked. Self.Locked.writes locked ≡ access.writes) }
         ensures failed { IfErr result ((answers self.old).fails path.now) }
-        ensures no_more { AnswersNoMore (answers self.old) (answers self.new) }
+        ensures no_more { DiskFilesAnswerNoMore (answers self.old) (answers self.new) }
         ensures opened { opened self.new ≡ with_opened (opened self.old) path.now access }
         ensures kept { kept self.new ≡ kept self.old };
 
@@ -170,7 +170,7 @@ pub trait DiskFiles {
     ) -> Result<Self::Syncs, DiskFileFault>
         ensures marked { IfOk result (λ keeps. Self.Syncs.marked keeps ≡ found.mark) }
         ensures failed { IfErr result ((answers self.old).fails path.now) }
-        ensures opened { opened self.new ≡ with_mark (opened self.old) path.now }
+        ensures opened { opened self.new ≡ with_mark_opened (opened self.old) path.now }
         ensures kept { kept self.new ≡ kept self.old };
 
     /// The store of a die to be made beside a path, of erased pages that last, with their codes where the shape has a code.

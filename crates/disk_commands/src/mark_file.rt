@@ -1,6 +1,6 @@
 //! The file of a disk's mark, as marks are written into it.
 ghost use Rattle.std.specs.Prelude.{◌≡◌, true, false, is_ok, not, IfOk, IfErr, OnOk};
-ghost use Rattle.file_die.specs.Bytes.{FailsBy};
+ghost use Rattle.file_die.specs.Bytes.{WritesFailBy};
 ghost use Rattle.disk_commands.specs.MarkFile.{BeginsMark, BlankFails, FailsLast, HasPutBlank, IsMarkBytes, KeepsIn, WritesSlot, blank_file};
 
 use crate::files::DiskFileFault;
@@ -36,7 +36,7 @@ impl<F: ByteFile> MarkFile<F> {
         ensures honest { F.honest self.new.file ≡ F.honest self.old.file }
         ensures second { self.new.second ≡ self.old.second }
         ensures fresh { self.new.fresh ≡ self.old.fresh }
-        ensures fails { IfErr result (λ why. FailsBy F.wrote why self.new.file) }
+        ensures fails { IfErr result (λ why. WritesFailBy F.wrote why self.new.file) }
     {
         write_all(&mut self.file, &slot_bytes(mark), slot_at(self.second))
     }

@@ -6,7 +6,7 @@ ghost use Rattle.page_layout.specs.Geometry.{page_bytes};
 ghost use Rattle.onfi_cycles.specs.Cycles.{page_of};
 ghost use Rattle.nand_die.specs.Made.{AreNames, IsFirstMisnamed, with_mark};
 ghost use Rattle.program_words.specs.Numbers.{SpellsNumbers, StartsWithNumber};
-ghost use Rattle.disk_commands.specs.BadBlocks.{AreBadAsked, AreNoneAsked, HasMarks, Names, NamesNone, is_copied};
+ghost use Rattle.disk_commands.specs.BadBlocks.{AreBadAsked, AreNoneAsked, HasMarks, NamesBlocks, NamesNoBlocks, is_copied};
 
 use crate::text::DiskCommandFault;
 use crate::words::MakeWords;
@@ -65,8 +65,8 @@ fn named<'a>(
     word: &'a str,
     geometry: &Geometry,
 ) -> Result<Vec<u32>, DiskCommandFault<'a>>
-    ensures ok { IfOk result (λ blocks. Names word.now geometry.now blocks.items) }
-    ensures fault { IfErr result (NamesNone word.entry geometry.now) }
+    ensures ok { IfOk result (λ blocks. NamesBlocks word.now geometry.now blocks.items) }
+    ensures fault { IfErr result (NamesNoBlocks word.entry geometry.now) }
 {
     let blocks = numbers_of(alloc, word)?;
     match misnamed(geometry, &blocks) {

@@ -1,7 +1,7 @@
 //! The files that each command begins with.
 ghost use Rattle.std.specs.Prelude.{◌≡◌, ◌*◌, IfOk, IfErr, OnOk, false};
 ghost use Rattle.page_layout.specs.Geometry.{page_bytes, row_count};
-ghost use Rattle.disk_commands.specs.ShapeText.{IsWithin};
+ghost use Rattle.disk_commands.specs.ShapeText.{IsCacheSize};
 ghost use Rattle.disk_commands.specs.Files.{OpensOnce, SaysNoMore};
 ghost use Rattle.disk_commands.specs.Opening.{file_bytes, IsFaultAt, IsMarkAt, IsNotAt, IsNotFree, IsShapeFault, IsStoreAt, IsTextAt, told_at, told_of_copy};
 
@@ -92,7 +92,7 @@ pub(crate) fn open_at<'a, F: DiskFiles>(
     ensures ok { IfOk result (λ opened. IsStoreAt F.Store.held F.Store.honest (F.answers files.old) path.now opened.2 opened.0) }
     ensures fault { IfErr result (IsNotAt (F.answers files.old) path.now) }
     ensures opened { OpensOnce path.now access (F.opened files.old) (F.opened files.new) }
-    ensures within { IfOk result (λ opened. IsWithin opened.2.shape.cache) }
+    ensures within { IfOk result (λ opened. IsCacheSize opened.2.shape.cache) }
     ensures no_more { OnOk result (SaysNoMore (F.answers files.old) (F.answers files.new)) }
     ensures kept { F.kept files.new ≡ F.kept files.old }
 {

@@ -1,6 +1,6 @@
 //! What is told of a disk.
 ghost use Rattle.std.specs.Prelude.{◌≡◌, ◌≤◌, length, IfOk, string_bytes};
-ghost use Rattle.disk_commands.specs.Info.{bad_count, erase_sum, free_count, info_of, info_text, least_wear, lost_lines, most_wear};
+ghost use Rattle.disk_commands.specs.Info.{bad_count, erase_sum, claimed_free_count, info_of, info_text, least_wear, lost_lines, most_wear_of_good};
 
 use crate::shape_words::GeometryText;
 use crate::shapes::{Code, DiskShape};
@@ -60,7 +60,7 @@ fn states_of(alloc: Global, certificate: &Certificate) -> Result<Vec<BlockState>
 // The free blocks.
 fn free(states: &[BlockState]) -> u32
     requires { length states.now ≤ 4096 }
-    ensures { result ≡ free_count states.now }
+    ensures { result ≡ claimed_free_count states.now }
 {
     states.iter().filter(|state| state.class == 0).count() as u32
 }
@@ -78,7 +78,7 @@ fn bad(states: &[BlockState]) -> u32
 
 // The most erases of a good block.
 fn most(states: &[BlockState]) -> u32
-    ensures { result ≡ most_wear states.now }
+    ensures { result ≡ most_wear_of_good states.now }
 {
     states.iter().fold(0, |most, state| {
         if state.class < LEAST_BAD {

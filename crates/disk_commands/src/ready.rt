@@ -5,10 +5,10 @@ ghost use Rattle.disk_server.specs.Disk.{contents_of, holds};
 ghost use Rattle.disk_server.specs.Opened.{SyncsWhen, is_honest_in, view_in};
 ghost use Rattle.disk_server.specs.Synced.{after_sync};
 ghost use Rattle.disk_commands.specs.Damage.{NamesAll};
-ghost use Rattle.disk_commands.specs.Files.{OpensMarked, with_mark};
+ghost use Rattle.disk_commands.specs.Files.{OpensMarked, with_mark_opened};
 ghost use Rattle.disk_commands.specs.Opening.{IsUnkeptAt};
 ghost use Rattle.disk_commands.specs.Ready.{HoldsPages, IsNoneOf, IsReadyAt, KeepsBy, IsUnkeptBy, IsUnreadyAt, MarksBy, access_of, sync_when};
-ghost use Rattle.disk_commands.specs.ShapeText.{IsWithin};
+ghost use Rattle.disk_commands.specs.ShapeText.{IsCacheSize};
 ghost use Rattle.disk_commands.specs.Told.{HasPrintingFailed};
 
 use crate::anew::reopening;
@@ -70,7 +70,7 @@ fn disk_of<'a, S: Store + Drop, K: KeepsLost>(
     keeper: &mut K,
     lost: &[bool],
 ) -> Result<StoreDisk<S>, DiskCommandFault<'a>>
-    requires within { IsWithin told.now.shape.cache }
+    requires within { IsCacheSize told.now.shape.cache }
     requires mounted { S.honest store ≡ true → Agrees (S.held store).geometry 65536 (S.held store).pages certificate.now }
     ensures syncs { IfOk result (λ d. SyncsWhen (sync_when words.now.sync_always) d.engine.nand) }
     ensures share { IfOk result (λ d. d.engine.mapping.share ≡ told.now.shape.share) }
@@ -116,7 +116,7 @@ fn keep_mark<'a, F: DiskFiles>(
 ) -> Result<F::Syncs, DiskCommandFault<'a>>
     ensures marked { IfOk result (λ keeps. F.Syncs.marked keeps ≡ after_sync next false found.mark) }
     ensures fault { IfErr result (IsUnkeptAt F.Syncs.failed (F.answers files.old) path.now) }
-    ensures opened { F.opened files.new ≡ with_mark (F.opened files.old) path.now }
+    ensures opened { F.opened files.new ≡ with_mark_opened (F.opened files.old) path.now }
     ensures kept { F.kept files.new ≡ F.kept files.old }
 {
     let mut syncs = match files.keep_mark(alloc, path, syncs, found) {

@@ -4,7 +4,7 @@ ghost use Rattle.std.specs.Io.KnownBytes.{Keeps};
 ghost use Rattle.disk_commands.specs.declared.text.DiskCommandFault.TheVariants as fault;
 ghost use Rattle.disk_commands.specs.Files.{OpensMarked};
 ghost use Rattle.disk_commands.specs.Ready.{access_of};
-ghost use Rattle.disk_commands.specs.Serve.{HasNotServed, HasReadDisk, HasServedAt, HasServedDisk, HasServedOn, IsDiskClosed, StreamStops, end_of, offer_of, pace_of, terms_of};
+ghost use Rattle.disk_commands.specs.Serve.{HasNotServed, HasReadDisk, HasServedAt, HasServedDisk, HasServedOn, IsDiskClosed, StreamStops, end_of, offer_of, pace_of, terms_told};
 ghost use Rattle.disk_server.specs.Asked.{AsksSectors};
 ghost use Rattle.disk_server.specs.Reading.{AllLasts};
 
@@ -80,7 +80,7 @@ struct Terms {
 
 // What the disk is served on beside which this is told.
 fn terms_of(told: &DiskText, read_only: bool) -> Terms
-    ensures { result ≡ terms_of told.now read_only }
+    ensures { result ≡ terms_told told.now read_only }
 {
     Terms {
         offer: offer_of(&told.shape.geometry, read_only),

@@ -2,9 +2,9 @@
 ghost use Rattle.std.specs.Prelude.{◌≡◌, ◌≢◌, false, None, Some, IfOk, IfErr, IfSome, OnOk, codes, string_bytes};
 ghost use Rattle.serde_json.specs.View.{view};
 ghost use Rattle.disk_commands.specs.declared.shape_text.Member.{Member};
-ghost use Rattle.disk_commands.specs.ShapeText.{IsGeometryTold, IsNoShape, IsShapeText, IsTextMember, IsWithin, TellsLater, TellsLaterBy, TellsNone};
+ghost use Rattle.disk_commands.specs.ShapeText.{IsGeometryTold, IsNoShape, IsShapeText, IsTextMember, IsCacheSize, TellsLater, TellsLaterBy, TellsNone};
 ghost use Rattle.disk_commands.specs.ShapeText.{TellsShape, TellsText, code_words, flag_at, geometry_words, listed_text, number_at, shape_data};
-ghost use Rattle.disk_commands.specs.ShapeText.{shape_text, members_of, size_of, text_at, shape_version_of, without_feed};
+ghost use Rattle.disk_commands.specs.ShapeText.{shape_text, members_of, member_count, text_at, shape_version_of, without_feed};
 ghost use Rattle.disk_commands.specs.Shapes.{IsShareFor};
 
 use crate::shape_words::{GeometryText, GeometryWordFault, geometry_from};
@@ -229,7 +229,7 @@ fn geometry_told(value: &Value) -> Result<Geometry, ShapeFault>
 
 // The entries of the cache of an object.
 fn cache_told(value: &Value) -> Result<u32, ShapeFault>
-    ensures ok { IfOk result (λ cache. (number_at Member.Cache (view value.now) ≡ Some cache) × IsWithin cache) }
+    ensures ok { IfOk result (λ cache. (number_at Member.Cache (view value.now) ≡ Some cache) × IsCacheSize cache) }
     ensures fault { IfErr result (TellsNone (view value.now)) }
 {
     let cache = number(value, Member::Cache)?;
@@ -352,7 +352,7 @@ fn members_wanted(second: bool) -> usize
 // That a value is an object of so many members.
 fn require_alone(value: &Value, second: bool) -> Result<(), ShapeFault>
     requires version { number_at Member.Version (view value.now) ≡ Some (shape_version_of second) }
-    ensures ok { OnOk result (size_of (view value.now) ≡ Some (members_of second)) }
+    ensures ok { OnOk result (member_count (view value.now) ≡ Some (members_of second)) }
     ensures fault { IfErr result (TellsNone (view value.now)) }
 {
     let wanted = members_wanted(second);

@@ -2,7 +2,7 @@
 ghost use Rattle.std.specs.Prelude.{◌≡◌, ◌↔◌, ◌+◌, ◌*◌, ◌^◌, ◌<◌, ◌≤◌, IfOk, IfErr, IfSome, IsTrue, None, ℕ};
 ghost use Rattle.std.specs.Int.{div_ceil};
 ghost use Rattle.page_layout.specs.Geometry.{need_at, waiting_at};
-ghost use Rattle.disk_commands.specs.Shapes.{HasBlocksForFormat, HasNoDie, HasNoSpared, IsDie, IsDieForSectors, IsDieOfSectors, IsGreatestDie, IsLeast};
+ghost use Rattle.disk_commands.specs.Shapes.{HasBlocksForFormat, HasNoDie, HasNoSpared, IsDie, IsDieForSectors, IsDieOfSectors, IsGreatestDie, AreFewestBlocks};
 ghost use Rattle.disk_commands.specs.Shapes.{IsNewShare, IsNoSize, IsPages, IsShapeFor, IsShareFor, IsSparedDie, cache_of};
 
 use page_layout::geometry::{Geometry, GeometryFault};
@@ -140,7 +140,7 @@ fn formats(pages: u32, share: u32, sectors: u32, blocks: u32) -> bool
 
 // The fewest blocks that a format of so many sectors at this share needs, where there is a die of so many.
 fn least_blocks(pages: u32, share: u32, sectors: u32) -> Option<u32>
-    ensures some { IfSome result (IsLeast pages share sectors) }
+    ensures some { IfSome result (AreFewestBlocks pages share sectors) }
     ensures none { result ≡ None → (blocks : ℕ) → blocks ≤ 4096 → ¬ HasBlocksForFormat pages share sectors blocks }
 {
     for blocks in 0..=MOST_BLOCKS {

@@ -68,7 +68,7 @@ fn digits_before(text: &[u8]) -> usize
 
 // What stands behind the digits, taken apart: digits behind a point, and the suffix.
 fn part_and_suffix(rest: &[u8]) -> (&[u8], &[u8])
-    ensures part { result.0.now ≡ said.part_of rest.now }
+    ensures part { result.0.now ≡ said.digits_behind_point rest.now }
     ensures suffix { result.1.now ≡ said.suffix_of rest.now }
 {
     match rest.split_first() {
@@ -178,6 +178,6 @@ pub fn size_from(word: &str) -> Result<u64, SizeWordFault>
 pub fn size_laws()
     ensures size { said.SizeLaw }
     ensures one { said.OneSizeLaw }
-    ensures part { said.PartLaw }
+    ensures part { said.PartOfByteLaw }
     ensures units { said.UnitLaw }
 {}

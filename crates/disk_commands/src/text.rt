@@ -2,7 +2,7 @@
 ghost use Rattle.std.specs.Prelude.{◌≡◌, ◌++◌};
 ghost use Rattle.std.specs.Fmt.{WritesOnOk};
 ghost use Rattle.request_stream.specs.Frames.{SendsLine};
-ghost use Rattle.disk_commands.specs.Text.{IsDiskFaultTold, told_line};
+ghost use Rattle.disk_commands.specs.Text.{IsDiskFaultTold, told_disk_line};
 
 use crate::shape_text::ShapeFault;
 use crate::shapes::SizeFault;
@@ -85,11 +85,11 @@ impl Error for DiskCommandFault<'_> {}
 
 impl DiskCommandFault<'_> {
     ghost use Rattle.std.specs.Prelude.{◌≡◌};
-    ghost use Rattle.disk_commands.specs.Text.{status_of};
+    ghost use Rattle.disk_commands.specs.Text.{disk_exit_status};
 
     /// The exit status: 2 where the words are no command, a size or numbers, 3 where a file or a stream failed, else 1.
     pub fn status(&self) -> u8
-        ensures { result ≡ status_of self.now }
+        ensures { result ≡ disk_exit_status self.now }
     {
         match self {
             DiskCommandFault::NoSuchCommand
@@ -155,11 +155,11 @@ pub(crate) fn told_of<W: fmt::Write>(
 /// The line, without its line feed.
 impl fmt::Display for DiskCommandFault<'_> {
     ghost use Rattle.std.specs.Prelude.{Some};
-    ghost use Rattle.disk_commands.specs.Text.{line_of};
+    ghost use Rattle.disk_commands.specs.Text.{disk_fault_line};
 
-    ghost output = { λ fault. Some (line_of fault) };
+    ghost output = { λ fault. Some (disk_fault_line fault) };
 
-    #[tactic(auto, unfolding(crate::specs::Text::line_of))]
+    #[tactic(auto, unfolding(crate::specs::Text::disk_fault_line))]
     fn fmt<W: fmt::Write>(&self, f: &mut fmt::Formatter<W>) -> fmt::Result {
         match *self {
             DiskCommandFault::NoSuchCommand => f.write_str(
@@ -217,7 +217,7 @@ fn send_line<E: Write>(
     fault: &DiskCommandFault<'_>,
     err: &mut E,
 ) -> Result<(), ServeFault>
-    ensures { SendsLine (E.contents err.old) (E.contents err.new) (told_line fault.now) result }
+    ensures { SendsLine (E.contents err.old) (E.contents err.new) (told_disk_line fault.now) result }
 {
     if let DiskCommandFault::OutOfMemory = fault {
         return send(err, b"refused: no memory\n");

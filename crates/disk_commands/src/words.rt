@@ -1,12 +1,12 @@
 //! The words of the command line: one level of subcommands, with help and a version.
 ghost use Rattle.std.specs.Prelude.{◌≡◌, IfOk, IfSome, None, Err, option_map};
-ghost use Rattle.program_words.specs.Met.{entries_of, texts};
+ghost use Rattle.program_words.specs.Met.{command_entries, texts};
 ghost use Rattle.disk_commands.specs.declared.words.CreateWords.{CreateWords};
 ghost use Rattle.disk_commands.specs.declared.words.DiskWords.{DiskWords};
 ghost use Rattle.disk_commands.specs.declared.words.InfoWords.{InfoWords};
 ghost use Rattle.disk_commands.specs.declared.words.MakeWords.{MakeWords};
 ghost use Rattle.disk_commands.specs.declared.words.DiskServeWords.{DiskServeWords};
-ghost use Rattle.disk_commands.specs.Words.{IsAsked, IsAt, IsCreateAt, IsInfoAt, IsMakeAt, IsNoCommand, IsServeAt};
+ghost use Rattle.disk_commands.specs.Words.{AsksDiskProgram, IsDiskCommandAt, IsCreateAt, IsInfoAt, IsMakeAt, IsNoDiskCommand, IsServeAt};
 
 use crate::grammar::grammar;
 use crate::shapes::Code;
@@ -123,8 +123,8 @@ fn make<'a>(
 
 // What the command `create` makes a disk of, where its words say so.
 fn make_words<'a>(found: &CommandWords<'a>) -> Option<MakeWords<'a>>
-    ensures some { IfSome result (IsMakeAt (entries_of found.now)) }
-    ensures none { result ≡ None → (read : MakeWords) → ¬ IsMakeAt (entries_of found.now) read }
+    ensures some { IfSome result (IsMakeAt (command_entries found.now)) }
+    ensures none { result ≡ None → (read : MakeWords) → ¬ IsMakeAt (command_entries found.now) read }
 {
     make(
         found.word("size"),
@@ -135,8 +135,8 @@ fn make_words<'a>(found: &CommandWords<'a>) -> Option<MakeWords<'a>>
 
 // The words of the command `create`, where they are given.
 fn create_words<'a>(found: &CommandWords<'a>) -> Option<CreateWords<'a>>
-    ensures some { IfSome result (IsCreateAt (entries_of found.now)) }
-    ensures none { result ≡ None → (read : CreateWords) → ¬ IsCreateAt (entries_of found.now) read }
+    ensures some { IfSome result (IsCreateAt (command_entries found.now)) }
+    ensures none { result ≡ None → (read : CreateWords) → ¬ IsCreateAt (command_entries found.now) read }
 {
     Some(CreateWords {
         disk: found.word("DISK")?,
@@ -150,8 +150,8 @@ fn create_words<'a>(found: &CommandWords<'a>) -> Option<CreateWords<'a>>
 
 // The words of the command `serve`, where they are given.
 fn serve_words<'a>(found: &CommandWords<'a>) -> Option<DiskServeWords<'a>>
-    ensures some { IfSome result (IsServeAt (entries_of found.now)) }
-    ensures none { result ≡ None → (read : DiskServeWords) → ¬ IsServeAt (entries_of found.now) read }
+    ensures some { IfSome result (IsServeAt (command_entries found.now)) }
+    ensures none { result ≡ None → (read : DiskServeWords) → ¬ IsServeAt (command_entries found.now) read }
 {
     Some(DiskServeWords {
         disk: found.word("DISK")?,
@@ -163,8 +163,8 @@ fn serve_words<'a>(found: &CommandWords<'a>) -> Option<DiskServeWords<'a>>
 
 // The words of the command `info` or `check`, where they are given.
 fn info_words<'a>(found: &CommandWords<'a>) -> Option<InfoWords<'a>>
-    ensures some { IfSome result (IsInfoAt (entries_of found.now)) }
-    ensures none { result ≡ None → (read : InfoWords) → ¬ IsInfoAt (entries_of found.now) read }
+    ensures some { IfSome result (IsInfoAt (command_entries found.now)) }
+    ensures none { result ≡ None → (read : InfoWords) → ¬ IsInfoAt (command_entries found.now) read }
 {
     Some(InfoWords {
         disk: found.word("DISK")?,
@@ -174,8 +174,8 @@ fn info_words<'a>(found: &CommandWords<'a>) -> Option<InfoWords<'a>>
 
 // What the command of this name asks for, with these words, where there is one.
 fn asked_of<'a>(name: &str, found: &CommandWords<'a>) -> Option<DiskWords<'a>>
-    ensures some { IfSome result (IsAt name.now (entries_of found.now)) }
-    ensures none { result ≡ None → (asked : DiskWords) → ¬ IsAt name.now (entries_of found.now) asked }
+    ensures some { IfSome result (IsDiskCommandAt name.now (command_entries found.now)) }
+    ensures none { result ≡ None → (asked : DiskWords) → ¬ IsDiskCommandAt name.now (command_entries found.now) asked }
 {
     match name {
         "create" => create_words(found).map(DiskWords::Create),
@@ -188,8 +188,8 @@ fn asked_of<'a>(name: &str, found: &CommandWords<'a>) -> Option<DiskWords<'a>>
 
 // What the command of this name asks for, with these words.
 fn asked_at<'a>(name: &str, found: &CommandWords<'a>) -> Result<DiskWords<'a>, GrammarFault>
-    ensures some { IfOk result (IsAt name.now (entries_of found.now)) }
-    ensures none { result ≡ Err GrammarFault.NoSuchCommand → (asked : DiskWords) → ¬ IsAt name.now (entries_of found.now) asked }
+    ensures some { IfOk result (IsDiskCommandAt name.now (command_entries found.now)) }
+    ensures none { result ≡ Err GrammarFault.NoSuchCommand → (asked : DiskWords) → ¬ IsDiskCommandAt name.now (command_entries found.now) asked }
 {
     match asked_of(name, found) {
         Some(asked) => Ok(asked),
@@ -205,8 +205,8 @@ fn asked_at<'a>(name: &str, found: &CommandWords<'a>) -> Result<DiskWords<'a>, G
 /// `NoSuchCommand` where `clap` refuses the words for another reason than that they ask for help or the version, or where they name no command
 /// with its words. `OutOfMemory` where a growth was refused.
 pub fn parse<'a>(alloc: Global, words: &'a [&'a str]) -> Result<DiskWords<'a>, GrammarFault>
-    ensures ok { IfOk result (IsAsked (texts words.now)) }
-    ensures none { result ≡ Err GrammarFault.NoSuchCommand → IsNoCommand (texts words.now) }
+    ensures ok { IfOk result (AsksDiskProgram (texts words.now)) }
+    ensures none { result ≡ Err GrammarFault.NoSuchCommand → IsNoDiskCommand (texts words.now) }
 {
     match read_words(alloc, &grammar(), words) {
         Ok(Met::Command { name, words }) => asked_at(name, &words),

@@ -8,7 +8,7 @@ use Rattle.std.proofs.lemmas.List.Elements.{filter-append}
 use Rattle.page_layout.specs.declared.geometry.Geometry.{Geometry}
 use Rattle.page_layout.specs.Page.{Image}
 use Rattle.image_check.proofs.StaleLemmas.{filter_same}
-use Rattle.lost_sectors.specs.Lost.{Adds, is_listed, is_lost, lost_sectors}
+use Rattle.lost_sectors.specs.Lost.{Adds, is_listed_in, is_lost, lost_sectors}
 use Rattle.disk_damage.specs.declared.list_text.ListFault.{ListFault}
 use Rattle.disk_damage.specs.declared.list_text.ListFault.TheVariants.{Length, Letter, OutOfMemory}
 use Rattle.disk_damage.specs.ListText.{IsListText, IsNoList, letter, list_text}
@@ -134,8 +134,8 @@ pub listed_are : (g : Geometry) (image : Image) (mark : ℕ) (lost : List Bool) 
 unfolding listed_sectors lost_sectors
 listed_are g image mark lost adds =
     let size : length lost ≡ g.sectors = adds.size ∙ long_none g.sectors in
-    ap (λ n. filter (is_listed lost) (range_with_len 0 n)) size
-    ∙ filter_same (is_listed lost) (is_lost g image mark) 0 g.sectors
+    ap (λ n. filter (is_listed_in lost) (range_with_len 0 n)) size
+    ∙ filter_same (is_listed_in lost) (is_lost g image mark) 0 g.sectors
     (λ k low high. adds.inside k low (omega (arith, high)) ∙ (ap (λ b. b || is_lost g image mark k) (none_there g.sectors k) ∙ sym (no_other (is_lost g image mark k))))
 
 -- ---- a class

@@ -33,5 +33,5 @@ abbrev pub ListLaw : Type 0
 ListLaw = (lost read : List Bool) (sectors : ℕ) → IsListText (list_text lost) sectors read → (read ≡ lost) × (length lost ≡ sectors)
 
 -- AND ONE THAT WAS CUT SHORT, or to which something was added, is the list of as many sectors of no disk that had it
-abbrev pub CutLaw : Type 0
-CutLaw = (lost read : List Bool) (text : List ℕ) → IsListText text (length lost) read → length text ≡ length (list_text lost)
+abbrev pub CutListLaw : Type 0
+CutListLaw = (lost read : List Bool) (text : List ℕ) → IsListText text (length lost) read → length text ≡ length (list_text lost)

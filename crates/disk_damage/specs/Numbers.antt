@@ -3,11 +3,11 @@ use Rattle.std.specs.Prelude.{◌≡◌, ℕ, Bool, false, List, [], ◌∷◌, 
 use Rattle.std.specs.List.{range_with_len}
 use Rattle.page_layout.specs.declared.geometry.Geometry.{Geometry}
 use Rattle.page_layout.specs.Page.{Image}
-use Rattle.lost_sectors.specs.Lost.{Adds, is_listed, is_lost, lost_sectors}
+use Rattle.lost_sectors.specs.Lost.{Adds, is_listed_in, is_lost, lost_sectors}
 
 -- the sectors that are listed, rising
 unfoldable pub listed_sectors : List Bool → List ℕ
-listed_sectors lost = filter (is_listed lost) (range_with_len 0 (length lost))
+listed_sectors lost = filter (is_listed_in lost) (range_with_len 0 (length lost))
 
 -- WHERE NONE WAS LISTED BEFORE they are the lost sectors of the store's pages
 abbrev pub ListedLaw : Type 0

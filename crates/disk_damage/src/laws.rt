@@ -1,11 +1,11 @@
 //! What is said of the file of a list. Each function does nothing: its contract is the law.
-ghost use Rattle.disk_damage.specs.ListText.{CutLaw, ListLaw};
+ghost use Rattle.disk_damage.specs.ListText.{CutListLaw, ListLaw};
 ghost use Rattle.disk_damage.specs.Numbers.{ListedLaw};
 
 /// A list is read as it was written, and as no other one. Nothing of another length is read as a list of as many sectors. (This project.)
 pub fn list_laws()
     ensures read { ListLaw }
-    ensures cut { CutLaw }
+    ensures cut { CutListLaw }
 {}
 
 /// Where none was listed before, the sectors of the list are the lost sectors of the store, by rising number. (This project.)

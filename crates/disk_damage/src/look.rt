@@ -5,7 +5,7 @@ ghost use Rattle.page_layout.specs.Block.{is_broken};
 ghost use Rattle.page_layout.specs.Geometry.{row_count, page_bytes};
 ghost use Rattle.page_layout.specs.Page.{page};
 ghost use Rattle.file_die.specs.Open.{OnlyLooks};
-ghost use Rattle.disk_damage.specs.Look.{bad_numbers, is_bad_in, is_factory_in, unsound_numbers, is_unsound_in};
+ghost use Rattle.disk_damage.specs.Look.{bad_numbers, has_bad_class_in, is_factory_in, unsound_numbers, is_unsound_unmarked};
 
 use certificate::Certificate;
 use file_die::{Store, StoreFault};
@@ -73,7 +73,7 @@ fn is_unsound<S: Store>(
     requires geometry { (S.held store.old).geometry ≡ geometry.now }
     requires in_range { row < row_count geometry.now }
     requires room { length page.old ≡ page_bytes geometry.now }
-    ensures unsound { IfOk result (λ unsound. S.honest store.old ≡ true → unsound ≡ is_unsound_in geometry.now (S.held store.old).pages certificate.now.blocks row) }
+    ensures unsound { IfOk result (λ unsound. S.honest store.old ≡ true → unsound ≡ is_unsound_unmarked geometry.now (S.held store.old).pages certificate.now.blocks row) }
     ensures looks { OnlyLooks S.held S.honest store.old store.new }
     ensures settled { OnOk result (S.failed store.new ≡ S.failed store.old) }
     ensures rose { OnErr result (HasRisen (S.failed store.old) (S.failed store.new)) }

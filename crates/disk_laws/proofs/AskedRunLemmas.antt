@@ -26,7 +26,7 @@ use Rattle.disk_server.specs.Asked.{AsksCall}
 use Rattle.disk_server.specs.Disk.{AsksChange, AsksClear, ChangesOne}
 use Rattle.disk_server.specs.Opened.{view_in}
 use Rattle.disk_laws.specs.AskedRuns.{AsksDriverLaw, IsInCall, IsInRun, IsInTrim, IsOnTheWay, RunAsksLaw}
-use Rattle.disk_laws.specs.Driven.{Acts, AsksErase, AsksPage, AsksProgram, BlockErased, DriverCalls, NothingAsked, PageProgrammed, PageRead, StandsReady}
+use Rattle.disk_laws.specs.Driven.{ActsOnCycle, AsksErase, AsksPage, AsksProgram, BlockErased, DriverCalls, NothingAsked, PageProgrammed, PageRead, StandsReady}
 use Rattle.disk_laws.specs.Runs.{DeviceCalls, IsDiskCall, NoCall, OneMore}
 use Rattle.disk_laws.proofs.CallLemmas.{asked_erase, asked_program, erase_stands, page_stands, program_stands}
 use Rattle.disk_laws.proofs.DrivenLemmas.{calls_then, page_spared, tells, took_erase, took_program}
@@ -192,7 +192,7 @@ module _ {S : Type 0} (held : S → Held) (honest : S → Bool) (failed : S → 
     pub still : honest new.bus.store ≡ true
 
   programmed : (row : ℕ) (its : Page) (result : Result Outcome BusFault) (old new : DriverState (FileState S)) → honest old.bus.store ≡ true → StandsReady held old → row < row_count old.geometry
-      → length its.body ≡ old.geometry.data_bytes → length its.spare ≡ old.geometry.spare_bytes → Operates (Acts held honest failed) old.bus (program_cycles row its.body its.spare) result new.bus
+      → length its.body ≡ old.geometry.data_bytes → length its.spare ≡ old.geometry.spare_bytes → Operates (ActsOnCycle held honest failed) old.bus (program_cycles row its.body its.spare) result new.bus
       → IfOk result (λ outcome. honest old.bus.store ≡ true → Steps (flash_by (shown held) old) (Program row its (is_passed outcome) (page_at (flash_by (shown held) new) row)) (flash_by (shown held) new))
       → MatchResult result (λ outcome. new.told ≡ gained (Program row its (is_passed outcome) (page_at (flash_by (shown held) new) row)) old.told) (λ fault. new.told ≡ cut_in (recording.asked_program row its) old.told)
       → new.geometry ≡ old.geometry → new.told.at_hand ≡ [] → Driven old new
@@ -207,7 +207,7 @@ module _ {S : Type 0} (held : S → Held) (honest : S → Bool) (failed : S → 
   programmed row its (Err fault) old new h stands lt m p sends step_is told same clear = absurd (no_fault (recording.asked_program row its) old.told new.told told clear)
 
   erased : (block : ℕ) (result : Result Outcome BusFault) (old new : DriverState (FileState S)) → honest old.bus.store ≡ true → StandsReady held old → block < old.geometry.blocks
-      → Operates (Acts held honest failed) old.bus (erase_cycles old.geometry block) result new.bus
+      → Operates (ActsOnCycle held honest failed) old.bus (erase_cycles old.geometry block) result new.bus
       → IfOk result (λ outcome. honest old.bus.store ≡ true → Steps (flash_by (shown held) old) (Erase block (is_passed outcome) (block_at (flash_by (shown held) new) block)) (flash_by (shown held) new))
       → MatchResult result (λ outcome. new.told ≡ gained (Erase block (is_passed outcome) (block_at (flash_by (shown held) new) block)) old.told) (λ fault. new.told ≡ cut_in (recording.asked_erase old.geometry block) old.told)
       → new.geometry ≡ old.geometry → new.told.at_hand ≡ [] → Driven old new

@@ -17,7 +17,7 @@ use Rattle.onfi_cycles.proofs.Operations.{erase_broke, erase_did, program_broke,
 use Rattle.onfi_cycles.proofs.Resets.{reset_does}
 use Rattle.file_die.specs.Die.{FileState, shown}
 use Rattle.file_die.specs.Store.{Held}
-use Rattle.disk_laws.specs.Driven.{Acts, AsksErase, AsksPage, AsksProgram, LeavesStore, StandsReady, store_behind}
+use Rattle.disk_laws.specs.Driven.{ActsOnCycle, AsksErase, AsksPage, AsksProgram, LeavesStore, StandsReady, store_behind}
 use Rattle.disk_laws.proofs.DrivenLemmas.{page_spared, stopped_erase, stopped_program, took_erase, took_program}
 use Rattle.disk_laws.proofs.SentLemmas.{sent_taken, until_fails}
 
@@ -45,7 +45,7 @@ module _ {S : Type 0} (held : S → Held) (honest : S → Bool) (failed : S → 
   -- ---- a program
 
   pub asked_program : (row : ℕ) (body spare : List ℕ) (result : Result Outcome BusFault) (old new : DriverState (FileState S)) → honest old.bus.store ≡ true → StandsReady held old → row < row_count old.geometry
-      → length body ≡ old.geometry.data_bytes → length spare ≡ old.geometry.spare_bytes → Operates (Acts held honest failed) old.bus (program_cycles row body spare) result new.bus
+      → length body ≡ old.geometry.data_bytes → length spare ≡ old.geometry.spare_bytes → Operates (ActsOnCycle held honest failed) old.bus (program_cycles row body spare) result new.bus
       → IfOk result (λ outcome. honest old.bus.store ≡ true → Steps (flash_by (shown held) old) (Program row (page body spare) (is_passed outcome) (page_at (flash_by (shown held) new) row)) (flash_by (shown held) new))
       → MatchResult result (λ outcome. new.told ≡ gained (Program row (page body spare) (is_passed outcome) (page_at (flash_by (shown held) new) row)) old.told)
       (λ fault. new.told ≡ cut_in (recording.asked_program row (page body spare)) old.told)
@@ -85,7 +85,7 @@ module _ {S : Type 0} (held : S → Held) (honest : S → Bool) (failed : S → 
   -- ---- an erase
 
   pub asked_erase : (block : ℕ) (result : Result Outcome BusFault) (old new : DriverState (FileState S)) → honest old.bus.store ≡ true → StandsReady held old → block < old.geometry.blocks
-      → Operates (Acts held honest failed) old.bus (erase_cycles old.geometry block) result new.bus
+      → Operates (ActsOnCycle held honest failed) old.bus (erase_cycles old.geometry block) result new.bus
       → IfOk result (λ outcome. honest old.bus.store ≡ true → Steps (flash_by (shown held) old) (Erase block (is_passed outcome) (block_at (flash_by (shown held) new) block)) (flash_by (shown held) new))
       → MatchResult result (λ outcome. new.told ≡ gained (Erase block (is_passed outcome) (block_at (flash_by (shown held) new) block)) old.told)
       (λ fault. new.told ≡ cut_in (recording.asked_erase old.geometry block) old.told)
@@ -124,7 +124,7 @@ module _ {S : Type 0} (held : S → Held) (honest : S → Bool) (failed : S → 
   page_leaves row out result old new h asks = (page_spared held honest failed row out result old new h asks).store
 
   page_ready : (row : ℕ) (out : List ℕ) (result : Result (Unit {0}) SourceFault) (old new : DriverState (FileState S)) → honest old.bus.store ≡ true → StandsReady held old → row < row_count old.geometry
-      → SendsRead (Acts held honest failed) old.bus (read_cycles row old.geometry.data_bytes old.geometry.spare_bytes) out result new.bus → IsReady new.bus.phase
+      → SendsRead (ActsOnCycle held honest failed) old.bus (read_cycles row old.geometry.data_bytes old.geometry.spare_bytes) out result new.bus → IsReady new.bus.phase
   page_ready row out (Ok _) old new h stands lt sent =
       (read_did (die_of old) (die_of new) row old.geometry.data_bytes old.geometry.spare_bytes stands.ready (subst (λ (g : Geometry). row < row_count g) (sym stands.geometry) lt)
       (ap (λ (g : Geometry). g.data_bytes) (sym stands.geometry)) (ap (λ (g : Geometry). g.spare_bytes) (sym stands.geometry))

@@ -16,7 +16,7 @@ use Rattle.collection.specs.Safe.{ram}
 use Rattle.file_die.specs.Die.{FileState}
 use Rattle.file_die.specs.Store.{AreImages, Held}
 use Rattle.ftl_device.specs.declared.device.Device.{Device}
-use Rattle.ftl_device.specs.Changes.{Changes, IsCut, Upkeeps}
+use Rattle.ftl_device.specs.Changes.{Changes, IsCallCut, Upkeeps}
 use Rattle.ftl_device.specs.Stopped.{SurvivesCut}
 use Rattle.ftl_device.proofs.MountableLemmas.{restart_law}
 use Rattle.disk_server.specs.Opened.{view_in}
@@ -33,7 +33,7 @@ use Rattle.disk_laws.proofs.StoreRunLemmas.{adds_join, run_adds, run_calls, run_
 -- ---- one call that a fault ended
 
 module _ {N : Type 0} (die : View N) where
-  ended : (old new : Device N) (command : Command) → Faults die command old new → EndsByFault die command old new → IsCut die command old new
+  ended : (old new : Device N) (command : Command) → Faults die command old new → EndsByFault die command old new → IsCallCut die command old new
   ended old new command f (inl (n, changes)) =
       let its = parts die.honest old f.held in
       changes.cut its.0 (f.disk.well f.held) its.1 refl
@@ -63,7 +63,7 @@ module _ {N : Type 0} (die : View N) where
 
   -- what it may leave, behind calls of a device
   pub in_last : (old last new : Device N) (command : Command) (found : Image) → last.engine.geometry ≡ old.engine.geometry → room_of (ram last.engine) ≡ room_of (ram old.engine) → Faults die command last new
-      → (cut : IsCut die command last new) → MayLeave old.engine.geometry (image_on die last) (cut.log ++ cut.at_hand) found → CutInLast die old last command (cut.log ++ cut.at_hand) found
+      → (cut : IsCallCut die command last new) → MayLeave old.engine.geometry (image_on die last) (cut.log ++ cut.at_hand) found → CutInLast die old last command (cut.log ++ cut.at_hand) found
   in_last old last new command found sized room f cut m =
       let here : (die.flash last.engine.nand).geometry ≡ old.engine.geometry = f.disk.device.engine.geometry ∙ sized in
       record {

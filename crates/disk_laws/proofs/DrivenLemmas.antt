@@ -22,7 +22,7 @@ use Rattle.promises.proofs.StopLemmas.{stops_join}
 use Rattle.image_laws.specs.Power.{LosesSince}
 use Rattle.file_die.specs.declared.die.SyncWhen.{SyncWhen}
 use Rattle.file_die.specs.Die.{ErasesInStore, FileState, IfDue, Leaves, shown}
-use Rattle.file_die.specs.DieLaws.{AddsAlone, Takes, Turn}
+use Rattle.file_die.specs.DieLaws.{AddsAlone, TakesStoreCycle, StoreCycle}
 use Rattle.file_die.specs.Store.{AreImages, Held, page_in}
 use Rattle.file_die.proofs.DieLawLemmas.{images, since_sync}
 use Rattle.disk_server.proofs.PowerLemmas.{loses_since}
@@ -173,12 +173,12 @@ module _ {S : Type 0} (held : S → Held) (honest : S → Bool) (failed : S → 
       PageProgrammed row body spare outcome first mid c (log ++ ys) asks (calls_then mid last c log ys calls more)
   calls_then a b c xs ys (BlockErased block outcome first mid last log asks calls) more = BlockErased block outcome first mid c (log ++ ys) asks (calls_then mid last c log ys calls more)
 
-  -- the turn of the die that a call was
-  abbrev turn_of : DriverState (FileState S) → Due → Turn
-  turn_of old due = record { due = due; flash = (shown held old.bus).flash; done = true }
+  -- the cycle of the die that a call was
+  abbrev cycle_of : DriverState (FileState S) → Due → StoreCycle
+  cycle_of old due = record { due = due; flash = (shown held old.bus).flash; done = true }
 
   takes : (sync_when : SyncWhen) (old new : DriverState (FileState S)) (due : Due) → old.bus.sync_when ≡ sync_when → Took held honest failed due old.bus new.bus
-      → Takes sync_when (store_behind held old) (turn_of old due) (store_behind held new)
+      → TakesStoreCycle sync_when (store_behind held old) (cycle_of old due) (store_behind held new)
   takes sync_when old new due same took = record {
     leaves = subst (λ w. Leaves due (shown held old.bus).flash w (store_behind held old) true (store_behind held new)) same took.leaves;
     geometry = took.geometry;
@@ -202,14 +202,14 @@ module _ {S : Type 0} (held : S → Held) (honest : S → Bool) (failed : S → 
         (subst (λ (s : Held). AddsOrErases g.pages s.pages more) (sym calm.store) adds))
     lose sync_when g start old new log (PageProgrammed row body spare outcome first mid last more asks calls) h same ends since adds =
         let took = took_program row body spare (Ok outcome) first mid asks outcome h refl in
-        let turn : Turn = turn_of first (Programs row (page body spare)) in
-        let alone : AddsAlone (store_behind held first) turn.flash turn.due = λ may. adds.0 in
+        let cycle : StoreCycle = cycle_of first (Programs row (page body spare)) in
+        let alone : AddsAlone (store_behind held first) cycle.flash cycle.due = λ may. adds.0 in
         let now : Since sync_when found g start (store_behind held mid) = record {
           images = since.images;
           sized = since.sized;
           lasted = since.lasted;
-          added = since.added ++ turn ∷ [];
-          goes = adding_more sync_when start (store_behind held first) (store_behind held mid) since.added turn since.goes alone (takes sync_when first mid (Programs row (page body spare)) same took);
+          added = since.added ++ cycle ∷ [];
+          goes = adding_more sync_when start (store_behind held first) (store_behind held mid) since.added cycle since.goes alone (takes sync_when first mid (Programs row (page body spare)) same took);
         } in
         let image : (store_behind held mid).pages ≡ image_after g.pages (store_behind held first).pages (Program row (page body spare) (is_passed outcome) (page_at (flash_by (shown held) mid) row)) =
         after_program g.pages (flash_by (shown held) first) (flash_by (shown held) mid) row (page body spare) (page_at (flash_by (shown held) mid) row) (is_passed outcome) asks.step in
@@ -248,8 +248,8 @@ module _ {S : Type 0} (held : S → Held) (honest : S → Bool) (failed : S → 
       }
   came old new log (PageProgrammed row body spare outcome first mid last more asks calls) h w =
       let took = took_program row body spare (Ok outcome) first mid asks outcome h refl in
-      let turn : Turn = turn_of first (Programs row (page body spare)) in
-      let stay = images first.bus.sync_when (store_behind held first) (store_behind held mid) (turn ∷ []) (store_behind held mid, takes first.bus.sync_when first mid (Programs row (page body spare)) refl took, refl) in
+      let cycle : StoreCycle = cycle_of first (Programs row (page body spare)) in
+      let stay = images first.bus.sync_when (store_behind held first) (store_behind held mid) (cycle ∷ []) (store_behind held mid, takes first.bus.sync_when first mid (Programs row (page body spare)) refl took, refl) in
       let rest = came mid last more calls took.still (stay.1 w) in
       let g : Geometry = (store_behind held first).geometry in
       let image = after_program g.pages (flash_by (shown held) first) (flash_by (shown held) mid) row (page body spare) (page_at (flash_by (shown held) mid) row) (is_passed outcome) asks.step in
@@ -261,8 +261,8 @@ module _ {S : Type 0} (held : S → Held) (honest : S → Bool) (failed : S → 
       }
   came old new log (BlockErased block outcome first mid last more asks calls) h w =
       let took = took_erase block (Ok outcome) first mid asks outcome h refl in
-      let turn : Turn = turn_of first (Erases block) in
-      let stay = images first.bus.sync_when (store_behind held first) (store_behind held mid) (turn ∷ []) (store_behind held mid, takes first.bus.sync_when first mid (Erases block) refl took, refl) in
+      let cycle : StoreCycle = cycle_of first (Erases block) in
+      let stay = images first.bus.sync_when (store_behind held first) (store_behind held mid) (cycle ∷ []) (store_behind held mid, takes first.bus.sync_when first mid (Erases block) refl took, refl) in
       let rest = came mid last more calls took.still (stay.1 w) in
       let g : Geometry = (store_behind held first).geometry in
       let image = after_erase g (flash_by (shown held) first) (flash_by (shown held) mid) block (is_passed outcome) (block_at (flash_by (shown held) mid) block) (sym asks.stands.geometry) asks.step in
@@ -352,21 +352,21 @@ module _ {S : Type 0} (held : S → Held) (honest : S → Bool) (failed : S → 
             lost_then g.pages start.pages (store_behind held old).pages (store_behind held new).durable (hand ∷ [])
             (subst (λ (s : Held). LosesSince start.pages (store_behind held old).pages s.durable) (sym as_was) (lasting sync_when found g start (store_behind held old) since))
         | inr took ↦
-            let turn : Turn = record { due = Programs row (page body spare); flash = (shown held old.bus).flash; done = took.0 } in
-            let alone : AddsAlone (store_behind held old) turn.flash turn.due = λ may. none in
-            let takes_it : Takes sync_when (store_behind held old) turn (store_behind held new) = record {
-              leaves = subst (λ w. Leaves turn.due turn.flash w (store_behind held old) took.0 (store_behind held new)) same took.1;
+            let cycle : StoreCycle = record { due = Programs row (page body spare); flash = (shown held old.bus).flash; done = took.0 } in
+            let alone : AddsAlone (store_behind held old) cycle.flash cycle.due = λ may. none in
+            let takes_it : TakesStoreCycle sync_when (store_behind held old) cycle (store_behind held new) = record {
+              leaves = subst (λ w. Leaves cycle.due cycle.flash w (store_behind held old) took.0 (store_behind held new)) same took.1;
               geometry = stopped.0;
             } in
             let now : Since sync_when found g start (store_behind held new) = record {
               images = since.images;
               sized = since.sized;
               lasted = since.lasted;
-              added = since.added ++ turn ∷ [];
-              goes = adding_more sync_when start (store_behind held old) (store_behind held new) since.added turn since.goes alone takes_it;
+              added = since.added ++ cycle ∷ [];
+              goes = adding_more sync_when start (store_behind held old) (store_behind held new) since.added cycle since.goes alone takes_it;
             } in
             let loses : LosesSince start.pages (store_behind held new).pages (store_behind held new).durable = lasting sync_when found g start (store_behind held new) now in
-            let left = program_left (store_behind held old) (store_behind held new) stopped.0 here.1 turn.flash old.bus.sync_when row (page body spare) took.0 took.1 in
+            let left = program_left (store_behind held old) (store_behind held new) stopped.0 here.1 cycle.flash old.bus.sync_when row (page body spare) took.0 took.1 in
             let left_by : LeftBy g.pages (store_behind held old).pages (hand ∷ []) (store_behind held new).pages = subst (λ (x : Geometry). LeftBy x.pages (store_behind held old).pages (hand ∷ []) (store_behind held new).pages) here.0 left.0 in
             elim left_by [
               | inl torn ↦ inl ((store_behind held new).pages, torn, loses)

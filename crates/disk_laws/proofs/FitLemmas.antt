@@ -17,7 +17,7 @@ use Rattle.page_layout.proofs.ArrayLemmas.{IsNewer, mark-page, mark-same, newest
 use Rattle.page_layout.proofs.NewestLemmas.{sequence_at-is}
 use Rattle.page_layout.proofs.StepLemmas.{erased_unsound}
 use Rattle.page_layout.proofs.FlashLemmas.{erase_below, erase_erases, erase_loses, image-program, program_next, program_other}
-use Rattle.promises.specs.Legal.{Account, account_at, accounted, noted, IsDueErase, IsDueProgram}
+use Rattle.promises.specs.Legal.{Account, account_at, accounted, account_after, IsDueErase, IsDueProgram}
 use Rattle.promises.proofs.AccountLemmas.{accounted-other, accounted-same}
 use Rattle.promises.proofs.LegalLemmas.{in_range}
 
@@ -77,7 +77,7 @@ module _ (s t : Flash) (row : ℕ) (page left : Page) (passed : Bool) (accounts 
   ]
 
   -- the accounts after it
-  pub after_block : (b : ℕ) → b ≡ row / s.geometry.pages → account_at (accounted s.geometry.pages accounts (Program row page passed left)) b ≡ noted (account_at accounts b) (Program row page passed left)
+  pub after_block : (b : ℕ) → b ≡ row / s.geometry.pages → account_at (accounted s.geometry.pages accounts (Program row page passed left)) b ≡ account_after (account_at accounts b) (Program row page passed left)
   after_block b is =
       accounted-same s.geometry.pages accounts (Program row page passed left) b (sym is) (in_range accounts b (subst (λ k. (account_at accounts k).barred ≡ false) (sym is) due.good))
 

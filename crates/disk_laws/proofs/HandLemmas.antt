@@ -18,7 +18,7 @@ use Rattle.onfi_cycles.specs.Spelling.{erase_cycles, program_cycles}
 use Rattle.file_die.specs.Die.{FileState, shown}
 use Rattle.file_die.specs.Store.{Held}
 use Rattle.disk_laws.specs.Cut.{CallsToFault}
-use Rattle.disk_laws.specs.Driven.{Acts, AsksErase, AsksPage, AsksProgram, DriverCalls, DriverFails, EraseFails, NothingAsked, PageRead, ProgramFails, ReadFails, StandsReady}
+use Rattle.disk_laws.specs.Driven.{ActsOnCycle, AsksErase, AsksPage, AsksProgram, DriverCalls, DriverFails, EraseFails, NothingAsked, PageRead, ProgramFails, ReadFails, StandsReady}
 use Rattle.disk_laws.proofs.AskedRunLemmas.{Called, Driven, driven, no_cons, no_more}
 use Rattle.disk_laws.proofs.CallLemmas.{asked_erase, asked_program, erase_stands, page_stands, program_stands}
 use Rattle.disk_laws.proofs.DrivenLemmas.{calls_then, page_spared, tells}
@@ -85,7 +85,7 @@ module _ {S : Type 0} (held : S → Held) (honest : S → Bool) (failed : S → 
   }
 
   program_last : (op : Operation) (row : ℕ) (its : Page) (result : Result Outcome BusFault) (old mid last : DriverState (FileState S)) → row < row_count mid.geometry → length its.body ≡ mid.geometry.data_bytes
-      → length its.spare ≡ mid.geometry.spare_bytes → Operates (Acts held honest failed) mid.bus (program_cycles row its.body its.spare) result last.bus
+      → length its.spare ≡ mid.geometry.spare_bytes → Operates (ActsOnCycle held honest failed) mid.bus (program_cycles row its.body its.spare) result last.bus
       → IfOk result (λ outcome. honest mid.bus.store ≡ true → Steps (flash_by (shown held) mid) (Program row its (is_passed outcome) (page_at (flash_by (shown held) last) row)) (flash_by (shown held) last))
       → MatchResult result (λ outcome. last.told ≡ gained (Program row its (is_passed outcome) (page_at (flash_by (shown held) last) row)) mid.told) (λ fault. last.told ≡ cut_in (recording.asked_program row its) mid.told)
       → last.geometry ≡ mid.geometry → (mid.told.at_hand ≡ [] → Driven held honest failed old mid) → last.told.at_hand ≡ op ∷ [] → Back op old last
@@ -101,7 +101,7 @@ module _ {S : Type 0} (held : S → Held) (honest : S → Bool) (failed : S → 
       (operates_kept held honest failed mid.bus last.bus (program_cycles row its.body its.spare) (Err fault) sends ∙ so_far.still)
 
   erase_last : (op : Operation) (block : ℕ) (result : Result Outcome BusFault) (old mid last : DriverState (FileState S)) → block < mid.geometry.blocks
-      → Operates (Acts held honest failed) mid.bus (erase_cycles mid.geometry block) result last.bus
+      → Operates (ActsOnCycle held honest failed) mid.bus (erase_cycles mid.geometry block) result last.bus
       → IfOk result (λ outcome. honest mid.bus.store ≡ true → Steps (flash_by (shown held) mid) (Erase block (is_passed outcome) (block_at (flash_by (shown held) last) block)) (flash_by (shown held) last))
       → MatchResult result (λ outcome. last.told ≡ gained (Erase block (is_passed outcome) (block_at (flash_by (shown held) last) block)) mid.told) (λ fault. last.told ≡ cut_in (recording.asked_erase mid.geometry block) mid.told)
       → last.geometry ≡ mid.geometry → (mid.told.at_hand ≡ [] → Driven held honest failed old mid) → last.told.at_hand ≡ op ∷ [] → Back op old last

@@ -17,7 +17,7 @@ use Rattle.nbd_stream.specs.declared.fault.DiskFault.{DiskFault}
 use Rattle.ftl_device.specs.declared.device.Device.{Device}
 use Rattle.ftl_device.specs.declared.fault.DeviceFault.{DeviceFault}
 use Rattle.ftl_device.specs.declared.fault.DeviceFault.TheVariants.{BusFault}
-use Rattle.ftl_device.specs.Changes.{Logs, Refuses}
+use Rattle.ftl_device.specs.Changes.{Logs, RefusesCall}
 use Rattle.ftl_device.specs.Stopped.{Survives, changes_sector}
 use Rattle.disk_server.specs.Flat.{flat}
 use Rattle.disk_server.specs.Disk.{contents_of, change_answer}
@@ -33,7 +33,7 @@ module _ {N : Type 0} (view : View N) (old new : Device N) (found : Image) (call
       let one : at.log ≡ logs.went.log = one_gain (view.recorded old.engine.nand) (view.recorded new.engine.nand) at.log logs.went.log at.told at.records logs.went.records in
       logs.stopped (call.was.well call.held) at.told found (subst (λ l. MayLeave old.engine.geometry (view.flash old.engine.nand).image l found) one at.left)
 
-  went_on : (answer : Result (Unit {0}) DeviceFault) → Refuses view.failed old answer new → answer ≢ Err BusFault
+  went_on : (answer : Result (Unit {0}) DeviceFault) → RefusesCall view.failed old answer new → answer ≢ Err BusFault
   went_on answer refuses = no_bus (ram old.engine) (ram new.engine) answer refuses.says (parts view.honest new call.holds_on).1
 
   its_die : view.honest old.engine.nand ≡ true

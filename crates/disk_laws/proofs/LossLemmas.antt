@@ -5,7 +5,7 @@ use Rattle.page_layout.specs.Flash.{Erase, Operation, Program}
 use Rattle.page_layout.specs.Recording.{image_after}
 use Rattle.image_laws.specs.Power.{LosesSince}
 use Rattle.image_laws.proofs.PowerLemmas.{none_lost}
-use Rattle.disk_laws.specs.Lost.{AfterEraseLaw, AllGoneLaw, AllThereLaw, LostBy}
+use Rattle.disk_laws.specs.Lost.{LostAfterEraseLaw, AllGoneLaw, AllThereLaw, LostBy}
 
 pub all_there : AllThereLaw
 all_there pages stored image [] found same = subst (LosesSince stored image) (sym same) (none_lost stored image)
@@ -15,7 +15,7 @@ all_there pages stored image (Erase block passed left ∷ log) found (inl torn) 
 all_there pages stored image (Erase block passed left ∷ log) found (inr later) =
     inr (inr (all_there pages (image_after pages image (Erase block passed left)) (image_after pages image (Erase block passed left)) log found later))
 
-pub after_erase : AfterEraseLaw
+pub after_erase : LostAfterEraseLaw
 after_erase pages stored image block passed left log found later = inr (inr later)
 
 -- what was lost before operations is what may be lost with them

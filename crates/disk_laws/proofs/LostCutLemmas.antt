@@ -24,7 +24,7 @@ use Rattle.crash_recovery.proofs.Rows.{page_below, row_split}
 use Rattle.crash_recovery.proofs.TakenLemmas.{long_pages}
 use Rattle.ftl_device.specs.declared.device.Device.{Device}
 use Rattle.disk_laws.specs.Lost.{LostBy}
-use Rattle.disk_laws.specs.Runs.{DeviceCalls, Does, NoCall, OneMore, image_on}
+use Rattle.disk_laws.specs.Runs.{DeviceCalls, IsRecordedCall, NoCall, OneMore, image_on}
 use Rattle.disk_laws.specs.Spared.{IsMarkedBehind, LostCutLaw}
 use Rattle.disk_laws.specs.StoreRuns.{ErasesPass}
 use Rattle.disk_laws.proofs.FitLemmas.{Fits, erase_fits, program_fits, unsound}
@@ -189,7 +189,7 @@ module _ (g : Geometry) (mark : ℕ) where
 -- ---- calls one after another
 
 module _ {N : Type 0} (die : View N) (old : Device N) (mark : ℕ) (behind : (block : ℕ) → IsMarkedBehind old.engine.geometry (image_on die old) mark block) where
-  begins : (before : List Operation) (mid : Device N) (log : List Operation) (new : Device N) (run : DeviceCalls die old before mid) (does : Does die mid log new) (stored : Image)
+  begins : (before : List Operation) (mid : Device N) (log : List Operation) (new : Device N) (run : DeviceCalls die old before mid) (does : IsRecordedCall die mid log new) (stored : Image)
       → MarkedSince old.engine.geometry mark stored (image_on die mid)
       → StandsMarked old.engine.geometry mark (die.flash mid.engine.nand) (called_on die old before mid log new run does).accounts (called_on die old before mid log new run does).next stored
   begins before mid log new run does stored since =

@@ -32,14 +32,14 @@ use Rattle.nbd_stream.specs.declared.fault.DiskFault.{DiskFault}
 use Rattle.ftl_device.specs.declared.device.Device.{Device}
 use Rattle.ftl_device.specs.declared.fault.DeviceFault.{DeviceFault}
 use Rattle.ftl_device.specs.declared.fault.DeviceFault.TheVariants.{BusFault}
-use Rattle.ftl_device.specs.Changes.{Logs, Refuses}
+use Rattle.ftl_device.specs.Changes.{Logs, RefusesCall}
 use Rattle.disk_server.specs.Flat.{flat}
 use Rattle.disk_server.specs.Asked.{AsksCall}
 use Rattle.disk_server.specs.Disk.{AsksChange, AsksClear, AsksRead, ChangesOne, LeavesDie, holds}
 use Rattle.disk_server.proofs.Calls.{no_bus}
 use Rattle.disk_server.proofs.Holding.{back, parts}
 use Rattle.disk_laws.specs.Lost.{LostBy, MayLose}
-use Rattle.disk_laws.specs.Runs.{CutInCall, CutLeavesLaw, DeviceCalls, Does, HasOnTheWay, IsCutIn, IsDiskCall, IsFoundAfterLoss, KilledRunLaw, LostRunLaw, NoCall, OneCallLaw, OneMore, image_on}
+use Rattle.disk_laws.specs.Runs.{CutInCall, CutLeavesLaw, DeviceCalls, IsRecordedCall, HasOnTheWay, IsCutIn, IsDiskCall, IsFoundAfterLoss, KilledRunLaw, LostRunLaw, NoCall, OneCallLaw, OneMore, image_on}
 use Rattle.disk_laws.proofs.FitLemmas.{Fits}
 use Rattle.disk_laws.proofs.InOrderLemmas.{Filled}
 use Rattle.disk_laws.proofs.GrowLemmas.{GrewSince, Stands, since_begin}
@@ -138,11 +138,11 @@ pub record Called {N : Type 0} (g : Geometry) (most : ℕ) (die : View N) (befor
   pub survives : (left : Image) → MayLeave g before.image log left → (most ≤ 65536 → IsMountable g most left)
       × ((array_of g left ≡ array_of g before.image) ⊎ (array_of g left ≡ array_of g (image_on die new)))
 
-module _ {N : Type 0} (die : View N) (old : Device N) (log : List Operation) (new : Device N) (does : Does die old log new) where
+module _ {N : Type 0} (die : View N) (old : Device N) (log : List Operation) (new : Device N) (does : IsRecordedCall die old log new) where
   its_die : die.honest old.engine.nand ≡ true
   its_die = (parts die.honest old does.through.held).0
 
-  went_on : (answer : Result (Unit {0}) DeviceFault) → Refuses die.failed old answer new → answer ≢ Err BusFault
+  went_on : (answer : Result (Unit {0}) DeviceFault) → RefusesCall die.failed old answer new → answer ≢ Err BusFault
   went_on answer refuses = no_bus (ram old.engine) (ram new.engine) answer refuses.says (parts die.honest new does.through.holds_on).1
 
   truth : IsTrue None (ram old.engine) (image_on die old)
@@ -210,7 +210,7 @@ module _ {N : Type 0} (die : View N) (old : Device N) (log : List Operation) (ne
       })
 
 -- a sector that is cleared: a read, which leaves the die as it was, and then a trim, where that did not give zeros
-module _ {N : Type 0} (die : View N) (old : Device N) (log : List Operation) (new : Device N) (does : Does die old log new) where
+module _ {N : Type 0} (die : View N) (old : Device N) (log : List Operation) (new : Device N) (does : IsRecordedCall die old log new) where
   trimmed : (mid : Device N) (n : ℕ) (result : Result (Unit {0}) DiskFault) → AsksRead die old mid
       → AsksChange die n (Trim n) mid result new → Called old.engine.geometry (room_of (ram old.engine)) die (die.flash old.engine.nand) log new
   unfolding AsksCall ChangesOne
@@ -220,7 +220,7 @@ module _ {N : Type 0} (die : View N) (old : Device N) (log : List Operation) (ne
       let leaves : LeavesDie die old mid = reads.leaves does.through.held held in
       let sized : mid.engine.geometry ≡ old.engine.geometry =
       sym reads.disk.device.engine.geometry ∙ (ap (λ (s : Flash). s.geometry) leaves.die_same ∙ does.through.was.device.engine.geometry) in
-      let second : Does die mid log new = record {
+      let second : IsRecordedCall die mid log new = record {
         through = record { was = reads.disk; is = does.through.is; held = held; holds_on = does.through.holds_on };
         asks = inl (inr (inl (n, result, inl (Trim n, trims))));
         told = does.told;
@@ -261,7 +261,7 @@ module _ {N : Type 0} (die : View N) (old : Device N) where
       let its = called die mid more last does old.engine.geometry (room_of (ram old.engine)) at.0 at.1 in
       (its.sized, its.room)
 
-  pub called_on : (before : List Operation) (mid : Device N) (log : List Operation) (new : Device N) → DeviceCalls die old before mid → Does die mid log new
+  pub called_on : (before : List Operation) (mid : Device N) (log : List Operation) (new : Device N) → DeviceCalls die old before mid → IsRecordedCall die mid log new
       → Called old.engine.geometry (room_of (ram old.engine)) die (die.flash mid.engine.nand) log new
   called_on before mid log new run does = (let at = run_sized before mid run in called die mid log new does old.engine.geometry (room_of (ram old.engine)) at.0 at.1)
 
@@ -275,13 +275,13 @@ module _ {N : Type 0} (die : View N) (old : Device N) where
 
   -- ---- killed
 
-  in_call : (before : List Operation) (mid : Device N) (log : List Operation) (new : Device N) (found : Image) → DeviceCalls die old before mid → Does die mid log new
+  in_call : (before : List Operation) (mid : Device N) (log : List Operation) (new : Device N) (found : Image) → DeviceCalls die old before mid → IsRecordedCall die mid log new
       → MayLeave old.engine.geometry (image_on die mid) log found → CutInCall die old mid log new found
   in_call before mid log new found run does left =
       let s = (called_on before mid log new run does).survives found left in
       record { cut = left; whole = elim s.1 [ inl was ↦ inl (ap flat was) | inr now ↦ inr (ap flat now) ]; mounts = s.0 }
 
-  killed : (before : List Operation) (mid : Device N) (log : List Operation) (new : Device N) (found : Image) (run : DeviceCalls die old before mid) (does : Does die mid log new)
+  killed : (before : List Operation) (mid : Device N) (log : List Operation) (new : Device N) (found : Image) (run : DeviceCalls die old before mid) (does : IsRecordedCall die mid log new)
       → MayLeave old.engine.geometry (image_on die old) (before ++ log) found → IsCutIn die old (before ++ log) new (OneMore before mid log new run does) found
   killed before mid log new found NoCall does m = inr (in_call [] old log new found NoCall does m)
   killed before mid log new found (OneMore earlier first more last run one) does m = elim ((stops_join old.engine.geometry.pages (image_on die old) found (earlier ++ more) log).0 m.by) [
@@ -311,7 +311,7 @@ module _ {N : Type 0} (die : View N) (old : Device N) where
   way_end log new n NoCall = refl
   way_end log new n (OneMore before mid more last run does) = inr refl
 
-  module _ (before : List Operation) (mid : Device N) (log : List Operation) (new : Device N) (run : DeviceCalls die old before mid) (does : Does die mid log new) where
+  module _ (before : List Operation) (mid : Device N) (log : List Operation) (new : Device N) (run : DeviceCalls die old before mid) (does : IsRecordedCall die mid log new) where
     abbrev pub its : Called old.engine.geometry (room_of (ram old.engine)) die (die.flash mid.engine.nand) log new
     its = called_on before mid log new run does
 
@@ -381,7 +381,7 @@ module _ {N : Type 0} (die : View N) (old : Device N) where
         (ap (λ i. lasts_after pages (lasting before) i more) (sym (run_image before mid run)) ∙ sym (lasts_join pages (image_on die old) (image_on die old) before more)) now
 
     -- the power goes in the last of the calls
-    lost_in : (before : List Operation) (mid : Device N) (log : List Operation) (new : Device N) (found : Image) (run : DeviceCalls die old before mid) (does : Does die mid log new) → IsImage old.engine.geometry found
+    lost_in : (before : List Operation) (mid : Device N) (log : List Operation) (new : Device N) (found : Image) (run : DeviceCalls die old before mid) (does : IsRecordedCall die mid log new) → IsImage old.engine.geometry found
         → LostBy old.engine.geometry.pages (lasting before) (image_on die mid) log found → IsFoundAfterLoss die old (before ++ log) new (OneMore before mid log new run does) found
     lost_in before mid log new found run does whole by =
         let c = called_on before mid log new run does in
@@ -390,7 +390,7 @@ module _ {N : Type 0} (die : View N) (old : Device N) where
         c.next (lasting before) found (goes before mid log new run does few (lasting before) so_far) c.leads c.legal c.numbers whole by in
         record { one = f.one; mounts = f.mounts; sectors = f.sectors }
 
-    lost_run : (before : List Operation) (mid : Device N) (log : List Operation) (new : Device N) (found : Image) (run : DeviceCalls die old before mid) (does : Does die mid log new)
+    lost_run : (before : List Operation) (mid : Device N) (log : List Operation) (new : Device N) (found : Image) (run : DeviceCalls die old before mid) (does : IsRecordedCall die mid log new)
         → MayLose old.engine.geometry (image_on die old) (before ++ log) found → IsFoundAfterLoss die old (before ++ log) new (OneMore before mid log new run does) found
     lost_run before mid log new found NoCall does m = lost_in [] old log new found NoCall does m.whole m.by
     lost_run before mid log new found (OneMore earlier first more last run one) does m =

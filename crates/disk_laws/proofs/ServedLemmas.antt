@@ -7,7 +7,7 @@ use Rattle.nbd_stream.specs.declared.reply.RequestError.{RequestError}
 use Rattle.nbd_stream.specs.declared.task.Task.{Task}
 use Rattle.nbd_stream.specs.declared.task.Task.TheVariants.{Read, Write, Flush, Trim, WriteZeroes}
 use Rattle.nbd_stream.specs.Disk.{Contents, asked_as}
-use Rattle.nbd_stream.specs.Exchanges.{Exchange, RestsBy, Round, TellsBy, ToldEachRound, task_of}
+use Rattle.nbd_stream.specs.Exchanges.{NbdExchange, RestsBy, Round, TellsBy, ToldEachRound, task_of}
 use Rattle.nbd_stream.specs.Through.{Through}
 use Rattle.disk_server.specs.declared.mark.SyncMark.{SyncMark}
 use Rattle.disk_server.specs.declared.synced.SyncedDisk.{SyncedDisk}
@@ -74,7 +74,7 @@ module _ {S Y : Type 0} (contents : S → Contents) (honest : S → Bool) (reads
 
   -- ---- rounds
 
-  run_tells : (asked : Result Task RequestError) (old new : SyncedDisk S Y) (x : Exchange)
+  run_tells : (asked : Result Task RequestError) (old new : SyncedDisk S Y) (x : NbdExchange)
       (is : TellsBy (λ s. contents s.disk) (λ s. honest s.disk) (λ _. false) (SyncsTask Does synced failed marked next) asked old x new) → IsRunOf One (tells_asked contents honest reads changes flushes rests synced failed marked next asked old new x is) old.disk new.disk
   run_tells (Err e) old new x is = run_none One old.disk new.disk (same_disk old new is.1)
   run_tells (Ok task) old new x is = run_syncs old new (asked_as task) is.1.done is.1.does_so

@@ -12,12 +12,12 @@ use Rattle.nbd_stream.specs.Through.{Through, Times}
 use Rattle.ftl_device.specs.declared.device.Device.{Device}
 use Rattle.ftl_device.specs.declared.fault.DeviceFault.{DeviceFault}
 use Rattle.ftl_device.specs.declared.fault.DeviceFault.TheVariants.{BusFault}
-use Rattle.ftl_device.specs.Changes.{Logs, Refuses, Stays}
+use Rattle.ftl_device.specs.Changes.{Logs, RefusesCall, Stays}
 use Rattle.disk_server.specs.Asked.{AsksCall}
 use Rattle.disk_server.specs.Disk.{AsksChange, AsksClear, AsksFlush, AsksRead, AsksTurn, ChangesOne, IsDisk, holds}
 use Rattle.disk_server.proofs.Calls.{no_bus}
 use Rattle.disk_server.proofs.Holding.{back, parts}
-use Rattle.disk_laws.specs.Runs.{DeviceCalls, Does, IsDiskCall, NoCall, OneMore, SessionLaw, calls_of}
+use Rattle.disk_laws.specs.Runs.{DeviceCalls, IsRecordedCall, IsDiskCall, NoCall, OneMore, SessionLaw, calls_of}
 
 module _ {N : Type 0} (die : View N) where
   -- a call that a session asked, and what it leaves to the call before it
@@ -25,7 +25,7 @@ module _ {N : Type 0} (die : View N) where
     pub held : holds die.honest old ≡ true
     pub told : IsSome (die.recorded old.engine.nand)
     pub log : List Operation
-    pub does : Does die old log new
+    pub does : IsRecordedCall die old log new
     pub same : does.asks ≡ call
 
   module _ (old new : Device N) (was : IsDisk die old) (on : holds die.honest new ≡ true) (some : IsSome (die.recorded new.engine.nand)) where
@@ -38,10 +38,10 @@ module _ {N : Type 0} (die : View N) where
       same = refl;
     }
 
-    back_by : (answer : Result (Unit {0}) DeviceFault) → Stays die old new → Refuses die.failed old answer new → holds die.honest old ≡ true
+    back_by : (answer : Result (Unit {0}) DeviceFault) → Stays die old new → RefusesCall die.failed old answer new → holds die.honest old ≡ true
     back_by answer stays refuses = back die.honest old new answer stays.honest_is refuses.stopped on
 
-    logged : (command : Command) (answer : Result (Unit {0}) DeviceFault) → holds die.honest old ≡ true → Refuses die.failed old answer new
+    logged : (command : Command) (answer : Result (Unit {0}) DeviceFault) → holds die.honest old ≡ true → RefusesCall die.failed old answer new
         → (die.honest old.engine.nand ≡ true → answer ≢ Err BusFault → Logs die command old answer new)
         → (log : List Operation) × Records (die.recorded old.engine.nand) log (die.recorded new.engine.nand)
     logged command answer held refuses logs =

@@ -22,7 +22,7 @@ use Rattle.crash_recovery.specs.Laws.{TakesNoNewest}
 use Rattle.crash_recovery.proofs.Rows.{page_below, row_split, same_at, unsound_in}
 use Rattle.crash_recovery.proofs.TakenLemmas.{dead, dead_spare, long_pages, spare}
 use Rattle.crash_recovery.proofs.TakesLemmas.{takes_none}
-use Rattle.disk_laws.specs.Spared.{AllMarkedLaw, CutSparesLaw, CutsSpare, IsMarkedBehind, IsRecoveredOften, IsRecoveredOnce, LaterMarkLaw, NotOpened, OpenedOnce, OpeningSparesLaw, UnmarkedLaw}
+use Rattle.disk_laws.specs.Spared.{AllMarkedLaw, CutSparesLaw, CutsSpare, IsMarkedBehind, IsRecoveredOften, IsRecoveredOnce, LaterMarkLaw, NotOpened, OpenedOnce, OpeningSparesLaw, UnmarkedBehindLaw}
 
 -- ---- which images
 
@@ -49,7 +49,7 @@ cut_spares g image mark cuts row is_cut key top = elim (cuts (row / g.pages)) [
   | inr none ↦ none.none key row top refl
 ]
 
-pub unmarked : UnmarkedLaw
+pub unmarked : UnmarkedBehindLaw
 unmarked g image mark block a k key r order within none top has above cuts = elim (cuts block) [
   | inl behind ↦ (let below = behind.marked a k r order within none has in omega (arith, below, above))
   | inr empty ↦ empty.none key (row_in g block k) top (div-mul-add block g.pages k within)

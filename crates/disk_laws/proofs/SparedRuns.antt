@@ -21,7 +21,7 @@ use Rattle.collection.specs.Log.{NumbersFrom}
 use Rattle.ftl_device.specs.declared.device.Device.{Device}
 use Rattle.disk_server.specs.Flat.{flat}
 use Rattle.disk_server.specs.Disk.{IsDisk, holds}
-use Rattle.disk_laws.specs.Runs.{DeviceCalls, Does, IsCutIn, NoCall, OneMore, image_on}
+use Rattle.disk_laws.specs.Runs.{DeviceCalls, IsRecordedCall, IsCutIn, NoCall, OneMore, image_on}
 use Rattle.disk_laws.specs.Spared.{CutsSpare, IsWholeAfter, KilledOpenedLaw, KilledSparesLaw, OwnMarkLaw}
 use Rattle.disk_laws.proofs.FitLemmas.{Fits, erase_fits, program_fits, unsound}
 use Rattle.disk_laws.proofs.GrowLemmas.{one_of}
@@ -98,7 +98,7 @@ module _ {N : Type 0} (die : View N) (old : Device N) (mark : ℕ) (few : room_o
   abbrev g : Geometry
   g = old.engine.geometry
 
-  call_spare : (before : List Operation) (mid : Device N) (log : List Operation) (new : Device N) (found : Image) → DeviceCalls die old before mid → Does die mid log new
+  call_spare : (before : List Operation) (mid : Device N) (log : List Operation) (new : Device N) (found : Image) → DeviceCalls die old before mid → IsRecordedCall die mid log new
       → CutsSpare g (image_on die mid) mark → MayLeave g (image_on die mid) log found → CutsSpare g found mark
   call_spare before mid log new found run does cuts m =
       let c = called_on die old before mid log new run does in
@@ -115,7 +115,7 @@ module _ {N : Type 0} (die : View N) (old : Device N) (mark : ℕ) (few : room_o
       c.leads c.legal c.numbers m.by
 
   -- the pages after a call are what a stop behind its last operation leaves
-  ends : (before : List Operation) (mid : Device N) (log : List Operation) (new : Device N) → DeviceCalls die old before mid → Does die mid log new → MayLeave g (image_on die mid) log (image_on die new)
+  ends : (before : List Operation) (mid : Device N) (log : List Operation) (new : Device N) → DeviceCalls die old before mid → IsRecordedCall die mid log new → MayLeave g (image_on die mid) log (image_on die new)
   ends before mid log new run does =
       let c = called_on die old before mid log new run does in
       let is : image_on die new ≡ image_after_all g.pages (image_on die mid) log =

@@ -15,7 +15,7 @@ use Rattle.collection.specs.Safe.{ram}
 use Rattle.collection.specs.Stops.{room_of}
 use Rattle.ftl_device.specs.declared.device.Device.{Device}
 use Rattle.ftl_device.specs.declared.fault.DeviceFault.TheVariants.{BusFault}
-use Rattle.ftl_device.specs.Changes.{Changes, IsCut, Upkeeps}
+use Rattle.ftl_device.specs.Changes.{Changes, IsCallCut, Upkeeps}
 use Rattle.ftl_device.specs.Stopped.{SurvivesCut}
 use Rattle.disk_server.specs.Disk.{AsksChange, AsksFlush, AsksTurn, IsDisk, holds}
 use Rattle.disk_server.specs.Opened.{view_in}
@@ -67,12 +67,12 @@ DiskFaultLaw {N} die = (old new : Device N) (result : Result (Unit {0}) DiskFaul
 
 -- the record of the die tells what such a call did and what it had at hand, and whatever the die is left with by these is so
 abbrev pub FaultIsCutLaw : {N : Type 0} → View N → Type 0
-FaultIsCutLaw {N} die = (old new : Device N) (command : Command) → Faults die command old new → IsCut die command old new
+FaultIsCutLaw {N} die = (old new : Device N) (command : Command) → Faults die command old new → IsCallCut die command old new
 
 -- CALLS ONE AFTER ANOTHER, AND A LAST ONE THAT A FAULT OF THE DIE ENDED: whatever the die is left with, by the operations of all of them and the one at hand, mounts, and each call that had ended is in it, and the one at hand
 -- whole or not at all
 abbrev pub CutCallLaw : {N : Type 0} → View N → Type 0
-CutCallLaw {N} die = (old last new : Device N) (log : List Operation) (command : Command) (found : Image) (run : DeviceCalls die old log last) → Faults die command last new → (cut : IsCut die command last new)
+CutCallLaw {N} die = (old last new : Device N) (log : List Operation) (command : Command) (found : Image) (run : DeviceCalls die old log last) → Faults die command last new → (cut : IsCallCut die command last new)
     → MayLeave old.engine.geometry (image_on die old) (log ++ (cut.log ++ cut.at_hand)) found
     → IsCutIn die old log last run found ⊎ CutInLast die old last command (cut.log ++ cut.at_hand) found
 
@@ -85,19 +85,19 @@ CutCallLeavesLaw {N} die = (old last : Device N) (log more : List Operation) (co
 -- nothing was programmed or erased behind that
 abbrev pub ToldCutLaw : {S : Type 0} → (S → Held) → (honest : S → Bool) → (failed : S → ℕ) → Type 0
 ToldCutLaw {S} held honest failed = (old new : Device (DriverState (FileState S))) (command : Command) → StandsReady held old.engine.nand → old.engine.nand.told.at_hand ≡ []
-    → Faults (view_in held honest failed) command old new → (cut : IsCut (view_in held honest failed) command old new)
+    → Faults (view_in held honest failed) command old new → (cut : IsCallCut (view_in held honest failed) command old new)
     → CallsToFault held honest failed old.engine.nand cut.log cut.at_hand new.engine.nand
 
 -- SO FOR THE STORE, behind a call that a fault of its die ended: its pages are an image that mounts, with the array from before that call, or of a change of a sector from after it; and the calls before it are in it
 abbrev pub StoreCutLaw : {S : Type 0} → (S → Held) → (honest : S → Bool) → (failed : S → ℕ) → Type 0
 StoreCutLaw {S} held honest failed = (old last new : Device (DriverState (FileState S))) (log : List Operation) (command : Command) → DeviceCalls (view_in held honest failed) old log last → StandsClear held honest failed old
-    → Faults (view_in held honest failed) command last new → (cut : IsCut (view_in held honest failed) command last new)
+    → Faults (view_in held honest failed) command last new → (cut : IsCallCut (view_in held honest failed) command last new)
     → CutInLast (view_in held honest failed) old last command (cut.log ++ cut.at_hand) (store_behind held new.engine.nand).pages
 
 -- and what lasts of it, where the power goes behind that and all pages had lasted at first, is what a loss of power may leave by the operations of all of them and the one at hand: those of the last call each program a row without a
 -- record, and no erase failed
 abbrev pub StoreCutLosesLaw : {S : Type 0} → (S → Held) → (honest : S → Bool) → (failed : S → ℕ) → Type 0
 StoreCutLosesLaw {S} held honest failed = (old last new : Device (DriverState (FileState S))) (log : List Operation) (command : Command) → DeviceCalls (view_in held honest failed) old log last → StandsSynced held honest failed old
-    → ErasesPass log → Faults (view_in held honest failed) command last new → (cut : IsCut (view_in held honest failed) command last new)
+    → ErasesPass log → Faults (view_in held honest failed) command last new → (cut : IsCallCut (view_in held honest failed) command last new)
     → AddsOrErases old.engine.geometry.pages (image_on (view_in held honest failed) last) (cut.log ++ cut.at_hand)
     → MayLose old.engine.geometry (image_on (view_in held honest failed) old) (log ++ (cut.log ++ cut.at_hand)) (store_behind held new.engine.nand).durable

@@ -20,8 +20,8 @@ use Rattle.file_die.specs.Store.{Held, AreImages, page_in}
 use Rattle.disk_laws.specs.Lost.{MayLose}
 
 -- what a die in a store says of one cycle: its bus's own word of it, `called`
-abbrev pub Acts : {S : Type 0} → (S → Held) → (honest : S → Bool) → (failed : S → ℕ) → FileState S → Cycle → Result (Unit {0}) BusFault → List ℕ → FileState S → Type 0
-Acts held honest failed old cycle answer out new = ActsOverStore held honest failed (due_of (held old.store).geometry old.phase cycle) old new answer
+abbrev pub ActsOnCycle : {S : Type 0} → (S → Held) → (honest : S → Bool) → (failed : S → ℕ) → FileState S → Cycle → Result (Unit {0}) BusFault → List ℕ → FileState S → Type 0
+ActsOnCycle held honest failed old cycle answer out new = ActsOverStore held honest failed (due_of (held old.store).geometry old.phase cycle) old new answer
 
 -- the store behind a driver
 abbrev pub store_behind : {S : Type 0} → (S → Held) → DriverState (FileState S) → Held
@@ -39,7 +39,7 @@ pub record AsksProgram {S : Type 0} (held : S → Held) (honest : S → Bool) (f
   pub in_range : row < row_count old.geometry
   pub body_whole : length body ≡ old.geometry.data_bytes
   pub spare_whole : length spare ≡ old.geometry.spare_bytes
-  pub sends : Operates (Acts held honest failed) old.bus (program_cycles row body spare) result new.bus
+  pub sends : Operates (ActsOnCycle held honest failed) old.bus (program_cycles row body spare) result new.bus
   pub step : IfOk result (λ outcome. Steps (flash_by (shown held) old) (Program row (page body spare) (is_passed outcome) (page_at (flash_by (shown held) new) row)) (flash_by (shown held) new))
   pub told : MatchResult result (λ outcome. new.told ≡ gained (Program row (page body spare) (is_passed outcome) (page_at (flash_by (shown held) new) row)) old.told)
       (λ fault. new.told ≡ cut_in (asked_program row (page body spare)) old.told)
@@ -47,7 +47,7 @@ pub record AsksProgram {S : Type 0} (held : S → Held) (honest : S → Bool) (f
 pub record AsksErase {S : Type 0} (held : S → Held) (honest : S → Bool) (failed : S → ℕ) (block : ℕ) (old : DriverState (FileState S)) (result : Result Outcome BusFault) (new : DriverState (FileState S)) : Type 0 where
   pub stands : StandsReady held old
   pub in_range : block < old.geometry.blocks
-  pub sends : Operates (Acts held honest failed) old.bus (erase_cycles old.geometry block) result new.bus
+  pub sends : Operates (ActsOnCycle held honest failed) old.bus (erase_cycles old.geometry block) result new.bus
   pub step : IfOk result (λ outcome. Steps (flash_by (shown held) old) (Erase block (is_passed outcome) (block_at (flash_by (shown held) new) block)) (flash_by (shown held) new))
   pub told : MatchResult result (λ outcome. new.told ≡ gained (Erase block (is_passed outcome) (block_at (flash_by (shown held) new) block)) old.told)
       (λ fault. new.told ≡ cut_in (asked_erase old.geometry block) old.told)
@@ -56,10 +56,10 @@ pub record AsksPage {S : Type 0} (held : S → Held) (honest : S → Bool) (fail
     (new : DriverState (FileState S)) : Type 0 where
   pub stands : StandsReady held old
   pub in_range : row < row_count old.geometry
-  pub sends : SendsRead (Acts held honest failed) old.bus (read_cycles row old.geometry.data_bytes old.geometry.spare_bytes) out result new.bus
+  pub sends : SendsRead (ActsOnCycle held honest failed) old.bus (read_cycles row old.geometry.data_bytes old.geometry.spare_bytes) out result new.bus
   pub told : new.told ≡ old.told
 
--- WHAT A PROGRAM OR AN ERASE DID IN THE STORE: answered `Ok` it was done there, where its block's turn allows it; with a fault it was not begun, or was, and was done or failed
+-- WHAT A PROGRAM OR AN ERASE DID IN THE STORE: answered `Ok` it was done there, where its block's next page allows it; with a fault it was not begun, or was, and was done or failed
 abbrev pub LeavesStore : {S : Type 0} → (held : S → Held) → Due → (old : DriverState (FileState S)) → Result Outcome BusFault → (new : DriverState (FileState S)) → Type 0
 LeavesStore held due old (Ok outcome) new = Leaves due (shown held old.bus).flash old.bus.sync_when (store_behind held old) true (store_behind held new)
 LeavesStore held due old (Err fault) new =

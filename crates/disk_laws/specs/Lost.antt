@@ -34,8 +34,8 @@ abbrev pub AllThereLaw : Type 0
 AllThereLaw = (pages : ℕ) (stored image : Image) (log : List Operation) (found : Image) → LeftBy pages image log found → LostBy pages stored image log found
 
 -- nothing that came after an erase takes back what was there as it ended: what may be lost then is what may be lost of the operations behind it
-abbrev pub AfterEraseLaw : Type 0
-AfterEraseLaw = (pages : ℕ) (stored image : Image) (block : ℕ) (passed : Bool) (left : List Page) (log : List Operation) (found : Image)
+abbrev pub LostAfterEraseLaw : Type 0
+LostAfterEraseLaw = (pages : ℕ) (stored image : Image) (block : ℕ) (passed : Bool) (left : List Page) (log : List Operation) (found : Image)
     → LostBy pages (image_after pages image (Erase block passed left)) (image_after pages image (Erase block passed left)) log found → LostBy pages stored image (Erase block passed left ∷ log) found
 
 -- BEFORE THE FIRST ERASE nothing is sure but what lasted: all that was programmed since may be gone

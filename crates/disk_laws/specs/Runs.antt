@@ -33,7 +33,7 @@ IsDiskCall die = AsksOneOf (AsksRead die) (ChangesOne die)
     (AsksFlush die) (AsksTurn die)
 
 -- one call of a device that holds its array through it, and the operations that the record of its die gained in it
-pub record Does {N : Type 0} (die : View N) (old : Device N) (log : List Operation) (new : Device N) : Type 0 where
+pub record IsRecordedCall {N : Type 0} (die : View N) (old : Device N) (log : List Operation) (new : Device N) : Type 0 where
   pub through : HoldsThrough die old new
   pub asks : IsDiskCall die old new
   pub told : IsSome (die.recorded new.engine.nand)
@@ -42,7 +42,7 @@ pub record Does {N : Type 0} (die : View N) (old : Device N) (log : List Operati
 -- CALLS ONE AFTER ANOTHER, with the operations of all of them
 pub data DeviceCalls {N : Type 0} (die : View N) (old : Device N) : List Operation → Device N → Type 0 where
   NoCall : DeviceCalls die old [] old
-  OneMore : (before : List Operation) (mid : Device N) (log : List Operation) (new : Device N) → DeviceCalls die old before mid → Does die mid log new → DeviceCalls die old (before ++ log) new
+  OneMore : (before : List Operation) (mid : Device N) (log : List Operation) (new : Device N) → DeviceCalls die old before mid → IsRecordedCall die mid log new → DeviceCalls die old (before ++ log) new
 
 -- THE CALLS THAT THESE ARE, without what is known of each: which one asked what, of which sector, and how many there are
 unfoldable pub calls_of : {N : Type 0} → (die : View N) → (old : Device N) → (log : List Operation) → (new : Device N) → DeviceCalls die old log new → Through (IsDiskCall die) old new
@@ -82,7 +82,7 @@ pub record IsFoundAfterLoss {N : Type 0} (die : View N) (old : Device N) (log : 
 
 -- one call is calls one after another
 abbrev pub OneCallLaw : {N : Type 0} → View N → Type 0
-OneCallLaw {N} die = (old new : Device N) (log : List Operation) → Does die old log new → DeviceCalls die old log new
+OneCallLaw {N} die = (old new : Device N) (log : List Operation) → IsRecordedCall die old log new → DeviceCalls die old log new
 
 -- ALL THAT IS ASKED IN A SESSION is such calls, and these very ones, where the device holds its array at its end, and its die tells a record then
 abbrev pub SessionLaw : {N : Type 0} → View N → Type 0

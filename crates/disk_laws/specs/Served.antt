@@ -8,7 +8,7 @@ use Rattle.nbd_stream.specs.declared.request.StreamEnd.{StreamEnd}
 use Rattle.nbd_stream.specs.declared.task.Task.{Task}
 use Rattle.nbd_stream.specs.declared.task.Task.TheVariants.{Read, Write, Flush, Trim, WriteZeroes}
 use Rattle.nbd_stream.specs.Disk.{Contents, asked_as}
-use Rattle.nbd_stream.specs.Exchanges.{Exchange, RestsBy, Round, TellsBy, ToldEachRound, task_of}
+use Rattle.nbd_stream.specs.Exchanges.{NbdExchange, RestsBy, Round, TellsBy, ToldEachRound, task_of}
 use Rattle.nbd_stream.specs.Through.{Through}
 use Rattle.nbd_stream.specs.Transmission.{Serves}
 use Rattle.request_stream.specs.declared.reply.ServeFault.{ServeFault}
@@ -66,7 +66,7 @@ module _ {S Y : Type 0} (contents : S → Contents) (honest : S → Bool) (reads
   syncs_asked old new task result is = asked_unless old.failed (λ going. ends_asked old new task result (is.ends going))
 
   -- A ROUND'S: those of its task, where it was not refused, and its rest, where there was one
-  abbrev pub tells_asked : (asked : Result Task RequestError) (old new : SyncedDisk S Y) (x : Exchange)
+  abbrev pub tells_asked : (asked : Result Task RequestError) (old new : SyncedDisk S Y) (x : NbdExchange)
       → TellsBy (λ s. contents s.disk) (λ s. honest s.disk) (λ _. false) (SyncsTask DoesTask synced failed marked next) asked old x new → List (CallMade IsSectorCall)
   tells_asked (Err e) old new x is = []
   tells_asked (Ok task) old new x is = syncs_asked old new (asked_as task) is.1.done is.1.does_so

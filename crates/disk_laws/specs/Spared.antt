@@ -72,8 +72,8 @@ abbrev pub CutSparesLaw : Type 0
 CutSparesLaw = (g : Geometry) (image : Image) (mark : ℕ) → CutsSpare g image mark → TakesNoNewest (IsCut g image mark) image
 
 -- and it is said of no image in which a newest page that is not marked stands behind one without a record, in its block
-abbrev pub UnmarkedLaw : Type 0
-UnmarkedLaw = (g : Geometry) (image : Image) (mark block a k : ℕ) (key : Key) (r : Record) → a < k → k < g.pages → IsUnsoundAt image (row_in g block a)
+abbrev pub UnmarkedBehindLaw : Type 0
+UnmarkedBehindLaw = (g : Geometry) (image : Image) (mark block a k : ℕ) (key : Key) (r : Record) → a < k → k < g.pages → IsUnsoundAt image (row_in g block a)
     → newest (marks image) key ≡ Some (row_in g block k) → get_or (marks image) (row_in g block k) None ≡ Some r → mark ≤ r.sequence → ¬ CutsSpare g image mark
 
 -- AN OPENING LOSES NOTHING THEN, whole or not: the pages that it leaves stand for those that it found, and it is so of them again

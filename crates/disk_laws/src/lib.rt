@@ -4,7 +4,7 @@
 
 ghost use Rattle.disk_laws.specs.AskedRuns.{AsksDriverLaw, RunAsksLaw};
 ghost use Rattle.disk_laws.specs.Cut.{CutCallLaw, CutCallLeavesLaw, DiskFaultLaw, FaultIsCutLaw, StoreCutLaw, StoreCutLosesLaw, ToldCutLaw};
-ghost use Rattle.disk_laws.specs.Lost.{AfterEraseLaw, AllGoneLaw, AllThereLaw};
+ghost use Rattle.disk_laws.specs.Lost.{LostAfterEraseLaw, AllGoneLaw, AllThereLaw};
 ghost use Rattle.disk_laws.specs.Driven.{DriverLosesLaw, DriverStopsLaw, DriverTellsLaw, StopLosesLaw};
 ghost use Rattle.disk_laws.specs.StoreLost.{StoreLosesLaw};
 ghost use Rattle.disk_laws.specs.StoreRuns.{StoreRunLaw};
@@ -12,7 +12,7 @@ ghost use Rattle.disk_laws.specs.Runs.{CutLeavesLaw, KilledRunLaw, LostRunLaw, O
 ghost use Rattle.disk_laws.specs.Served.{ClosedSessionLaw, ServedSessionLaw};
 ghost use Rattle.disk_laws.specs.Sessions.{ReopenedSessionLaw, StoreSessionLaw};
 ghost use Rattle.disk_laws.specs.Killed.{FoundAsItWasLaw, FoundTornLaw, KilledChangeLaw, KilledFlushLaw, KilledTurnLaw, StoreTellsLaw};
-ghost use Rattle.disk_laws.specs.Spared.{AllMarkedLaw, CutSparesLaw, LaterMarkLaw, OpeningSparesLaw, UnmarkedLaw};
+ghost use Rattle.disk_laws.specs.Spared.{AllMarkedLaw, CutSparesLaw, LaterMarkLaw, OpeningSparesLaw, UnmarkedBehindLaw};
 ghost use Rattle.disk_laws.specs.Spared.{KilledOpenedLaw, KilledSparesLaw, LostCutLaw, LostOpenedLaw, OwnMarkLaw};
 
 mod driver_calls;
@@ -42,7 +42,7 @@ pub fn store_laws<S: Store>()
 /// lost. What lasts of a store whose die goes on by cycles that are done, each program of a row without a record, is what may be left so. (This project.)
 pub fn loss_laws()
     ensures there { AllThereLaw }
-    ensures erased { AfterEraseLaw }
+    ensures erased { LostAfterEraseLaw }
     ensures gone { AllGoneLaw }
     ensures store { StoreLosesLaw }
 {}
@@ -65,7 +65,7 @@ pub fn spared_laws()
     ensures marked { AllMarkedLaw }
     ensures later { LaterMarkLaw }
     ensures cut { CutSparesLaw }
-    ensures unmarked { UnmarkedLaw }
+    ensures unmarked { UnmarkedBehindLaw }
     ensures opening { OpeningSparesLaw }
 {}
 

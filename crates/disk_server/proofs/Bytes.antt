@@ -6,7 +6,7 @@ use Rattle.std.proofs.lemmas.List.{drop_at, take_at, take-append-drop, drop-drop
 use Rattle.std.proofs.lemmas.Nat.{div-add-mod'}
 use Rattle.std.proofs.Math.Nat.{mul-le-mul_right}
 use Rattle.std.proofs.Math.Seq.{take-add}
-use Rattle.nbd_stream.specs.Disk.{IsEither, with_bytes}
+use Rattle.nbd_stream.specs.Disk.{IsOldOrDue, with_bytes}
 use Rattle.nbd_stream.proofs.DiskLemmas.{before_it, inside_it, past_it}
 
 -- ---- a list in parts
@@ -73,7 +73,7 @@ range_more s o k m place is =
     ap (λ (l : List ℕ). l ++ slice_range s place (place + m)) first ∙ ap (λ (l : List ℕ). take k (drop o s) ++ l) later ∙ sym (take-add k m (drop o s)) ∙ sym both
 
 -- where a front of a range is set, each byte is as it was or as the whole range sets it
-pub front_either : (front rest s : List ℕ) (o p : ℕ) → o + length (front ++ rest) ≤ length s → IsEither s (with_bytes o (front ++ rest) s) (with_bytes o front s) p
+pub front_either : (front rest s : List ℕ) (o p : ℕ) → o + length (front ++ rest) ≤ length s → IsOldOrDue s (with_bytes o (front ++ rest) s) (with_bytes o front s) p
 front_either front rest s o p fits =
     let fits' : o + length front ≤ length s = omega (arith, length-append front rest, fits) in
     let more : length front ≤ length (front ++ rest) = omega (arith, length-append front rest) in

@@ -6,13 +6,13 @@ use Rattle.page_layout.specs.View.{View}
 use Rattle.page_layout.specs.declared.geometry.Geometry.{Geometry}
 use Rattle.page_layout.specs.Array.{zeros}
 use Rattle.promises.specs.Step as step
-use Rattle.promises.specs.Step.{State, Command, Reply, ArrayStep, ReadStep, WriteStep, QuietStep}
+use Rattle.promises.specs.Step.{ArrayState, Command, Reply, ArrayStep, ReadStep, WriteStep, QuietStep}
 use Rattle.promises.proofs.StepLemmas as steps
 use Rattle.nbd_stream.specs.declared.fault.DiskFault.TheVariants as fault
 use Rattle.nbd_stream.specs.declared.reply.RequestError.{RequestError}
 use Rattle.nbd_stream.specs.declared.task.Task.{Task}
 use Rattle.nbd_stream.specs.declared.task.Task.TheVariants.{Write, Flush, Trim}
-use Rattle.nbd_stream.specs.Disk.{Idles, MayAnswer, IsOfChange, PerformsTask, answer_from, count_given, error_for, with_bytes}
+use Rattle.nbd_stream.specs.Disk.{Idles, MayFailWith, IsOfChange, PerformsTask, answer_from, count_given, error_for, with_bytes}
 use Rattle.disk_server.specs.Flat.{AreSectors, flat}
 use Rattle.disk_server.proofs.FlatLemmas.{flat_law}
 use Rattle.collection.specs.declared.fault.EngineFault.{EngineFault}
@@ -24,7 +24,7 @@ use Rattle.ftl_device.specs.declared.fault.DeviceFault.{DeviceFault}
 use Rattle.ftl_device.specs.declared.fault.DeviceFault.TheVariants.{OutOfRange, ReadOnly, SequenceSpent, OutOfMemory, Damaged, BusFault}
 use Rattle.ftl_device.specs.Device.{IsDevice}
 use Rattle.ftl_device.specs.Calls.{array_in, state_in, stop_of, reply_of, reply_of_fault, IsWell, Says}
-use Rattle.ftl_device.specs.Changes.{Changes, Upkeeps, Means, Stays, Refuses}
+use Rattle.ftl_device.specs.Changes.{Changes, Upkeeps, Means, Stays, RefusesCall}
 use Rattle.disk_server.specs.Disk.{holds, contents_of, IsDisk, KeepsOnError, change_fault, change_answer, flush_answer, rest_answer}
 use Rattle.disk_server.proofs.Sizes.{zeros_long}
 use Rattle.disk_server.proofs.Tasks.{Sets, lasting, performs_by}
@@ -104,7 +104,7 @@ abbrev IsSetAt : (place : ℕ) → (set before : List ℕ) → Result (Unit {0})
 IsSetAt place set before (Ok done) after = after ≡ with_bytes place set before
 IsSetAt place set before (Err e) after = after ≡ before
 
-sets_at : (g : Geometry) (n : ℕ) (set : List ℕ) (s t : State) (result : Result (Unit {0}) DeviceFault) → AreSectors g.data_bytes s.array → n < length s.array
+sets_at : (g : Geometry) (n : ℕ) (set : List ℕ) (s t : ArrayState) (result : Result (Unit {0}) DeviceFault) → AreSectors g.data_bytes s.array → n < length s.array
     → length set ≡ g.data_bytes → WriteStep g s n set (reply_of result) t → IsSetAt (n * g.data_bytes) set (flat s.array) result (flat t.array)
 sets_at g n set s t (Ok done) are within its_long h = ap flat h.array_is ∙ (flat_law g.data_bytes n set s.array are within its_long).2
 sets_at g n set s t (Err e) are within its_long h = ap flat (steps.kept g s t (step.Write n set) (reply_of_fault e) (not_done e) h)
@@ -128,7 +128,7 @@ sets_flush before after (Err OutOfMemory) is = record { done = tt; gave = tt; no
 sets_flush before after (Err Damaged) is = record { done = tt; gave = tt; not_done = is }
 sets_flush before after (Err BusFault) is = record { done = tt; gave = tt; not_done = is }
 
-flush_may : (result : Result (Unit {0}) DeviceFault) → IfErr (answer_from (flush_answer result) []) (MayAnswer Flush)
+flush_may : (result : Result (Unit {0}) DeviceFault) → IfErr (answer_from (flush_answer result) []) (MayFailWith Flush)
 flush_may (Ok done) = tt
 flush_may (Err OutOfRange) = refl
 flush_may (Err (ReadOnly good wanted failed)) = tt
@@ -151,7 +151,7 @@ keeps_by : {P : Type 0} (place : ℕ) (set before after : List ℕ) (result : Re
 keeps_by place set before after (Ok done) at = tt
 keeps_by place set before after (Err e) at = λ p. ap lasting (at p)
 
-err_may : (task : Task) (result : Result (Unit {0}) DeviceFault) → ((r : RequestError) → IsOfChange r → MayAnswer task r) → IfErr (answer_from (change_answer result) []) (MayAnswer task)
+err_may : (task : Task) (result : Result (Unit {0}) DeviceFault) → ((r : RequestError) → IsOfChange r → MayFailWith task r) → IfErr (answer_from (change_answer result) []) (MayFailWith task)
 err_may task (Ok done) may = tt
 err_may task (Err e) may = may (error_for (change_fault e)) (of_change e)
 
@@ -173,7 +173,7 @@ no_bus old new (Err BusFault) says going = λ x. (let no : ⊥ = cc in absurd no
 
 module _ {N : Type 0} (view : View N) where
   module _ (old new : Device N) (result : Result (Unit {0}) DeviceFault) (command : Command) (was : IsDisk view old)
-      (stays : Stays view old new) (refuses : Refuses view.failed old result new)
+      (stays : Stays view old new) (refuses : RefusesCall view.failed old result new)
       (means : view.honest old.engine.nand ≡ true → IsWell view.flash old → result ≢ Err BusFault → Means view.flash command old result new) where
     back_here : holds view.honest new ≡ true → holds view.honest old ≡ true
     back_here = back view.honest old new result stays.honest_is refuses.stopped
@@ -211,7 +211,7 @@ module _ {N : Type 0} (view : View N) where
       keeps_here = keeps_by (n * old.engine.geometry.data_bytes) set (bytes view old) (bytes view new) result set_here
 
       module _ (sized_is : new.engine.geometry ≡ old.engine.geometry) (device : IsDevice view.flash new) (task : Task) (body : List ℕ) where
-        changed : ((r : RequestError) → IsOfChange r → MayAnswer task r) → count_given task ≡ 0
+        changed : ((r : RequestError) → IsOfChange r → MayFailWith task r) → count_given task ≡ 0
             → (IsSetAt (n * old.engine.geometry.data_bytes) set (bytes view old) result (bytes view new)
             → Sets task body (bytes view old) (answer_from (change_answer result) []) (bytes view new))
             → PerformsTask (contents_of view) (holds view.honest) (λ d. false) task body old (answer_from (change_answer result) []) new

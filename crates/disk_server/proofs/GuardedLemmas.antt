@@ -11,7 +11,7 @@ use Rattle.nbd_stream.specs.declared.reply.RequestError.{RequestError}
 use Rattle.nbd_stream.specs.declared.reply.RequestError.TheVariants.{InputOutput}
 use Rattle.nbd_stream.specs.declared.task.Task.{Task}
 use Rattle.nbd_stream.specs.declared.task.Task.TheVariants.{Flush, Read, Trim}
-use Rattle.nbd_stream.specs.Disk.{Contents, Idles, IsEither, MayAnswer, PerformsTask, answer_from, error_for, TaskSteps, bytes_after, bytes_given, count_given, with_bytes}
+use Rattle.nbd_stream.specs.Disk.{Contents, Idles, IsOldOrDue, MayFailWith, PerformsTask, answer_from, error_for, TaskSteps, bytes_after, bytes_given, count_given, with_bytes}
 use Rattle.nbd_stream.proofs.DiskLemmas.{before_it, inside_it, length-with_bytes, past_it}
 use Rattle.disk_server.specs.declared.guarded.GuardedSectors.{GuardedSectors}
 use Rattle.disk_server.specs.Asked.{HasZeros}
@@ -120,8 +120,8 @@ module _ (size n : ℕ) (body s : List ℕ) (some : 0 < size) (long : length bod
       ∙ ext_get_or 0 (guarded_from size lost' 0 set) (with_bytes (n * size) body shown) (all_long ∙ set_long ∙ sym shown_long ∙ sym due_long)
       (λ p within. (let here : p < length s = omega (arith, within, all_long, set_long) in byte_law size lost' set p (omega (arith, here, set_long)) ∙ set_at lost lost' cleared p here))
 
-  torn_at : (lost : List Bool) (t : List ℕ) → length t ≡ length s → (p : ℕ) → p < length s → IsEither s (with_bytes (n * size) body s) t p → (b : Bool) → get_or lost (p / size) false ≡ b
-      → IsEither (guarded_from size lost 0 s) (with_bytes (n * size) body (guarded_from size lost 0 s)) (guarded_from size lost 0 t) p
+  torn_at : (lost : List Bool) (t : List ℕ) → length t ≡ length s → (p : ℕ) → p < length s → IsOldOrDue s (with_bytes (n * size) body s) t p → (b : Bool) → get_or lost (p / size) false ≡ b
+      → IsOldOrDue (guarded_from size lost 0 s) (with_bytes (n * size) body (guarded_from size lost 0 s)) (guarded_from size lost 0 t) p
   torn_at lost t same p within either true is = inl (at_lost size lost t p (omega (arith, within, same)) is ∙ sym (at_lost size lost s p within is))
   torn_at lost t same p within (inl was) false is = inl (at_there size lost t p (omega (arith, within, same)) is ∙ was ∙ sym (at_there size lost s p within is))
   torn_at lost t same p within (inr due) false is =
@@ -137,8 +137,8 @@ module _ (size n : ℕ) (body s : List ℕ) (some : 0 < size) (long : length bod
       ]
 
   -- where that failed, each byte that is shown is as it was or as it was to be
-  pub shown_torn : (lost : List Bool) (t : List ℕ) → length t ≡ length s → (p : ℕ) → IsEither s (with_bytes (n * size) body s) t p
-      → IsEither (guarded_from size lost 0 s) (with_bytes (n * size) body (guarded_from size lost 0 s)) (guarded_from size lost 0 t) p
+  pub shown_torn : (lost : List Bool) (t : List ℕ) → length t ≡ length s → (p : ℕ) → IsOldOrDue s (with_bytes (n * size) body s) t p
+      → IsOldOrDue (guarded_from size lost 0 s) (with_bytes (n * size) body (guarded_from size lost 0 s)) (guarded_from size lost 0 t) p
   shown_torn lost t same p either =
       let shown_long : length (guarded_from size lost 0 s) ≡ length s = length-guarded size lost 0 s in
       let new_long : length (guarded_from size lost 0 t) ≡ length t = length-guarded size lost 0 t in
@@ -206,7 +206,7 @@ shown_kept size lost s t same p is = elim (cases_lt p (length s)) [
 
 -- of what keeps nothing back: done, the bytes are those that the task leaves; else each is one of two
 steps_shown : (task : Task) (body s : List ℕ) (answer : Answer) (t : List ℕ) → OnOk answer (t ≡ bytes_after task body s) → IfOk answer (λ given. given ≡ bytes_given task s)
-    → OnErr answer ((place : ℕ) → IsEither s (bytes_after task body s) t place) → TaskSteps task body (lasting s) answer (lasting t)
+    → OnErr answer ((place : ℕ) → IsOldOrDue s (bytes_after task body s) t place) → TaskSteps task body (lasting s) answer (lasting t)
 steps_shown task body s (Ok given) t done gave torn = record {
   done = done;
   gave = gave;
@@ -216,7 +216,7 @@ steps_shown task body s (Ok given) t done gave torn = record {
 }
 steps_shown task body s (Err e) t done gave torn = record { done = tt; gave = tt; torn = torn; stays = λ p. inr (torn p); lasts = tt }
 
-either_kept : (s t : List ℕ) (p : ℕ) → IsEither s s t p → slice_index t p ≡ slice_index s p
+either_kept : (s t : List ℕ) (p : ℕ) → IsOldOrDue s s t p → slice_index t p ≡ slice_index s p
 either_kept s t p (inl is) = is
 either_kept s t p (inr is) = is
 
@@ -262,8 +262,8 @@ module _ (size n : ℕ) (task : Task) (body set : List ℕ) (leaves : (l : List 
   failed_steps e same steps =
       let shown : List ℕ = guarded_from size lost 0 s.bytes in
       steps_shown task body shown (Err e) (guarded_from size lost 0 t.bytes) tt tt
-      (λ p. subst (λ l. IsEither shown l (guarded_from size lost 0 t.bytes) p) (sym (leaves shown))
-      (shown_torn size n set s.bytes some long fits lost t.bytes same p (subst (λ l. IsEither s.bytes l t.bytes p) (leaves s.bytes) (steps.torn p))))
+      (λ p. subst (λ l. IsOldOrDue shown l (guarded_from size lost 0 t.bytes) p) (sym (leaves shown))
+      (shown_torn size n set s.bytes some long fits lost t.bytes same p (subst (λ l. IsOldOrDue s.bytes l t.bytes p) (leaves s.bytes) (steps.torn p))))
 
 -- ---- a call of the whole
 
@@ -273,7 +273,7 @@ module _ {S K : Type 0} (contents : S → Contents) (size : S → ℕ) (honest :
   same_size d n is = ap (λ k. lasting (guarded_from k d.lost.items 0 (contents d.sectors).bytes)) is
 
   pub call_shown : (task : Task) (body : List ℕ) (old : GuardedSectors S K) (answer : Answer) (new : GuardedSectors S K) → size new.sectors ≡ size old.sectors → length (contents new.sectors).bytes ≡ length (contents old.sectors).bytes
-      → OnOk answer (honest new.sectors ≡ honest old.sectors) → (honest new.sectors ≡ true → honest old.sectors ≡ true) → IfErr answer (MayAnswer task) → IfOk answer (λ given. length given ≡ count_given task)
+      → OnOk answer (honest new.sectors ≡ honest old.sectors) → (honest new.sectors ≡ true → honest old.sectors ≡ true) → IfErr answer (MayFailWith task) → IfOk answer (λ given. length given ≡ count_given task)
       → (honest new.sectors ≡ true → TaskSteps task body (lasting (guarded_from (size old.sectors) old.lost.items 0 (contents old.sectors).bytes)) answer (lasting (guarded_from (size old.sectors) new.lost.items 0 (contents new.sectors).bytes)))
       → PerformsTask (guarded_contents contents size) (λ d. honest d.sectors) (λ d. false) task body old answer new
   call_shown task body old answer new same long kept back may given steps = record {
@@ -315,7 +315,7 @@ module _ {S K : Type 0} (contents : S → Contents) (size : S → ℕ) (honest :
 
   -- a change that the device has done: the sector was taken off the list, or it was to be
   module _ (kept : K → List Bool) (calm : S → Bool) (n : ℕ) (task : Task) (body set : List ℕ) (old : GuardedSectors S K) (leaves : (l : List ℕ) → bytes_after task body l ≡ with_bytes (n * size old.sectors) set l)
-      (gives : (l : List ℕ) → [] ≡ bytes_given task l) (may : MayAnswer task InputOutput) (some : 0 < size old.sectors) (long : length set ≡ size old.sectors) (count : ℕ) (within : n < count) (whole : length (contents old.sectors).bytes ≡ count * size old.sectors)
+      (gives : (l : List ℕ) → [] ≡ bytes_given task l) (may : MayFailWith task InputOutput) (some : 0 < size old.sectors) (long : length set ≡ size old.sectors) (count : ℕ) (within : n < count) (whole : length (contents old.sectors).bytes ≡ count * size old.sectors)
       (mid : S) (new : GuardedSectors S K) (same : size mid ≡ size old.sectors) (sectors : new.sectors ≡ mid) (p : PerformsTask contents honest calm task body old.sectors (Ok []) mid) where
     fits : n * size old.sectors + size old.sectors ≤ length (contents old.sectors).bytes
     fits = sector_fits n count (size old.sectors) (length (contents old.sectors).bytes) within whole
@@ -332,7 +332,7 @@ module _ {S K : Type 0} (contents : S → Contents) (size : S → ℕ) (honest :
         (cleared_of kept n (record old { sectors = mid }) new heals) (device_steps h))
     change_shown (Err e) heals unlisted_so off failed =
         call_shown task body old (Err (error_for e)) new (ap size sectors ∙ same) (ap (λ s. length (contents s).bytes) sectors ∙ p.sized) tt (λ h. p.back (sym (ap honest sectors) ∙ h))
-        (subst (λ f. MayAnswer task (error_for f)) (sym failed) may) tt
+        (subst (λ f. MayFailWith task (error_for f)) (sym failed) may) tt
         (λ h. unhealed_steps (size old.sectors) n task body set leaves gives some long old.lost.items (contents old.sectors) (contents new.sectors) fits new.lost.items (error_for e)
         (cleared_by n (record old { sectors = mid }) new (Err e) e (is_listed old n) refl refl unlisted_so off) (device_steps h))
 

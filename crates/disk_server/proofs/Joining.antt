@@ -6,7 +6,7 @@ use Rattle.std.proofs.lemmas.List.{ext_get_or, length-take-le}
 use Rattle.nbd_stream.specs.declared.reply.RequestError.{RequestError}
 use Rattle.nbd_stream.specs.declared.task.Task.{Task}
 use Rattle.nbd_stream.specs.declared.task.Task.TheVariants.{Read, Write, Trim}
-use Rattle.nbd_stream.specs.Disk.{Contents, IsEither, MayAnswer, PerformsTask, TaskSteps, count_given, with_bytes}
+use Rattle.nbd_stream.specs.Disk.{Contents, IsOldOrDue, MayFailWith, PerformsTask, TaskSteps, count_given, with_bytes}
 use Rattle.disk_server.proofs.Bytes.{front_either, lent_back, part_read, part_set, place_is, range_more, sector_fits, set_same, with_more}
 use Rattle.disk_server.proofs.ReadingLemmas.{by_answer}
 
@@ -35,21 +35,21 @@ any_ok (Err e) is = tt
 
 -- each byte after the first step, and what the second is to leave, is as it was or as both are to leave it
 pub record Between (due next : List ℕ) (s m : Contents) : Type 0 where
-  pub first : (p : ℕ) → IsEither s.bytes due m.bytes p
-  pub second : (p : ℕ) → IsEither s.bytes due next p
+  pub first : (p : ℕ) → IsOldOrDue s.bytes due m.bytes p
+  pub second : (p : ℕ) → IsOldOrDue s.bytes due next p
 
-along : (was due mid now : List ℕ) (p : ℕ) → IsEither was due mid p → slice_index now p ≡ slice_index mid p → IsEither was due now p
+along : (was due mid now : List ℕ) (p : ℕ) → IsOldOrDue was due mid p → slice_index now p ≡ slice_index mid p → IsOldOrDue was due now p
 along was due mid now p (inl is) same = inl (same ∙ is)
 along was due mid now p (inr is) same = inr (same ∙ is)
 
 module _ (due next : List ℕ) (s m : Contents) (between : Between due next s m) where
-  torn_then : (now : List ℕ) (p : ℕ) → IsEither m.bytes next now p → IsEither s.bytes due now p
+  torn_then : (now : List ℕ) (p : ℕ) → IsOldOrDue m.bytes next now p → IsOldOrDue s.bytes due now p
   torn_then now p (inl is) = along s.bytes due m.bytes now p (between.first p) is
   torn_then now p (inr is) = along s.bytes due next now p (between.second p) is
 
-  stays_then : (t : Contents) (p : ℕ) → (slice_index m.durable p ≡ slice_index s.durable p) ⊎ IsEither s.bytes due m.durable p
-      → (slice_index t.durable p ≡ slice_index m.durable p) ⊎ IsEither m.bytes next t.durable p
-      → (slice_index t.durable p ≡ slice_index s.durable p) ⊎ IsEither s.bytes due t.durable p
+  stays_then : (t : Contents) (p : ℕ) → (slice_index m.durable p ≡ slice_index s.durable p) ⊎ IsOldOrDue s.bytes due m.durable p
+      → (slice_index t.durable p ≡ slice_index m.durable p) ⊎ IsOldOrDue m.bytes next t.durable p
+      → (slice_index t.durable p ≡ slice_index s.durable p) ⊎ IsOldOrDue s.bytes due t.durable p
   stays_then t p (inl was) (inl is) = inl (is ∙ was)
   stays_then t p (inr was) (inl is) = inr (along s.bytes due m.durable t.durable p was is)
   stays_then t p was (inr is) = inr (torn_then t.durable p is)
@@ -67,21 +67,21 @@ module _ (front piece rest : List ℕ) (o place : ℕ) (s m : Contents) (at : pl
   grouped : (front ++ piece) ++ rest ≡ front ++ (piece ++ rest)
   grouped = append_assoc front piece rest
 
-  front_is : (now : List ℕ) (p : ℕ) → IsEither s.bytes (with_bytes o (front ++ (piece ++ rest)) s.bytes) (with_bytes o front s.bytes) p
-      → now ≡ with_bytes o front s.bytes → IsEither s.bytes (with_bytes o ((front ++ piece) ++ rest) s.bytes) now p
+  front_is : (now : List ℕ) (p : ℕ) → IsOldOrDue s.bytes (with_bytes o (front ++ (piece ++ rest)) s.bytes) (with_bytes o front s.bytes) p
+      → now ≡ with_bytes o front s.bytes → IsOldOrDue s.bytes (with_bytes o ((front ++ piece) ++ rest) s.bytes) now p
   front_is now p either same =
-      subst (λ (l : List ℕ). IsEither s.bytes (with_bytes o l s.bytes) now p) (sym grouped)
-      (subst (λ (l : List ℕ). IsEither s.bytes (with_bytes o (front ++ (piece ++ rest)) s.bytes) l p) (sym same) either)
+      subst (λ (l : List ℕ). IsOldOrDue s.bytes (with_bytes o l s.bytes) now p) (sym grouped)
+      (subst (λ (l : List ℕ). IsOldOrDue s.bytes (with_bytes o (front ++ (piece ++ rest)) s.bytes) l p) (sym same) either)
 
   more_between : Between (with_bytes o ((front ++ piece) ++ rest) s.bytes) (with_bytes place piece m.bytes) s m
   more_between = record {
     first = λ p. front_is m.bytes p (front_either front (piece ++ rest) s.bytes o p (subst (λ (l : List ℕ). o + length l ≤ length s.bytes) grouped fits)) is;
-    second = λ p. subst (λ (l : List ℕ). IsEither s.bytes (with_bytes o ((front ++ piece) ++ rest) s.bytes) l p) (sym both_are)
+    second = λ p. subst (λ (l : List ℕ). IsOldOrDue s.bytes (with_bytes o ((front ++ piece) ++ rest) s.bytes) l p) (sym both_are)
         (front_either (front ++ piece) rest s.bytes o p fits);
   }
 
-  front_first : (p : ℕ) → (slice_index m.durable p ≡ slice_index s.durable p) ⊎ IsEither s.bytes (with_bytes o front s.bytes) m.durable p
-      → (slice_index m.durable p ≡ slice_index s.durable p) ⊎ IsEither s.bytes (with_bytes o ((front ++ piece) ++ rest) s.bytes) m.durable p
+  front_first : (p : ℕ) → (slice_index m.durable p ≡ slice_index s.durable p) ⊎ IsOldOrDue s.bytes (with_bytes o front s.bytes) m.durable p
+      → (slice_index m.durable p ≡ slice_index s.durable p) ⊎ IsOldOrDue s.bytes (with_bytes o ((front ++ piece) ++ rest) s.bytes) m.durable p
   front_first p (inl was) = inl was
   front_first p (inr (inl was)) = inr (inl was)
   front_first p (inr (inr was)) =
@@ -112,12 +112,12 @@ pub range_long : (start m : ℕ) (bytes : List ℕ) → start + m ≤ length byt
 range_long start m bytes fits = length-take-le ((start + m) - start) (drop start bytes) (omega (arith, length-drop start bytes, fits)) ∙ omega arith
 
 -- a byte that stays is as it was, whatever is due
-unread : (due was now : List ℕ) (p : ℕ) → IsEither was was now p → IsEither was due now p
+unread : (due was now : List ℕ) (p : ℕ) → IsOldOrDue was was now p → IsOldOrDue was due now p
 unread due was now p (inl is) = inl is
 unread due was now p (inr is) = inl is
 
-unread_stays : (due was lasted now : List ℕ) (p : ℕ) → (slice_index now p ≡ slice_index lasted p) ⊎ IsEither was was now p
-    → (slice_index now p ≡ slice_index lasted p) ⊎ IsEither was due now p
+unread_stays : (due was lasted now : List ℕ) (p : ℕ) → (slice_index now p ≡ slice_index lasted p) ⊎ IsOldOrDue was was now p
+    → (slice_index now p ≡ slice_index lasted p) ⊎ IsOldOrDue was due now p
 unread_stays due was lasted now p (inl is) = inl is
 unread_stays due was lasted now p (inr is) = inr (unread due was now p is)
 
@@ -197,7 +197,7 @@ module _ {D : Type 0} (contents : D → Contents) (honest calm : D → Bool) whe
 
   -- a call that was done, and another behind it, are one of a task that does what both do, and may be answered as the second
   done_then : (first second task : Task) (front back body given : List ℕ) (old mid new : D) (answer : Answer) → Does first front old (Ok given) mid → Does second back mid answer new
-      → (IfErr answer (MayAnswer second) → IfErr answer (MayAnswer task)) → (IfOk answer (λ bytes. length bytes ≡ count_given second) → IfOk answer (λ bytes. length bytes ≡ count_given task))
+      → (IfErr answer (MayFailWith second) → IfErr answer (MayFailWith task)) → (IfOk answer (λ bytes. length bytes ≡ count_given second) → IfOk answer (λ bytes. length bytes ≡ count_given task))
       → (honest new ≡ true → TaskSteps task body (contents old) answer (contents new)) → Does task body old answer new
   done_then first second task front back body given old mid new answer one two may counts does = record {
     sized = two.sized ∙ one.sized;
@@ -230,7 +230,7 @@ module _ {D : Type 0} (contents : D → Contents) (honest calm : D → Bool) whe
   -- ---- zeros
 
   -- a call of one task is one of another that does the same, and may answer it
-  pub as_task : (task other : Task) (body bytes : List ℕ) (old new : D) (answer : Answer) → (IfErr answer (MayAnswer task) → IfErr answer (MayAnswer other))
+  pub as_task : (task other : Task) (body bytes : List ℕ) (old new : D) (answer : Answer) → (IfErr answer (MayFailWith task) → IfErr answer (MayFailWith other))
       → (IfOk answer (λ given. length given ≡ count_given task) → IfOk answer (λ given. length given ≡ count_given other))
       → (TaskSteps task body (contents old) answer (contents new) → TaskSteps other bytes (contents old) answer (contents new)) → Does task body old answer new → Does other bytes old answer new
   as_task task other body bytes old new answer may counts does is = record {

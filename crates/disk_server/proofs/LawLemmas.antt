@@ -15,21 +15,21 @@ use Rattle.disk_server.proofs.FlatLemmas.{flat_law}
 use Rattle.ftl_device.specs.declared.fault.DeviceFault.TheVariants.{OutOfRange, ReadOnly, SequenceSpent, OutOfMemory, Damaged, BusFault}
 use Rattle.ftl_device.specs.Calls.{array_in}
 use Rattle.disk_server.specs.Disk.{holds, flush_answer, takes_changes, IsDisk}
-use Rattle.disk_server.specs.Laws.{BelowLaw, LengthLaw, SectorLaw, LastsLaw, HoldsLaw, NoSpaceLaw, ReadOnlyLaw, ClosedLaw, WrittenLaw}
+use Rattle.disk_server.specs.Laws.{BelowLaw, DiskLengthLaw, SectorRangeLaw, DurableLaw, HoldsLaw, NoSpaceLaw, ReadOnlyFlushLaw, ClosedLaw, NoneStaleAfterFlushLaw}
 use Rattle.disk_server.proofs.Sizes.{zeros_long}
 use Rattle.disk_server.proofs.Holding.{parts, holds_from, held, long, array_sectors_of, array_count}
 
-pub length_law : {N : Type 0} (view : View N) → LengthLaw view
+pub length_law : {N : Type 0} (view : View N) → DiskLengthLaw view
 length_law view d is = long view d is
 
-pub sector_law : {N : Type 0} (view : View N) → SectorLaw view
+pub sector_law : {N : Type 0} (view : View N) → SectorRangeLaw view
 sector_law view d n is h within =
     let size : ℕ = d.engine.geometry.data_bytes in
     ap (λ (l : List ℕ). slice_range l (n * size) (n * size + size)) (held view d h)
     ∙ (flat_law size n (zeros d.engine.geometry) (array_in view.flash d) (array_sectors_of view d is h) (omega (arith, array_count view d, within))
     (zeros_long d.engine.geometry)).1
 
-pub lasts_law : {N : Type 0} (view : View N) → LastsLaw view
+pub lasts_law : {N : Type 0} (view : View N) → DurableLaw view
 lasts_law view d = refl
 
 pub holds_law : {N : Type 0} (honest : N → Bool) → HoldsLaw honest
@@ -43,7 +43,7 @@ no_space OutOfMemory = ((λ e. refl), λ e. refl)
 no_space Damaged = ((λ e. cc), λ e. cc)
 no_space BusFault = ((λ e. cc), λ e. cc)
 
-pub read_only : ReadOnlyLaw
+pub read_only : ReadOnlyFlushLaw
 read_only OutOfRange = ((λ e. cc), λ e. cc)
 read_only (ReadOnly good wanted failed) = ((λ e. refl), λ e. refl)
 read_only SequenceSpent = ((λ e. refl), λ e. refl)
@@ -88,5 +88,5 @@ module _ {N : Type 0} (view : View N) (old new : Device N) (was : IsDisk view ol
   written_by (Err Damaged) told upkeeps = (let no : ⊥ = cc in absurd no)
   written_by (Err BusFault) told upkeeps = (let no : ⊥ = cc in absurd no)
 
-pub written_law : {N : Type 0} (view : View N) → WrittenLaw view
+pub written_law : {N : Type 0} (view : View N) → NoneStaleAfterFlushLaw view
 written_law view old new was is asks h going = written_by view old new was is h going asks.answer asks.told asks.upkeeps

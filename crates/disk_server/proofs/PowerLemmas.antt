@@ -15,7 +15,7 @@ use Rattle.page_layout.specs.Change.{IsUnsoundAt}
 use Rattle.page_layout.proofs.ArrayLemmas.{length-marks, page_of_mark, unsound_at}
 use Rattle.file_die.specs.Store.{Held, AreImages, page_in}
 use Rattle.file_die.specs.declared.die.SyncWhen.{SyncWhen}
-use Rattle.file_die.specs.DieLaws.{GoesAdding, LastsSince, Turn}
+use Rattle.file_die.specs.DieLaws.{GoesAdding, LastsSince, StoreCycle}
 use Rattle.file_die.proofs.DieLawLemmas.{adding_goes, images, since_sync}
 use Rattle.image_laws.specs.Power.{Grows, LosesPower, LosesSince}
 use Rattle.image_laws.proofs.PowerLemmas.{either, found_one, unwritten}
@@ -60,13 +60,13 @@ loses_since stored t long since = record {
   ];
 }
 
-stays_images : (sync_when : SyncWhen) (s t : Held) (turns : List Turn) → GoesAdding sync_when s turns t → AreImages s → (t.geometry ≡ s.geometry) × AreImages t
-stays_images sync_when s t turns goes w = let stays = images sync_when s t turns (adding_goes sync_when s t turns goes) in (stays.0, stays.1 w)
+stays_images : (sync_when : SyncWhen) (s t : Held) (cycles : List StoreCycle) → GoesAdding sync_when s cycles t → AreImages s → (t.geometry ≡ s.geometry) × AreImages t
+stays_images sync_when s t cycles goes w = let stays = images sync_when s t cycles (adding_goes sync_when s t cycles goes) in (stays.0, stays.1 w)
 
 pub leaves : LeavesLaw
-leaves sync_when s t turns added =
-    let now = stays_images sync_when s t turns added.goes added.images in
-    let since : LastsSince s.pages t = since_sync sync_when s t turns added.goes added.lasted in
+leaves sync_when s t cycles added =
+    let now = stays_images sync_when s t cycles added.goes added.images in
+    let since : LastsSince s.pages t = since_sync sync_when s t cycles added.goes added.lasted in
     let rows : row_count t.geometry ≡ row_count s.geometry = ap row_count now.0 in
     record {
       one = added.one;
@@ -92,9 +92,9 @@ bytes_at s n whole within =
     (flat_law g.data_bytes n (zeros g) (array_of g s.pages) (array_sectors g s.pages whole) (omega (arith, array_long g s.pages, within)) (zeros_long g)).1 ∙ sector_at g s.pages n within
 
 pub found : FoundLaw
-found sync_when s t turns added =
-    let now = stays_images sync_when s t turns added.goes added.images in
-    let power : LosesPower s.geometry s.pages t.pages t.durable = leaves sync_when s t turns added in
+found sync_when s t cycles added =
+    let now = stays_images sync_when s t cycles added.goes added.images in
+    let power : LosesPower s.geometry s.pages t.pages t.durable = leaves sync_when s t cycles added in
     let here : (n : ℕ) → n < s.geometry.sectors → sector_bytes (found_of t) n ≡ sector_of s.geometry t.durable n = λ n within.
     bytes_at (found_of t) n now.1.durable_whole (subst (λ (g : Geometry). n < g.sectors) (sym now.0) within) ∙ ap (λ (g : Geometry). sector_of g t.durable n) now.0 in
     let then : (n : ℕ) → n < s.geometry.sectors → sector_of s.geometry s.pages n ≡ sector_bytes s n = λ n within. sym (bytes_at s n added.images.pages_whole within) in

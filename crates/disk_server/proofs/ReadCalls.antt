@@ -10,10 +10,10 @@ use Rattle.page_layout.specs.Page.{Page}
 use Rattle.page_layout.specs.DieCalls.{AsksOnly}
 use Rattle.page_layout.specs.OnlyReads.{OnlyReads}
 use Rattle.promises.specs.Step as step
-use Rattle.promises.specs.Step.{State, ReadStep, ArrayStep}
+use Rattle.promises.specs.Step.{ArrayState, ReadStep, ArrayStep}
 use Rattle.promises.proofs.StepLemmas as steps
 use Rattle.nbd_stream.specs.declared.task.Task.TheVariants.{Read}
-use Rattle.nbd_stream.specs.Disk.{MayAnswer, PerformsTask, answer_from}
+use Rattle.nbd_stream.specs.Disk.{MayFailWith, PerformsTask, answer_from}
 use Rattle.collection.specs.Stops.{room_of}
 use Rattle.disk_server.specs.Flat.{AreSectors, flat}
 use Rattle.disk_server.proofs.FlatLemmas.{flat_law}
@@ -59,7 +59,7 @@ read_fault : (n : ℕ) (result : Result (Unit {0}) DeviceFault) (old new : Ram) 
 read_fault n (Ok done) old new p q out given left then = then (ap (λ (r : Ram). r.fault) left.others)
 read_fault n (Err e) old new p q out given left then = tt
 
-read_may : (offset count : ℕ) (result : Result (Unit {0}) DeviceFault) (given : List ℕ) → IfErr (answer_from (read_answer result) given) (MayAnswer (Read offset count))
+read_may : (offset count : ℕ) (result : Result (Unit {0}) DeviceFault) (given : List ℕ) → IfErr (answer_from (read_answer result) given) (MayFailWith (Read offset count))
 read_may offset count (Ok done) given = tt
 read_may offset count (Err e) given = refl
 
@@ -67,10 +67,10 @@ read_gives : (count : ℕ) (result : Result (Unit {0}) DeviceFault) (given : Lis
 read_gives count (Ok done) given is = is
 read_gives count (Err e) given is = tt
 
-sets_read : (g : Geometry) (n : ℕ) (out : List ℕ) (s t : State) (result : Result (Unit {0}) DeviceFault) → AreSectors g.data_bytes s.array → n < length s.array
+sets_read : (g : Geometry) (n : ℕ) (out : List ℕ) (s t : ArrayState) (result : Result (Unit {0}) DeviceFault) → AreSectors g.data_bytes s.array → n < length s.array
     → ArrayStep g s (step.Read n) (read_reply_of out result) t → Sets (Read (n * g.data_bytes) g.data_bytes) [] (flat s.array) (answer_from (read_answer result) out) (flat t.array)
 sets_read g n out s t (Ok done) are within h = record {
-  done = ap (λ (x : State). flat x.array) h.same;
+  done = ap (λ (x : ArrayState). flat x.array) h.same;
   gave = sym ((flat_law g.data_bytes n (zeros g) s.array are within (zeros_long g)).1 ∙ get_or_from_slice_get s.array n out [] h.bytes_are);
   not_done = tt;
 }
@@ -80,7 +80,7 @@ sets_read g n out s t (Err e) are within h = record {
   not_done = ap flat (steps.kept g s t (step.Read n) _ (not_done e) h);
 }
 
-given_by : (g : Geometry) (n : ℕ) (out : List ℕ) (s t : State) (result : Result (Unit {0}) DeviceFault) → n < g.sectors
+given_by : (g : Geometry) (n : ℕ) (out : List ℕ) (s t : ArrayState) (result : Result (Unit {0}) DeviceFault) → n < g.sectors
     → ArrayStep g s (step.Read n) (read_reply_of out result) t → IsOk (read_answer result)
 given_by g n out s t (Ok done) within h = refl
 given_by g n out s t (Err OutOfRange) within h = absurd (omega (arith, within, h.past))

@@ -5,7 +5,7 @@ use Rattle.nbd_stream.specs.declared.reply.RequestError.{RequestError}
 use Rattle.nbd_stream.specs.declared.task.Task.{Task}
 use Rattle.nbd_stream.specs.declared.fault.DiskFault.{DiskFault}
 use Rattle.nbd_stream.specs.declared.task.Task.TheVariants.{Read, Write, Flush, Trim, WriteZeroes}
-use Rattle.nbd_stream.specs.Disk.{Contents, IsEither, MayAnswer, PerformsTask, TaskSteps, count_given}
+use Rattle.nbd_stream.specs.Disk.{Contents, IsOldOrDue, MayFailWith, PerformsTask, TaskSteps, count_given}
 use Rattle.nbd_stream.specs.Through.{Times, Through}
 use Rattle.nbd_stream.proofs.ThroughLemmas.{joined, none}
 use Rattle.disk_server.specs.Reading.{AllLasts, OnlyAsksReads, OnlyReadsLaw}
@@ -14,7 +14,7 @@ not : false ≡ true → ⊥
 not e = cc
 
 -- a call that was answered an error, and asked nothing
-pub unasked : {D : Type 0} (contents : D → Contents) (honest : D → Bool) (task : Task) (body : List ℕ) (d : D) (e : RequestError) → MayAnswer task e
+pub unasked : {D : Type 0} (contents : D → Contents) (honest : D → Bool) (task : Task) (body : List ℕ) (d : D) (e : RequestError) → MayFailWith task e
     → PerformsTask contents honest (λ _. false) task body d (Err e) d
 unasked contents honest task body d e may = record {
   sized = refl;
@@ -55,7 +55,7 @@ flushed contents honest d all =
 
 -- ---- what lasts, lasts after a read
 
-unread : (old new durable : List ℕ) (place : ℕ) → IsEither old old new place → slice_index new place ≡ slice_index old place
+unread : (old new durable : List ℕ) (place : ℕ) → IsOldOrDue old old new place → slice_index new place ≡ slice_index old place
 unread old new durable place (inl is) = is
 unread old new durable place (inr is) = is
 
@@ -65,7 +65,7 @@ by_answer offset count s t (Ok bytes) steps place = ap (λ all. slice_index all 
 by_answer offset count s t (Err e) steps place = unread s.bytes t.bytes [] place (steps.torn place)
 
 kept : (offset count : ℕ) (s t : Contents) (place : ℕ) → AllLasts s
-    → (slice_index t.durable place ≡ slice_index s.durable place) ⊎ IsEither s.bytes s.bytes t.durable place
+    → (slice_index t.durable place ≡ slice_index s.durable place) ⊎ IsOldOrDue s.bytes s.bytes t.durable place
     → slice_index t.durable place ≡ slice_index s.bytes place
 kept offset count s t place all (inl same) = same ∙ all place
 kept offset count s t place all (inr either) = unread s.bytes t.durable [] place either

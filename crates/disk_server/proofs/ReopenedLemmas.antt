@@ -11,12 +11,12 @@ use Rattle.nbd_stream.specs.declared.fault.DiskFault.TheVariants as fault
 use Rattle.nbd_stream.specs.declared.reply.RequestError.{RequestError}
 use Rattle.nbd_stream.specs.declared.reply.RequestError.TheVariants.{InputOutput}
 use Rattle.nbd_stream.specs.declared.task.Task.{Task}
-use Rattle.nbd_stream.specs.Disk.{Contents, Idles, MayAnswer, PerformsTask, TaskSteps, answer_from, error_for}
+use Rattle.nbd_stream.specs.Disk.{Contents, Idles, MayFailWith, PerformsTask, TaskSteps, answer_from, error_for}
 use Rattle.disk_server.specs.Asked.{HasZeros, SparesZeros}
 use Rattle.disk_server.specs.Disk.{contents_of, holds}
 use Rattle.disk_server.specs.Opened.{is_honest_in, view_in}
 use Rattle.nbd_stream.specs.declared.task.Task.TheVariants.{Read}
-use Rattle.disk_server.specs.Reopened.{AnewLaw, AreParts, GoneLaw, HasDevice, IsAnew, TermsLaw, IsGone, IsOpenedFrom, ReadsDevice, Reopened, Reopens, SettlesCall, Terms, bytes_by, contents_in, holds_by, holds_in, reads_of, terms_of}
+use Rattle.disk_server.specs.Reopened.{AnewLaw, AreReopenedParts, GoneLaw, HasDevice, IsAnew, TermsLaw, IsGone, IsOpenedFrom, ReadsDevice, Reopened, Reopens, SettlesCall, Terms, bytes_by, contents_in, holds_by, holds_in, reads_of, terms_of}
 
 both : (a b : Bool) → (a && b) ≡ true → (a ≡ true) × (b ≡ true)
 both true true e = (refl, refl)
@@ -101,7 +101,7 @@ module _ {S : Type 0} (held : S → Held) (honest : S → Bool) (failed : S → 
         }
 
   -- IT HOLDS NO MORE
-  pub ends : (task : Task) (body : List ℕ) (old new : Reopened S) (e : RequestError) → holds_in honest new ≡ false → length (contents_in held honest failed new).bytes ≡ length (contents_in held honest failed old).bytes → MayAnswer task e
+  pub ends : (task : Task) (body : List ℕ) (old new : Reopened S) (e : RequestError) → holds_in honest new ≡ false → length (contents_in held honest failed new).bytes ≡ length (contents_in held honest failed old).bytes → MayFailWith task e
       → PerformsTask (contents_in held honest failed) (holds_in honest) (λ x. false) task body old (Err e) new
   ends task body old new e over same may = record {
     sized = same;
@@ -141,7 +141,7 @@ module _ {S : Type 0} (held : S → Held) (honest : S → Bool) (failed : S → 
     gone_long r = long_none new r.none.device_is ∙ ap (λ t. t.count * t.size) r.none.terms_are ∙ sym (long_as old d was long)
 
     -- A CALL AND WHAT IT COMES TO, as a task
-    pub performs : (told : DiskFault) (task : Task) (body : List ℕ) (answer result : Result (Unit {0}) DiskFault) → MayAnswer task (error_for told) → MayAnswer task InputOutput
+    pub performs : (told : DiskFault) (task : Task) (body : List ℕ) (answer result : Result (Unit {0}) DiskFault) → MayFailWith task (error_for told) → MayFailWith task InputOutput
         → PerformsTask at going (λ x. false) task body d (answer_from answer []) left → SettlesCall held honest full failed told (terms_of old) old.reopened old.next left answer result new
         → PerformsTask (contents_in held honest failed) (holds_in honest) (λ x. false) task body old (answer_from result []) new
     performs told task body (Ok done) result may input p s =
@@ -201,8 +201,8 @@ some_same : {A : Type 0} (x y : A) → Some x ≡ Some y → x ≡ y
 some_same x y e = cc
 
 -- another device of the same sectors
-pub parts_on : {S : Type 0} (size count capacity : ℕ) (device : Option (Device (DriverState (FileState S)))) (d left : Device (DriverState (FileState S))) → device ≡ Some d → AreParts size count capacity device
-    → left.engine.geometry.data_bytes ≡ d.engine.geometry.data_bytes → left.engine.geometry.sectors ≡ d.engine.geometry.sectors → AreParts size count capacity (Some left)
+pub parts_on : {S : Type 0} (size count capacity : ℕ) (device : Option (Device (DriverState (FileState S)))) (d left : Device (DriverState (FileState S))) → device ≡ Some d → AreReopenedParts size count capacity device
+    → left.engine.geometry.data_bytes ≡ d.engine.geometry.data_bytes → left.engine.geometry.sectors ≡ d.engine.geometry.sectors → AreReopenedParts size count capacity (Some left)
 parts_on size count capacity device d left was parts sizes counts = record {
   some = parts.some;
   bounded = parts.bounded;

@@ -7,7 +7,7 @@ use Rattle.nbd_stream.specs.declared.reply.RequestError.{RequestError}
 use Rattle.nbd_stream.specs.declared.reply.RequestError.TheVariants.{InputOutput}
 use Rattle.nbd_stream.specs.declared.task.Task.{Task}
 use Rattle.nbd_stream.specs.declared.task.Task.TheVariants.{Flush, Read, Trim, Write, WriteZeroes}
-use Rattle.nbd_stream.specs.Disk.{Contents, MayAnswer, PerformsTask, answer_from, error_for, is_in}
+use Rattle.nbd_stream.specs.Disk.{Contents, MayFailWith, PerformsTask, answer_from, error_for, is_in}
 use Rattle.std.proofs.lemmas.Bool.{cases_lt}
 use Rattle.page_layout.specs.Counter.{HasRisen, counted}
 use Rattle.disk_server.specs.declared.mark.SyncMark.{SyncMark}
@@ -15,21 +15,21 @@ use
     Rattle.disk_server.specs.Synced.{
       CloseLaw,
       Closes,
-      Counts,
-      EndsChange,
+      CountsRangeChanged,
+      SyncsBehindChange,
       EndsSynced,
       EndsTask,
       FlushLaw,
       HasSynced,
       IsKnownFlushed,
       IsLasting,
-      IsOver,
+      FailsUnasked,
       KeepsCount,
       Marks,
       NoneFailed,
       NotesFailedSync,
-      OverLaw,
-      SyncedLaw,
+      AfterFailedSyncLaw,
+      SyncedLastLaw,
       SyncsTask,
       UnflushedLaw,
       WriteLaw,
@@ -65,14 +65,14 @@ module _ {D : Type 0} (contents : D → Contents) (honest calm : D → Bool) (la
       all (Err e) mid = tt
 
 -- what was done, and then failed to be synced
-failed_then : {D : Type 0} (contents : D → Contents) (honest calm : D → Bool) (task : Task) (body : List ℕ) (old new : D) (e : DiskFault) → e ≡ fault.Failed → MayAnswer task InputOutput → calm old ≡ false
+failed_then : {D : Type 0} (contents : D → Contents) (honest calm : D → Bool) (task : Task) (body : List ℕ) (old new : D) (e : DiskFault) → e ≡ fault.Failed → MayFailWith task InputOutput → calm old ≡ false
     → PerformsTask contents honest calm task body old (Ok []) new → PerformsTask contents honest calm task body old (Err (error_for e)) new
 failed_then contents honest calm task body old new e is may never p = record {
   sized = p.sized;
   kept = tt;
   back = p.back;
   calm_is = p.calm_is;
-  fault = subst (λ x. MayAnswer task (error_for x)) (sym is) may;
+  fault = subst (λ x. MayFailWith task (error_for x)) (sym is) may;
   given = tt;
   calmly = λ is_calm. (let no : true ≡ false = sym is_calm ∙ never in (let never' : ⊥ = cc in absurd never'));
   steps = λ h. let its = p.steps h in record {
@@ -85,7 +85,7 @@ failed_then contents honest calm task body old new e is may never p = record {
 }
 
 pub and_synced : {D : Type 0} (contents : D → Contents) (honest calm : D → Bool) (task : Task) (body : List ℕ) (old new : D) (result : Result (Unit {0}) DiskFault) → IfErr result (λ e. e ≡ fault.Failed)
-    → MayAnswer task InputOutput → calm old ≡ false → PerformsTask contents honest calm task body old (Ok []) new → PerformsTask contents honest calm task body old (answer_from result []) new
+    → MayFailWith task InputOutput → calm old ≡ false → PerformsTask contents honest calm task body old (Ok []) new → PerformsTask contents honest calm task body old (answer_from result []) new
 and_synced contents honest calm task body old new (Ok done) is may never p = p
 and_synced contents honest calm task body old new (Err e) is may never p = failed_then contents honest calm task body old new e is may never p
 
@@ -112,8 +112,8 @@ module _ {D Y : Type 0} (does : D → Task → Result (Unit {0}) DiskFault → D
 -- ---- a range to be cleared
 
 module _ {D Y : Type 0} (synced : Y → ℕ) (marked : Y → SyncMark) (next : D → ℕ) (durable : Bool) (offset count : ℕ) (old mid new : SyncedDisk D Y) (kept : KeepsCount synced old mid)
-    (counts : 0 < count → Counts synced offset count old mid) where
-  counts_then : Counts synced offset count old mid → HasSynced synced durable mid new → Counts synced offset count old new
+    (counts : 0 < count → CountsRangeChanged synced offset count old mid) where
+  counts_then : CountsRangeChanged synced offset count old mid → HasSynced synced durable mid new → CountsRangeChanged synced offset count old new
   counts_then is (inl due) = inl (no_less (synced old.syncs) (synced mid.syncs) (synced new.syncs) kept.syncs due.1.one)
   counts_then (inl risen) (inr none) = inl (subst (λ y. HasRisen (synced old.syncs) (synced y)) (sym none.1.syncs_same) risen)
   counts_then (inr low) (inr none) = inr (omega (arith, low, none.1.unsynced_same))
@@ -154,7 +154,7 @@ notes_then failed old mid new (Err e) before more = then_failed failed old mid n
 -- ---- laws
 
 module _ {D Y : Type 0} (does : D → Task → Result (Unit {0}) DiskFault → D → Type 0) (synced failed : Y → ℕ) (marked : Y → SyncMark) (next : D → ℕ) where
-  change_unflushed : (durable : Bool) (offset count : ℕ) (old new : SyncedDisk D Y) (result : Result (Unit {0}) DiskFault) → EndsChange synced marked next durable (after_change offset count old) result new
+  change_unflushed : (durable : Bool) (offset count : ℕ) (old new : SyncedDisk D Y) (result : Result (Unit {0}) DiskFault) → SyncsBehindChange synced marked next durable (after_change offset count old) result new
       → (marked new.syncs).flushed ≡ (marked old.syncs).flushed
   change_unflushed durable offset count old new result ends = unflushed marked next durable (after_change offset count old) new result ends.marks
 
@@ -185,11 +185,11 @@ module _ {D Y : Type 0} (does : D → Task → Result (Unit {0}) DiskFault → D
   ends_marked old new (WriteZeroes offset count durable) lasts ends = ends.marked_last lasts
 
   -- what was done was not refused
-  was_going : (old new : SyncedDisk D Y) → (old.failed ≡ true → IsOver old (Ok tt) new) → (b : Bool) → old.failed ≡ b → old.failed ≡ false
+  was_going : (old new : SyncedDisk D Y) → (old.failed ≡ true → FailsUnasked old (Ok tt) new) → (b : Bool) → old.failed ≡ b → old.failed ≡ false
   was_going old new over true is = (let no = (over is).0 in let never : ⊥ = cc in absurd never)
   was_going old new over false is = is
 
-  pub synced_law : SyncedLaw does synced failed marked next
+  pub synced_law : SyncedLastLaw does synced failed marked next
   synced_law old new task lasts is = ends_marked old new task lasts (is.ends (was_going old new is.over old.failed refl))
 
   -- a sync that failed is kept
@@ -198,7 +198,7 @@ module _ {D Y : Type 0} (does : D → Task → Result (Unit {0}) DiskFault → D
   kept_of old mid (Err e) less (inl none) = absurd (omega (arith, less, none.count_same))
   kept_of old mid (Err e) less (inr one) = one.kept
 
-  pub over_law : OverLaw does synced failed marked next
+  pub over_law : AfterFailedSyncLaw does synced failed marked next
   over_law old mid new task later answer result less before after = after.over (kept_of old mid answer less before.notes)
 
   -- one that was due was done

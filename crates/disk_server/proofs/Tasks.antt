@@ -3,7 +3,7 @@ use Rattle.std.proofs.Common.{◌≡◌, inl, inr, ℕ, Bool, true, false, List,
 use Rattle.std.specs.Prelude.{slice_index, IfOk, IfErr, OnOk, OnErr}
 use Rattle.nbd_stream.specs.declared.reply.RequestError.{RequestError}
 use Rattle.nbd_stream.specs.declared.task.Task.{Task}
-use Rattle.nbd_stream.specs.Disk.{Contents, MayAnswer, PerformsTask, TaskSteps, bytes_after, bytes_given, count_given}
+use Rattle.nbd_stream.specs.Disk.{Contents, MayFailWith, PerformsTask, TaskSteps, bytes_after, bytes_given, count_given}
 
 abbrev pub Answer : Type 0
 Answer = Result (List ℕ) RequestError
@@ -36,7 +36,7 @@ steps_of task body s (Err e) t its = record {
 
 -- a call of a disk that promises no calm
 pub performed : {D : Type 0} (contents : D → Contents) (honest : D → Bool) (task : Task) (body : List ℕ) (old new : D) (answer : Answer) → length (contents new).bytes ≡ length (contents old).bytes
-    → OnOk answer (honest new ≡ honest old) → (honest new ≡ true → honest old ≡ true) → IfErr answer (MayAnswer task) → IfOk answer (λ bytes. length bytes ≡ count_given task)
+    → OnOk answer (honest new ≡ honest old) → (honest new ≡ true → honest old ≡ true) → IfErr answer (MayFailWith task) → IfOk answer (λ bytes. length bytes ≡ count_given task)
     → (honest new ≡ true → TaskSteps task body (contents old) answer (contents new)) → PerformsTask contents honest (λ _. false) task body old answer new
 performed contents honest task body old new answer sized kept back fault given steps = record {
   sized = sized;
@@ -52,7 +52,7 @@ performed contents honest task body old new answer sized kept back fault given s
 -- ONE CALL of such a disk, which promises no calm
 module _ {D : Type 0} (bytes : D → List ℕ) (honest : D → Bool) (task : Task) (body : List ℕ) (old : D) (answer : Answer) (new : D) where
   pub performs_by : length (bytes new) ≡ length (bytes old) → OnOk answer (honest new ≡ honest old) → (honest new ≡ true → honest old ≡ true)
-      → IfErr answer (MayAnswer task) → IfOk answer (λ given. length given ≡ count_given task)
+      → IfErr answer (MayFailWith task) → IfOk answer (λ given. length given ≡ count_given task)
       → (honest new ≡ true → Sets task body (bytes old) answer (bytes new))
       → PerformsTask (λ d. lasting (bytes d)) honest (λ d. false) task body old answer new
   performs_by sized kept back fault given sets =

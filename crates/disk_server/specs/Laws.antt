@@ -12,19 +12,19 @@ use Rattle.ftl_device.specs.Calls.{array_in, stop_of}
 use Rattle.disk_server.specs.Disk.{AsksFlush, IsDisk, change_fault, contents_of, flush_answer, holds, takes_changes}
 
 -- the bytes are as many as all sectors have, whether the device holds its array or not
-abbrev pub LengthLaw : {N : Type 0} → View N → Type 0
-LengthLaw {N} view = (d : Device N) → IsDisk view d
+abbrev pub DiskLengthLaw : {N : Type 0} → View N → Type 0
+DiskLengthLaw {N} view = (d : Device N) → IsDisk view d
     → length (contents_of view d).bytes ≡ d.engine.geometry.sectors * d.engine.geometry.data_bytes
 
 -- SECTOR n OF THE ARRAY is the range of the bytes from n sectors on, as long as the device holds it
-abbrev pub SectorLaw : {N : Type 0} → View N → Type 0
-SectorLaw {N} view = (d : Device N) (n : ℕ) → IsDisk view d → holds view.honest d ≡ true → n < d.engine.geometry.sectors
+abbrev pub SectorRangeLaw : {N : Type 0} → View N → Type 0
+SectorRangeLaw {N} view = (d : Device N) (n : ℕ) → IsDisk view d → holds view.honest d ≡ true → n < d.engine.geometry.sectors
     → slice_range (contents_of view d).bytes (n * d.engine.geometry.data_bytes) (n * d.engine.geometry.data_bytes + d.engine.geometry.data_bytes)
     ≡ get_or (array_in view.flash d) n []
 
 -- what would be there after a stop is what is there
-abbrev pub LastsLaw : {N : Type 0} → View N → Type 0
-LastsLaw {N} view = (d : Device N) → (contents_of view d).durable ≡ (contents_of view d).bytes
+abbrev pub DurableLaw : {N : Type 0} → View N → Type 0
+DurableLaw {N} view = (d : Device N) → (contents_of view d).durable ≡ (contents_of view d).bytes
 
 -- a device holds its array just where its die is honest and it was not stopped
 abbrev pub HoldsLaw : {N : Type 0} → (N → Bool) → Type 0
@@ -35,8 +35,8 @@ HoldsLaw {N} honest = (d : Device N) → (holds honest d ≡ true) ↔ ((honest 
 abbrev pub NoSpaceLaw : Type 0
 NoSpaceLaw = (e : DeviceFault) → (change_fault e ≡ fault.NoSpace) ↔ (e ≡ OutOfMemory)
 
-abbrev pub ReadOnlyLaw : Type 0
-ReadOnlyLaw = (e : DeviceFault) → (change_fault e ≡ fault.ReadOnly) ↔ (flush_answer (Err e) ≡ Ok tt)
+abbrev pub ReadOnlyFlushLaw : Type 0
+ReadOnlyFlushLaw = (e : DeviceFault) → (change_fault e ≡ fault.ReadOnly) ↔ (flush_answer (Err e) ≡ Ok tt)
 
 -- so it is where the device is read-only, or has given out its last sequence, and nowhere else
 abbrev pub ClosedLaw : Type 0
@@ -50,6 +50,6 @@ abbrev pub BelowLaw : {N : Type 0} → View N → Type 0
 BelowLaw {N} view = (d : Device N) → IsDisk view d → holds view.honest d ≡ true → AreBelow (marks (view.flash d.engine.nand).image) d.engine.next
 
 -- A FLUSH THAT IS ANSWERED AS DONE LEFT NO SECTOR STALE, where the device takes changes after it: its translation pages name the newest page of each
-abbrev pub WrittenLaw : {N : Type 0} → (view : View N) → Type 0
-WrittenLaw {N} view = (old new : Device N) → IsDisk view old → IsDisk view new → AsksFlush view old (Ok tt) new
+abbrev pub NoneStaleAfterFlushLaw : {N : Type 0} → (view : View N) → Type 0
+NoneStaleAfterFlushLaw {N} view = (old new : Device N) → IsDisk view old → IsDisk view new → AsksFlush view old (Ok tt) new
     → holds view.honest old ≡ true → takes_changes new ≡ true → stale_sectors old.engine.geometry (view.flash new.engine.nand).image ≡ []

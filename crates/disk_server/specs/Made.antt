@@ -5,7 +5,7 @@ use Rattle.page_layout.specs.Flash.{Flash}
 use Rattle.file_die.specs.Store.{Held}
 use Rattle.mount.specs.declared.format_fault.FormatFault.{FormatFault}
 use Rattle.mount.specs.Formatted.{Formats}
-use Rattle.disk_server.specs.Opened.{ComesBack, IsUnopenedAt, flash_of}
+use Rattle.disk_server.specs.Opened.{ComesBack, IsUnopenedAt, flash_as_opened}
 use Rattle.disk_server.specs.declared.format.CreateFault.{CreateFault}
 use Rattle.disk_server.specs.declared.format.CreateFault.TheVariants as why
 
@@ -13,7 +13,7 @@ use Rattle.disk_server.specs.declared.format.CreateFault.TheVariants as why
 pub record IsFormattedFrom (share : ℕ) (s t : Held) (answer : Result ℕ FormatFault) : Type 0 where
   pub new : Flash
   pub to : new.image ≡ t.pages
-  pub formats : Formats s.geometry (need_at s.geometry share) (flash_of s) new answer
+  pub formats : Formats s.geometry (need_at s.geometry share) (flash_as_opened s) new answer
 
 -- its pages became those of a formatted die with so many good blocks, and all of them last
 pub record IsDiskMade (share : ℕ) (s t : Held) (good : ℕ) : Type 0 where

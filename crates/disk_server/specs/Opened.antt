@@ -11,7 +11,7 @@ use Rattle.onfi_cycles.specs.Called.{driver_called}
 use Rattle.onfi_cycles.specs.Cycles.{due_of}
 use Rattle.onfi_cycles.specs.Driver.{DriverState, flash_by}
 use Rattle.file_die.specs.Store.{Held}
-use Rattle.nand_die.specs.Made.{first_turns, next_in}
+use Rattle.nand_die.specs.Made.{first_next_pages, next_in}
 use Rattle.file_die.specs.declared.die.SyncWhen.{SyncWhen}
 use Rattle.file_die.specs.Die.{ActsOverStore, FileState, flash_over, shown, syncs_always}
 use Rattle.disk_server.specs.Flat.{flat}
@@ -54,8 +54,8 @@ abbrev pub is_honest_in : {S : Type 0} → (S → Bool) → DriverState (FileSta
 is_honest_in honest d = honest d.bus.store
 
 -- what it tells of what it did
-abbrev pub told_in : {S : Type 0} → DriverState (FileState S) → Option Recording
-told_in d = Some d.told
+abbrev pub recorded_in : {S : Type 0} → DriverState (FileState S) → Option Recording
+recorded_in d = Some d.told
 
 -- whether its die syncs the store after each program: no call of a die changes it
 abbrev pub always_in : {S : Type 0} → DriverState (FileState S) → Bool
@@ -65,7 +65,7 @@ always_in d = syncs_always d.bus.sync_when
 abbrev pub view_in : {S : Type 0} → (S → Held) → (honest : S → Bool) → (failed : S → ℕ) → View (DriverState (FileState S))
 view_in held honest failed = record {
   flash = flash_in held;
-  recorded = told_in;
+  recorded = recorded_in;
   honest = is_honest_in honest;
   calm = always_in;
   reads = λ d. d.reads;
@@ -83,9 +83,9 @@ SyncsWhen sync_when d = d.bus.sync_when ≡ sync_when
 abbrev pub bytes_of : Held → List ℕ
 bytes_of s = flat (array_of s.geometry s.pages)
 
--- the flash of its die as it is opened: the turns of the blocks are what the pages say
-abbrev pub flash_of : Held → Flash
-flash_of s = flash_over s (first_turns s.geometry (next_in s.geometry s.pages) []) 0
+-- the flash of its die as it is opened: the next pages of the blocks are what the pages say
+abbrev pub flash_as_opened : Held → Flash
+flash_as_opened s = flash_over s (first_next_pages s.geometry (next_in s.geometry s.pages) []) 0
 
 -- ---- why there is none
 

@@ -5,16 +5,16 @@ use Rattle.page_layout.specs.Newest.{newest}
 use Rattle.page_layout.specs.Array.{marks, content_at, HasOneArray}
 use Rattle.file_die.specs.declared.die.SyncWhen.{SyncWhen}
 use Rattle.file_die.specs.Store.{Held, AreImages}
-use Rattle.file_die.specs.DieLaws.{Turn, GoesAdding}
+use Rattle.file_die.specs.DieLaws.{StoreCycle, GoesAdding}
 use Rattle.image_laws.specs.Power.{LosesPower, IsPageSince}
 use Rattle.disk_server.specs.Opened.{bytes_of}
 
 -- SINCE A SYNC THE CYCLES OF A DIE ONLY ADDED PAGES: all pages of a whole store lasted, each cycle since then, done or failed, erased nothing
 -- and programmed no page where one had a record, and the pages that are there now hold one array
-pub record HasAdded (sync_when : SyncWhen) (synced : Held) (turns : List Turn) (t : Held) : Type 0 where
+pub record HasAdded (sync_when : SyncWhen) (synced : Held) (cycles : List StoreCycle) (t : Held) : Type 0 where
   pub images : AreImages synced
   pub lasted : synced.durable ≡ synced.pages
-  pub goes : GoesAdding sync_when synced turns t
+  pub goes : GoesAdding sync_when synced cycles t
   pub one : HasOneArray synced.geometry t.pages
 
 -- the store that is found if the power goes now, between two cycles
@@ -39,7 +39,7 @@ pub record FindsDisk (synced t found : Held) : Type 0 where
 
 -- its pages are what a loss of power leaves of images
 abbrev pub LeavesLaw : Type 0
-LeavesLaw = (sync_when : SyncWhen) (synced t : Held) (turns : List Turn) → HasAdded sync_when synced turns t → LosesPower synced.geometry synced.pages t.pages (found_of t).pages
+LeavesLaw = (sync_when : SyncWhen) (synced t : Held) (cycles : List StoreCycle) → HasAdded sync_when synced cycles t → LosesPower synced.geometry synced.pages t.pages (found_of t).pages
 
 abbrev pub FoundLaw : Type 0
-FoundLaw = (sync_when : SyncWhen) (synced t : Held) (turns : List Turn) → HasAdded sync_when synced turns t → FindsDisk synced t (found_of t)
+FoundLaw = (sync_when : SyncWhen) (synced t : Held) (cycles : List StoreCycle) → HasAdded sync_when synced cycles t → FindsDisk synced t (found_of t)

@@ -13,7 +13,7 @@ use Rattle.nbd_stream.specs.declared.task.Task.TheVariants.{Read}
 use Rattle.nbd_stream.specs.Disk.{Contents, PerformsTask}
 use Rattle.disk_server.specs.declared.opened.OpenStoreFault.{OpenStoreFault}
 use Rattle.disk_server.specs.Disk.{AsksChange, AsksClear, AsksFlush, AsksRead, AsksTurn, contents_of, holds, takes_changes}
-use Rattle.disk_server.specs.Opened.{IsUnstarted, SyncsWhen, bytes_of, flash_in, flash_of, is_honest_in, view_in}
+use Rattle.disk_server.specs.Opened.{IsUnstarted, SyncsWhen, bytes_of, flash_in, flash_as_opened, is_honest_in, view_in}
 
 -- its device, where one is there; its sectors; what was next as its device stopped; whether it was opened anew; and how it is: with a cache of so many entries, with this share, and by when its die syncs its store
 pub record Reopened (S : Type 0) : Type 0 where
@@ -27,7 +27,7 @@ pub record Reopened (S : Type 0) : Type 0 where
   pub sync_when : SyncWhen
 
 -- what is true of its parts: its sectors are those of the device that is there
-pub record AreParts {S : Type 0} (size count capacity : ℕ) (device : Option (Device (DriverState (FileState S)))) : Type 0 where
+pub record AreReopenedParts {S : Type 0} (size count capacity : ℕ) (device : Option (Device (DriverState (FileState S)))) : Type 0 where
   pub some : 0 < size
   pub bounded : count * size < 2 ^ 64
   pub least : 1 ≤ capacity
@@ -59,8 +59,8 @@ abbrev pub next_by : {S : Type 0} → (last : ℕ) → Option (Device (DriverSta
 next_by last None = last
 next_by last (Some d) = d.engine.next
 
-abbrev pub next_in : {S : Type 0} → Reopened S → ℕ
-next_in d = next_by d.next d.device
+abbrev pub next_to_program : {S : Type 0} → Reopened S → ℕ
+next_to_program d = next_by d.next d.device
 
 -- whether it takes changes: none that is gone does
 abbrev pub takes_by : {S : Type 0} → Option (Device (DriverState (FileState S))) → Bool
@@ -94,7 +94,7 @@ pub record HasDevice {S : Type 0} (terms : Terms) (reopened : Bool) (next : ℕ)
 pub record IsOpenedFrom {S : Type 0} (held : S → Held) (honest : S → Bool) (failed : S → ℕ) (terms : Terms) (store : S) (d : Device (DriverState (FileState S))) : Type 0 where
   pub as_honest : holds (is_honest_in honest) d ≡ honest store
   pub bytes : honest store ≡ true → (contents_of (view_in held honest failed) d).bytes ≡ bytes_of (held store)
-  pub pages : honest store ≡ true → flash_in held d.engine.nand ≡ flash_of (held store)
+  pub pages : honest store ≡ true → flash_in held d.engine.nand ≡ flash_as_opened (held store)
   pub entries : d.engine.mapping.capacity ≡ terms.capacity
   pub share : d.engine.mapping.share ≡ terms.share
   pub syncs : SyncsWhen terms.sync_when d.engine.nand

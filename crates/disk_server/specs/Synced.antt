@@ -40,18 +40,18 @@ pub record IsUnsynced {D Y : Type 0} (synced : Y → ℕ) (old new : SyncedDisk 
   pub unsynced_same : new.unsynced ≡ old.unsynced
 
 -- a sync is due: what was done is to last, or more was changed since the last one than may be
-abbrev pub IsDue : {D Y : Type 0} → (durable : Bool) → SyncedDisk D Y → Type 0
-IsDue durable s = (durable ≡ true) ⊎ (s.pace.most < s.unsynced)
+abbrev pub IsSyncDue : {D Y : Type 0} → (durable : Bool) → SyncedDisk D Y → Type 0
+IsSyncDue durable s = (durable ≡ true) ⊎ (s.pace.most < s.unsynced)
 
 -- one more sync was done, and nothing counts as changed
-pub record Syncs {D Y : Type 0} (synced : Y → ℕ) (old new : SyncedDisk D Y) : Type 0 where
+pub record SyncsOnceMore {D Y : Type 0} (synced : Y → ℕ) (old new : SyncedDisk D Y) : Type 0 where
   pub one : synced new.syncs ≡ counted (synced old.syncs)
   pub pace_same : new.pace ≡ old.pace
   pub all : new.unsynced ≡ 0
 
 -- A SYNC WAS DONE JUST WHERE ONE WAS DUE
 abbrev pub HasSynced : {D Y : Type 0} → (synced : Y → ℕ) → (durable : Bool) → (old new : SyncedDisk D Y) → Type 0
-HasSynced synced durable old new = (IsDue durable old × Syncs synced old new) ⊎ ((¬ IsDue durable old) × KeepsSyncs old new)
+HasSynced synced durable old new = (IsSyncDue durable old × SyncsOnceMore synced old new) ⊎ ((¬ IsSyncDue durable old) × KeepsSyncs old new)
 
 -- any syncs were done; their count stays at 2^64 - 1 once there
 pub record KeepsCount {D Y : Type 0} (synced : Y → ℕ) (old new : SyncedDisk D Y) : Type 0 where
@@ -59,13 +59,13 @@ pub record KeepsCount {D Y : Type 0} (synced : Y → ℕ) (old new : SyncedDisk 
   pub pace_same : new.pace ≡ old.pace
 
 -- A RANGE COUNTS AS CHANGED, each piece that it touches, unless a sync was done since
-abbrev pub Counts : {D Y : Type 0} → (synced : Y → ℕ) → (offset count : ℕ) → (old new : SyncedDisk D Y) → Type 0
-Counts synced offset count old new = HasRisen (synced old.syncs) (synced new.syncs) ⊎ ((after_change offset count old).unsynced ≤ new.unsynced)
+abbrev pub CountsRangeChanged : {D Y : Type 0} → (synced : Y → ℕ) → (offset count : ℕ) → (old new : SyncedDisk D Y) → Type 0
+CountsRangeChanged synced offset count old new = HasRisen (synced old.syncs) (synced new.syncs) ⊎ ((after_change offset count old).unsynced ≤ new.unsynced)
 
 -- AFTER PARTS of a change no more counts as changed than may be; after a change that is to last, which ended with one more sync, nothing does
 pub record EndsSynced {D Y : Type 0} (synced : Y → ℕ) (durable : Bool) (offset count : ℕ) (old new : SyncedDisk D Y) : Type 0 where
   pub few : new.unsynced ≤ old.pace.most
-  pub counts : 0 < count → Counts synced offset count old new
+  pub counts : 0 < count → CountsRangeChanged synced offset count old new
   pub pace_same : new.pace ≡ old.pace
   pub all : durable ≡ true → new.unsynced ≡ 0
   pub one_more : durable ≡ true → HasRisen (synced old.syncs) (synced new.syncs)
@@ -79,8 +79,8 @@ after_sync next flushed m = record { synced = next; flushed = if flushed then ne
 -- WHAT IS MARKED WITH A SYNC THAT WAS DUE: all that the disk had programmed by then, and no flush of it. Without one, and after one that failed, the mark is the one before
 abbrev pub Marks : {D Y : Type 0} → (marked : Y → SyncMark) → (next : D → ℕ) → (durable : Bool) → (old : SyncedDisk D Y) → Result (Unit {0}) DiskFault → (new : SyncedDisk D Y) → Type 0
 Marks marked next durable old (Ok done) new =
-    (IsDue durable old × (marked new.syncs ≡ after_sync (next new.disk) false (marked old.syncs)))
-    ⊎ ((¬ IsDue durable old) × (marked new.syncs ≡ marked old.syncs))
+    (IsSyncDue durable old × (marked new.syncs ≡ after_sync (next new.disk) false (marked old.syncs)))
+    ⊎ ((¬ IsSyncDue durable old) × (marked new.syncs ≡ marked old.syncs))
 Marks marked next durable old (Err e) new = marked new.syncs ≡ marked old.syncs
 
 -- ---- a sync that failed
@@ -101,30 +101,30 @@ NotesFailedSync failed old (Ok done) new = NoneFailed failed old new
 NotesFailedSync failed old (Err e) new = NoneFailed failed old new ⊎ OneFailed failed old new
 
 -- NOTHING IS ASKED of the disk, nor of its syncs
-abbrev pub IsOver : {D Y : Type 0} → (old : SyncedDisk D Y) → Result (Unit {0}) DiskFault → (new : SyncedDisk D Y) → Type 0
-IsOver old result new = (result ≡ Err fault.Failed) × (new ≡ old)
+abbrev pub FailsUnasked : {D Y : Type 0} → (old : SyncedDisk D Y) → Result (Unit {0}) DiskFault → (new : SyncedDisk D Y) → Type 0
+FailsUnasked old result new = (result ≡ Err fault.Failed) × (new ≡ old)
 
 -- A REST is one of the disk; after a sync that failed there is none
 abbrev pub RestsSynced : {D Y : Type 0} → (rests : D → Result (Unit {0}) DiskFault → D → Type 0) → SyncedDisk D Y → Result (Unit {0}) DiskFault → SyncedDisk D Y → Type 0
 RestsSynced rests old result new =
-    ((old.failed ≡ true) × IsOver old result new)
+    ((old.failed ≡ true) × FailsUnasked old result new)
     ⊎ ((old.failed ≡ false) × rests old.disk result new.disk × KeepsSyncs old new)
 
 -- ---- a task
 
 -- a disk was asked this, and answered it or failed
-abbrev pub Asks : {D : Type 0} → (does : D → Task → Result (Unit {0}) DiskFault → D → Type 0) → Task → (old new : D) → Type 0
-Asks does task old new = (answer : Result (Unit {0}) DiskFault) × does old task answer new
+abbrev pub AsksDisk : {D : Type 0} → (does : D → Task → Result (Unit {0}) DiskFault → D → Type 0) → Task → (old new : D) → Type 0
+AsksDisk does task old new = (answer : Result (Unit {0}) DiskFault) × does old task answer new
 
 -- A CHANGE, counted already, and the sync behind it: where one was due it was done, after all that was written before, as its mark tells; after an error there was none
-pub record EndsChange {D Y : Type 0} (synced : Y → ℕ) (marked : Y → SyncMark) (next : D → ℕ) (durable : Bool) (counted : SyncedDisk D Y) (result : Result (Unit {0}) DiskFault) (new : SyncedDisk D Y) : Type 0 where
+pub record SyncsBehindChange {D Y : Type 0} (synced : Y → ℕ) (marked : Y → SyncMark) (next : D → ℕ) (durable : Bool) (counted : SyncedDisk D Y) (result : Result (Unit {0}) DiskFault) (new : SyncedDisk D Y) : Type 0 where
   pub synced_if_due : OnOk result (HasSynced synced durable counted new)
   pub unsynced : OnErr result (IsUnsynced synced counted new)
   pub marks : Marks marked next durable counted result new
 
 -- so many bytes of a range were cleared, which were not told to last
 abbrev pub ClearsPart : {D : Type 0} → (does : D → Task → Result (Unit {0}) DiskFault → D → Type 0) → (offset count : ℕ) → (old new : D) → Type 0
-ClearsPart does offset count old new = (place taken : ℕ) × (offset ≤ place) × (place + taken ≤ offset + count) × Asks does (Trim place taken false) old new
+ClearsPart does offset count old new = (place taken : ℕ) × (offset ≤ place) × (place + taken ≤ offset + count) × AsksDisk does (Trim place taken false) old new
 
 -- A RANGE TO BE CLEARED, and the syncs within it and behind it; the last one, where it is to last, was done after all of it
 pub record EndsCleared {D Y : Type 0} (does : D → Task → Result (Unit {0}) DiskFault → D → Type 0) (synced : Y → ℕ) (marked : Y → SyncMark) (next : D → ℕ) (durable : Bool) (offset count : ℕ)
@@ -138,15 +138,15 @@ pub record EndsCleared {D Y : Type 0} (does : D → Task → Result (Unit {0}) D
 abbrev pub EndsTask : {D Y : Type 0} → (does : D → Task → Result (Unit {0}) DiskFault → D → Type 0) → (synced : Y → ℕ) → (marked : Y → SyncMark) → (next : D → ℕ)
     → (old : SyncedDisk D Y) → Task → Result (Unit {0}) DiskFault → (new : SyncedDisk D Y) → Type 0
 EndsTask does synced marked next old (Read offset count) result new = does old.disk (Read offset count) result new.disk × KeepsSyncs old new
-EndsTask does synced marked next old (Write offset count durable) result new = Asks does (Write offset count false) old.disk new.disk × EndsChange synced marked next durable (after_change offset count old) result new
-EndsTask does synced marked next old Flush result new = (new.disk ≡ old.disk) × EndsChange synced marked next true old result new
+EndsTask does synced marked next old (Write offset count durable) result new = AsksDisk does (Write offset count false) old.disk new.disk × SyncsBehindChange synced marked next durable (after_change offset count old) result new
+EndsTask does synced marked next old Flush result new = (new.disk ≡ old.disk) × SyncsBehindChange synced marked next true old result new
 EndsTask does synced marked next old (Trim offset count durable) result new = EndsCleared does synced marked next durable offset count old result new
 EndsTask does synced marked next old (WriteZeroes offset count durable) result new = EndsCleared does synced marked next durable offset count old result new
 
 -- WHAT A CALL IS, beside the bytes
 pub record SyncsTask {D Y : Type 0} (does : D → Task → Result (Unit {0}) DiskFault → D → Type 0) (synced failed : Y → ℕ) (marked : Y → SyncMark) (next : D → ℕ)
     (old : SyncedDisk D Y) (task : Task) (result : Result (Unit {0}) DiskFault) (new : SyncedDisk D Y) : Type 0 where
-  pub over : old.failed ≡ true → IsOver old result new
+  pub over : old.failed ≡ true → FailsUnasked old result new
   pub ends : old.failed ≡ false → EndsTask does synced marked next old task result new
   pub notes : NotesFailedSync failed old result new
 
@@ -159,7 +159,7 @@ IsKnownFlushed marked next counts s = (counts ≡ true) × ((marked s.syncs).flu
 -- it was flushed, and one more sync was done behind that, with the mark of both
 pub record FlushesDisk {D Y : Type 0} (does : D → Task → Result (Unit {0}) DiskFault → D → Type 0) (synced : Y → ℕ) (marked : Y → SyncMark) (next : D → ℕ) (takes : D → Bool) (old new : SyncedDisk D Y) : Type 0 where
   pub flushed : does old.disk Flush (Ok tt) new.disk
-  pub syncs : Syncs synced old new
+  pub syncs : SyncsOnceMore synced old new
   pub marks : marked new.syncs ≡ after_sync (next new.disk) (takes new.disk) (marked old.syncs)
 
 -- or one of the two failed
@@ -177,7 +177,7 @@ FlushesBy does synced marked next takes old (Err e) new = FailsToFlush does sync
 -- HOW A DISK IS CLOSED: it is flushed, unless it is known to be; after a sync that failed nothing is asked
 pub record Closes {D Y : Type 0} (does : D → Task → Result (Unit {0}) DiskFault → D → Type 0) (synced failed : Y → ℕ) (marked : Y → SyncMark) (next : D → ℕ) (takes : D → Bool) (counts : Bool)
     (old : SyncedDisk D Y) (result : Result (Unit {0}) DiskFault) (new : SyncedDisk D Y) : Type 0 where
-  pub over : old.failed ≡ true → IsOver old result new
+  pub over : old.failed ≡ true → FailsUnasked old result new
   pub known : old.failed ≡ false → IsKnownFlushed marked next counts old → (result ≡ Ok tt) × (new ≡ old)
   pub flushes : old.failed ≡ false → ¬ IsKnownFlushed marked next counts old → FlushesBy does synced marked next takes old result new
   pub notes : NotesFailedSync failed old result new
@@ -198,8 +198,8 @@ IsLasting (Trim offset count durable) = durable ≡ true
 IsLasting (WriteZeroes offset count durable) = durable ≡ true
 
 -- ONE THAT IS DONE IS SYNCED LAST: the mark tells all that the disk has programmed by its end
-abbrev pub SyncedLaw : {D Y : Type 0} → (does : D → Task → Result (Unit {0}) DiskFault → D → Type 0) → (synced failed : Y → ℕ) → (marked : Y → SyncMark) → (next : D → ℕ) → Type 0
-SyncedLaw {D} {Y} does synced failed marked next = (old new : SyncedDisk D Y) (task : Task) → IsLasting task → SyncsTask does synced failed marked next old task (Ok tt) new
+abbrev pub SyncedLastLaw : {D Y : Type 0} → (does : D → Task → Result (Unit {0}) DiskFault → D → Type 0) → (synced failed : Y → ℕ) → (marked : Y → SyncMark) → (next : D → ℕ) → Type 0
+SyncedLastLaw {D} {Y} does synced failed marked next = (old new : SyncedDisk D Y) (task : Task) → IsLasting task → SyncsTask does synced failed marked next old task (Ok tt) new
     → (marked new.syncs).synced ≡ next new.disk
 
 -- A DISK THAT WAS CLOSED, and takes changes, is marked as flushed up to the page that is next
@@ -208,8 +208,8 @@ CloseLaw {D} {Y} does synced failed marked next takes = (counts : Bool) (old new
     → (marked new.syncs).flushed ≡ next new.disk
 
 -- ONCE A SYNC FAILED NOTHING IS ASKED, and each task is answered `Failed`: what was written before may be lost, and the next sync may answer that all is well
-abbrev pub OverLaw : {D Y : Type 0} → (does : D → Task → Result (Unit {0}) DiskFault → D → Type 0) → (synced failed : Y → ℕ) → (marked : Y → SyncMark) → (next : D → ℕ) → Type 0
-OverLaw {D} {Y} does synced failed marked next = (old mid new : SyncedDisk D Y) (task later : Task) (answer result : Result (Unit {0}) DiskFault) → failed old.syncs < failed mid.syncs
+abbrev pub AfterFailedSyncLaw : {D Y : Type 0} → (does : D → Task → Result (Unit {0}) DiskFault → D → Type 0) → (synced failed : Y → ℕ) → (marked : Y → SyncMark) → (next : D → ℕ) → Type 0
+AfterFailedSyncLaw {D} {Y} does synced failed marked next = (old mid new : SyncedDisk D Y) (task later : Task) (answer result : Result (Unit {0}) DiskFault) → failed old.syncs < failed mid.syncs
     → SyncsTask does synced failed marked next old task answer mid → SyncsTask does synced failed marked next mid later result new → (result ≡ Err fault.Failed) × (new ≡ mid)
 
 -- A FLUSH THAT IS DONE IS ONE SYNC, and asks nothing of the disk
@@ -221,7 +221,7 @@ FlushLaw {D} {Y} does synced failed marked next = (old new : SyncedDisk D Y) →
 -- those before not more than may be
 abbrev pub WriteLaw : {D Y : Type 0} → (does : D → Task → Result (Unit {0}) DiskFault → D → Type 0) → (synced failed : Y → ℕ) → (marked : Y → SyncMark) → (next : D → ℕ) → Type 0
 WriteLaw {D} {Y} does synced failed marked next = (old new : SyncedDisk D Y) (offset count : ℕ) (durable : Bool) → SyncsTask does synced failed marked next old (Write offset count durable) (Ok tt) new
-    → Asks does (Write offset count false) old.disk new.disk
+    → AsksDisk does (Write offset count false) old.disk new.disk
     × (((synced new.syncs ≡ counted (synced old.syncs)) × (new.unsynced ≡ 0))
     ⊎ ((durable ≡ false) × (new.syncs ≡ old.syncs) × (new.unsynced ≡ min (old.unsynced + touched old.pace.piece offset count) (2 ^ 64 - 1)) × (new.unsynced ≤ old.pace.most)))
 

@@ -1,7 +1,7 @@
 //! What a device of sectors is as bytes, the block device as one, and a disk in a store after a loss of power. Each function does nothing: its contract is
 //! the law.
-ghost use Rattle.disk_server.specs.Synced.{CloseLaw, FlushLaw, OverLaw, SyncedLaw, UnflushedLaw, WriteLaw};
-ghost use Rattle.disk_server.specs.Laws.{BelowLaw, ClosedLaw, HoldsLaw, LastsLaw, LengthLaw, NoSpaceLaw, ReadOnlyLaw, SectorLaw, WrittenLaw};
+ghost use Rattle.disk_server.specs.Synced.{CloseLaw, FlushLaw, AfterFailedSyncLaw, SyncedLastLaw, UnflushedLaw, WriteLaw};
+ghost use Rattle.disk_server.specs.Laws.{BelowLaw, ClosedLaw, HoldsLaw, DurableLaw, DiskLengthLaw, NoSpaceLaw, ReadOnlyFlushLaw, SectorRangeLaw, NoneStaleAfterFlushLaw};
 ghost use Rattle.disk_server.specs.Flat.{FlatLaw};
 ghost use Rattle.disk_server.specs.Guarded.{GuardedByteLaw, GuardedReadLaw, HealedLaw, UnkeptLaw};
 ghost use Rattle.disk_server.specs.Power.{FoundLaw, LeavesLaw};
@@ -24,9 +24,9 @@ pub fn flat_laws()
 /// A sector of the array that the image on the die holds is a range of the disk's bytes, which are as many as all sectors have. That is said of a
 /// device that was not stopped over a die that is honest, and of no other. (This project's.)
 pub fn array_laws<N: Nand>()
-    ensures length { LengthLaw N.view }
-    ensures sector { SectorLaw N.view }
-    ensures lasts { LastsLaw N.view }
+    ensures length { DiskLengthLaw N.view }
+    ensures sector { SectorRangeLaw N.view }
+    ensures lasts { DurableLaw N.view }
     ensures holds { HoldsLaw N.view.honest }
 {}
 
@@ -34,16 +34,16 @@ pub fn array_laws<N: Nand>()
 /// (This project's.)
 pub fn sequence_laws<N: Nand>()
     ensures below { BelowLaw N.view }
-    ensures written { WrittenLaw N.view }
+    ensures written { NoneStaleAfterFlushLaw N.view }
 {}
 
 /// What a disk joined with its syncs is marked with: no task marks it as flushed; a flush and a durable change that is done are synced last; and one that was closed, and takes changes, is marked as flushed up to
 /// the page that is next. And what is asked: a flush is one sync; a write is one of the disk, and a sync where one is due; once a sync failed nothing is. (This project's.)
 pub fn sync_laws<D: LastingDisk + Sequenced, Y: Syncs>()
     ensures unflushed { UnflushedLaw D.does Y.synced Y.failed Y.marked D.next }
-    ensures synced { SyncedLaw D.does Y.synced Y.failed Y.marked D.next }
+    ensures synced { SyncedLastLaw D.does Y.synced Y.failed Y.marked D.next }
     ensures closed { CloseLaw D.does Y.synced Y.failed Y.marked D.next D.takes }
-    ensures over { OverLaw D.does Y.synced Y.failed Y.marked D.next }
+    ensures over { AfterFailedSyncLaw D.does Y.synced Y.failed Y.marked D.next }
     ensures flush { FlushLaw D.does Y.synced Y.failed Y.marked D.next }
     ensures write { WriteLaw D.does Y.synced Y.failed Y.marked D.next }
 {}
@@ -85,7 +85,7 @@ pub fn reopened_laws<S: Store + TellsFull>()
 /// other, and a flush that has such a one is done. (This project's.)
 pub fn fault_laws()
     ensures no_space { NoSpaceLaw }
-    ensures read_only { ReadOnlyLaw }
+    ensures read_only { ReadOnlyFlushLaw }
     ensures closed { ClosedLaw }
 {}
 

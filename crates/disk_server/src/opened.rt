@@ -2,7 +2,7 @@
 ghost use Rattle.std.specs.Prelude.{◌≡◌, ◌≤◌, ℕ, true, IfOk, IfErr};
 ghost use Rattle.mount.specs.Mounted.{IsMounted};
 ghost use Rattle.disk_server.specs.Disk.{contents_of, holds};
-ghost use Rattle.disk_server.specs.Opened.{bytes_of, flash_in, flash_of, is_honest_in, ComesBack, HasCome, IsUnopened, IsUnopenedAt, IsUnstarted, SyncsWhen, why_of, view_in};
+ghost use Rattle.disk_server.specs.Opened.{bytes_of, flash_in, flash_as_opened, is_honest_in, ComesBack, HasCome, IsUnopened, IsUnopenedAt, IsUnstarted, SyncsWhen, why_of, view_in};
 ghost use Rattle.disk_server.specs.Open.{nand_of};
 
 use crate::device_disk::DeviceDisk;
@@ -67,7 +67,7 @@ pub(crate) fn driver_over<S: Store + Drop>(
     ensures honest { IfOk result (λ d. is_honest_in S.honest d ≡ S.honest store) }
     ensures geometry { IfOk result (λ d. d.geometry ≡ (S.held store).geometry) }
     ensures syncs { IfOk result (SyncsWhen sync_when) }
-    ensures flash { IfOk result (λ d. S.honest store ≡ true → flash_in S.held d ≡ flash_of (S.held store)) }
+    ensures flash { IfOk result (λ d. S.honest store ≡ true → flash_in S.held d ≡ flash_as_opened (S.held store)) }
     ensures pages { IfOk result (λ d. S.honest store ≡ true → (flash_in S.held d).image ≡ (S.held store).pages) }
     ensures fault { IfErr result (λ e. IsUnopenedAt S.held S.honest S.failed store e.0 e.1) }
     ensures given { IfErr result (λ e. ComesBack S.held S.honest store e.1 e.0) }
@@ -159,7 +159,7 @@ pub fn open_store<S: Store + Drop>(
     ensures syncs { IfOk result (λ d. SyncsWhen sync_when d.engine.nand) }
     ensures honest { IfOk result (λ d. holds (is_honest_in S.honest) d ≡ S.honest store) }
     ensures bytes { IfOk result (λ d. S.honest store ≡ true → (contents_of (view_in S.held S.honest S.failed) d).bytes ≡ bytes_of (S.held store)) }
-    ensures pages { IfOk result (λ d. S.honest store ≡ true → flash_in S.held d.engine.nand ≡ flash_of (S.held store)) }
+    ensures pages { IfOk result (λ d. S.honest store ≡ true → flash_in S.held d.engine.nand ≡ flash_as_opened (S.held store)) }
     ensures fault { IfErr result (λ e. IsUnstarted S.held S.honest S.failed store capacity share e.0 e.1) }
     ensures given { IfErr result (λ e. ComesBack S.held S.honest store e.1 e.0) }
 {

@@ -35,7 +35,7 @@ pub struct ReopenedDevice<S: Store> {
 }
 
 impl<S: Store> Model for ReopenedDevice<S> {
-    ghost use Rattle.disk_server.specs.Reopened.{Reopened, AreParts};
+    ghost use Rattle.disk_server.specs.Reopened.{Reopened, AreReopenedParts};
 
     ghost Value = { Reopened S };
 
@@ -50,7 +50,7 @@ impl<S: Store> Model for ReopenedDevice<S> {
       sync_when = d.sync_when;
     } };
 
-    ghost invariant = { λ d. AreParts d.size d.count d.capacity d.device };
+    ghost invariant = { λ d. AreReopenedParts d.size d.count d.capacity d.device };
 }
 
 // The store under a device.
@@ -179,7 +179,7 @@ impl<S: Store + TellsFull + Drop> Sectors for ReopenedDevice<S> {
     ghost use Rattle.nbd_stream.specs.declared.fault.DiskFault.TheVariants as fault;
     ghost use Rattle.nbd_stream.specs.Disk.{PerformsTask, answer_from};
     ghost use Rattle.disk_server.specs.Asked.{SparesZeros};
-    ghost use Rattle.disk_server.specs.Reopened.{AsksDevice, ReadsDevice, ReopenedGivesSector, changes_in, changes_of, clears_of, contents_in, flushes_of, holds_in, next_in, reads_of, rests_of, takes_in};
+    ghost use Rattle.disk_server.specs.Reopened.{AsksDevice, ReadsDevice, ReopenedGivesSector, changes_in, changes_of, clears_of, contents_in, flushes_of, holds_in, next_to_program, reads_of, rests_of, takes_in};
 
     ghost contents = { contents_in S.held S.honest S.failed };
 
@@ -203,7 +203,7 @@ impl<S: Store + TellsFull + Drop> Sectors for ReopenedDevice<S> {
 
     ghost count = { λ d. d.count };
 
-    ghost next = { next_in };
+    ghost next = { next_to_program };
 
     ghost takes = { takes_in };
 

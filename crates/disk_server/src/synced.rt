@@ -107,7 +107,7 @@ impl<D: LastingDisk + Sequenced, Y: Syncs> SyncedDisk<D, Y> {
     ghost use Rattle.std.specs.Prelude.{◌≡◌, ◌≤◌, ◌<◌, ◌+◌, true, false, [], length, OnOk, OnErr, IfErr};
     ghost use Rattle.nbd_stream.specs.Disk.{PerformsTask, answer_from};
     ghost use Rattle.nbd_stream.specs.Through.{Through};
-    ghost use Rattle.disk_server.specs.Synced.{Asks, ClearsPart, Closes, Counts, HasSynced, IsKnownFlushed, IsUnsynced, KeepsCount, Marks, NotesFailedSync, Syncs, after_change, after_sync};
+    ghost use Rattle.disk_server.specs.Synced.{AsksDisk, ClearsPart, Closes, CountsRangeChanged, HasSynced, IsKnownFlushed, IsUnsynced, KeepsCount, Marks, NotesFailedSync, SyncsOnceMore, after_change, after_sync};
 
     /// Joins a disk and its syncs. Nothing is asked of either, and nothing counts as changed.
     pub fn new(disk: D, syncs: Y, pace: SyncPace) -> SyncedDisk<D, Y>
@@ -145,7 +145,7 @@ impl<D: LastingDisk + Sequenced, Y: Syncs> SyncedDisk<D, Y> {
     // Syncs, and marks whether the disk was flushed before.
     fn sync(&mut self, flushed: bool) -> Result<(), DiskFault>
         ensures disk { self.new.disk ≡ self.old.disk }
-        ensures synced { OnOk result (Syncs Y.synced self.old self.new) }
+        ensures synced { OnOk result (SyncsOnceMore Y.synced self.old self.new) }
         ensures unsynced { OnErr result (IsUnsynced Y.synced self.old self.new) }
         ensures notes { NotesFailedSync Y.failed self.old result self.new }
         ensures marked { OnOk result (Y.marked self.new.syncs ≡ after_sync (D.next self.new.disk) flushed (Y.marked self.old.syncs)) }
@@ -188,7 +188,7 @@ impl<D: LastingDisk + Sequenced, Y: Syncs> SyncedDisk<D, Y> {
         ensures unsynced { OnErr result (IsUnsynced Y.synced (after_change offset count self.old) self.new) }
         ensures notes { NotesFailedSync Y.failed self.old result self.new }
         ensures marks { Marks Y.marked D.next false (after_change offset count self.old) result self.new }
-        ensures asked { Asks D.does (Task.Trim offset count false) self.old.disk self.new.disk }
+        ensures asked { AsksDisk D.does (Task.Trim offset count false) self.old.disk self.new.disk }
     {
         self.count(offset, u64::from(count));
         match self.disk.clear(offset, count, false) {
@@ -202,7 +202,7 @@ impl<D: LastingDisk + Sequenced, Y: Syncs> SyncedDisk<D, Y> {
         requires { offset + count ≤ length (D.contents self.old.disk).bytes }
         ensures performs { PerformsTask (λ s. D.contents s.disk) (λ s. D.honest s.disk) (λ _. false) (Task.Trim offset count false) [] self.old (answer_from result []) self.new }
         ensures syncs { KeepsCount Y.synced self.old self.new }
-        ensures counts { OnOk result (0 < count → Counts Y.synced offset count self.old self.new) }
+        ensures counts { OnOk result (0 < count → CountsRangeChanged Y.synced offset count self.old self.new) }
         ensures notes { NotesFailedSync Y.failed self.old result self.new }
         ensures parts { Through (ClearsPart D.does offset count) self.old.disk self.new.disk }
         ensures unflushed { (Y.marked self.new.syncs).flushed ≡ (Y.marked self.old.syncs).flushed }

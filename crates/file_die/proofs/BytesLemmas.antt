@@ -9,7 +9,7 @@ use Rattle.std.proofs.lemmas.Option.{slice_get_past, slice_get-get_or, same_Some
 use Rattle.page_layout.specs.Page.{Page}
 use Rattle.file_die.specs.declared.bytes.ByteFault.{ByteFault}
 use Rattle.file_die.specs.declared.bytes.ByteFault.TheVariants as fault
-use Rattle.file_die.specs.Bytes.{Bytes, over, Mixes, LastsMixed, AreAlike, WritesBytes, Tells, Gives, HasEnded, InARow, IsPatient, OneCall, OneMore, came_by}
+use Rattle.file_die.specs.Bytes.{Bytes, over, Mixes, LastsMixed, AreAlike, WritesBytes, KeepsTold, Gives, HasEnded, InARow, IsPatient, OneCall, OneMore, came_by}
 use Rattle.file_die.specs.Rows.{WritesAll, Going, IsFilled}
 
 -- ---- places
@@ -231,8 +231,8 @@ going_still u at given done answer part s t p l d g w =
 
 pub tells_next : (size : ℕ) (reads : List ℕ → Page) (u : Bytes) (at : ℕ) (given : List ℕ) (done : ℕ) (part : List ℕ) (s t : Bytes)
     → part ≡ drop done given → at ≤ length u.bytes → done ≤ length given → Going u at given done s
-    → Tells size reads (over (at + done) part s.bytes) s t → Tells size reads (over at given u.bytes) s t
-tells_next size reads u at given done part s t p l d g b = subst (λ z. Tells size reads z s t) (ap (λ z. over (at + done) z s.bytes) p ∙ going_wants u at given done s l d g) b
+    → KeepsTold size reads (over (at + done) part s.bytes) s t → KeepsTold size reads (over at given u.bytes) s t
+tells_next size reads u at given done part s t p l d g b = subst (λ z. KeepsTold size reads z s t) (ap (λ z. over (at + done) z s.bytes) p ∙ going_wants u at given done s l d g) b
 
 pub all_written : (u : Bytes) (at : ℕ) (given : List ℕ) (done : ℕ) (s : Bytes) → at ≤ length u.bytes → length given ≤ done → Going u at given done s → WritesAll u at given true s
 all_written u at given done s l d g = record {
@@ -248,7 +248,7 @@ all_written u at given done s l d g = record {
 pub not_written : (u : Bytes) (at : ℕ) (given : List ℕ) (done : ℕ) (s : Bytes) → Going u at given done s → WritesAll u at given false s
 not_written u at given done s g = record { mixes = g.mixes; written = λ e. let no : ⊥ = cc in absurd no; lasts = g.lasts; syncs = g.syncs }
 
-pub tells_on : (size : ℕ) (reads : List ℕ → Page) (full : List ℕ) (u s t : Bytes) → Tells size reads full u s → Tells size reads full s t → Tells size reads full u t
+pub tells_on : (size : ℕ) (reads : List ℕ → Page) (full : List ℕ) (u s t : Bytes) → KeepsTold size reads full u s → KeepsTold size reads full s t → KeepsTold size reads full u t
 tells_on size reads full u s t a b since told = b since (a since told)
 
 -- ---- reads one behind another
@@ -358,7 +358,7 @@ pasted at k xs ys given e l = ap (λ zs. take at xs ++ (zs ++ drop k (drop at xs
 pub all_at_once : (at : ℕ) (given xs : List ℕ) → WritesBytes (standing_bytes xs) at given (Ok (length given)) (standing_bytes (over at given xs))
 all_at_once at given xs = record { mixes = λ i. inr refl; moved = λ i lt. refl; lasts = λ i. inr (inr refl); syncs = refl }
 
-pub told_at_once : (size : ℕ) (reads : List ℕ → Page) (xs wanted : List ℕ) → Tells size reads wanted (standing_bytes xs) (standing_bytes wanted)
+pub told_at_once : (size : ℕ) (reads : List ℕ → Page) (xs wanted : List ℕ) → KeepsTold size reads wanted (standing_bytes xs) (standing_bytes wanted)
 told_at_once size reads xs wanted since told = record {
   stands = λ row. inl (1, omega arith, refl);
   lasts = λ row. record { left = inl (2, omega arith, refl); kept = λ a b. b };

@@ -5,7 +5,7 @@ use Rattle.std.proofs.lemmas.List.{length-set}
 use Rattle.page_layout.specs.declared.geometry.Geometry.{Geometry}
 use Rattle.page_layout.specs.Geometry.{row_count}
 use Rattle.page_layout.specs.Page.{Page, IsImage}
-use Rattle.page_layout.specs.Flash.{Flash, TurnState, Program, Erase, Steps, IsWhole, after_program, after_erase, turn_at, may_program, may_erase, no_page, no_turn}
+use Rattle.page_layout.specs.Flash.{Flash, NextState, Program, Erase, Steps, IsWhole, after_program, after_erase, next_page_at, may_program, may_erase, no_page, no_next_page}
 use Rattle.onfi_cycles.specs.Cycles.{Due, Programs, Erases}
 use Rattle.onfi_cycles.specs.declared.nand.BusFault.{BusFault}
 use Rattle.file_die.specs.Store.{Held, AreImages}
@@ -13,22 +13,22 @@ use Rattle.file_die.specs.Die.{FileState, IsFit, ActsOverStore, Leaves, IfDue, A
 use Rattle.file_die.proofs.DieLemmas.{acts_done, asks_none, program_steps, erase_steps}
 
 pub whole_fit : {S : Type 0} → (held : S → Held) (honest : S → Bool) (d : FileState S) → IsFit held honest d → honest d.store ≡ true → IsWhole (shown held d).flash
-whole_fit held honest d fit h = record { image_whole = (fit.images h).pages_whole; turns_whole = fit.blocks }
+whole_fit held honest d fit h = record { image_whole = (fit.images h).pages_whole; next_pages_whole = fit.blocks }
 
--- whether a program is due, by the turn of the block
-may_of : (f : Flash) (row block page : ℕ) (t : TurnState) → block ≡ row / f.geometry.pages → page ≡ row % f.geometry.pages → t ≡ get_or f.turns block no_turn
+-- whether a program is due, by the next page of the block
+may_of : (f : Flash) (row block page : ℕ) (t : NextState) → block ≡ row / f.geometry.pages → page ≡ row % f.geometry.pages → t ≡ get_or f.next_pages block no_next_page
     → (not t.barred && (t.next == page)) ≡ may_program f row
 may_of f row block page t is_block is_page is =
-    ap (λ (u : TurnState). not u.barred && (u.next == page)) (is ∙ ap (turn_at f) is_block) ∙ ap (λ n. not (turn_at f (row / f.geometry.pages)).barred && ((turn_at f (row / f.geometry.pages)).next == n)) is_page
+    ap (λ (u : NextState). not u.barred && (u.next == page)) (is ∙ ap (next_page_at f) is_block) ∙ ap (λ n. not (next_page_at f (row / f.geometry.pages)).barred && ((next_page_at f (row / f.geometry.pages)).next == n)) is_page
 
 -- the same of a row, by the parts of a die
-pub may_at : {S : Type 0} → (held : S → Held) (parts d : FileState S) (g : Geometry) (row per per' : ℕ) (t : TurnState) (due legal : Bool) → parts ≡ d → (held parts.store).geometry ≡ g → per ≡ g.pages → per' ≡ g.pages
-    → t ≡ get_or d.turns (row / per) no_turn → due ≡ (not t.barred && (t.next == row % per')) → legal ≡ due
+pub may_at : {S : Type 0} → (held : S → Held) (parts d : FileState S) (g : Geometry) (row per per' : ℕ) (t : NextState) (due legal : Bool) → parts ≡ d → (held parts.store).geometry ≡ g → per ≡ g.pages → per' ≡ g.pages
+    → t ≡ get_or d.next_pages (row / per) no_next_page → due ≡ (not t.barred && (t.next == row % per')) → legal ≡ due
     → (row / per ≡ row / (held d.store).geometry.pages) × (legal ≡ may_program (shown held d).flash row)
-may_at held parts d g row per per' t due legal is same is_per is_per' turn is_due is_legal =
+may_at held parts d g row per per' t due legal is same is_per is_per' next_page is_due is_legal =
     let pages : g.pages ≡ (held d.store).geometry.pages = ap (λ (x : Geometry). x.pages) (sym same ∙ ap (λ v. (held v.store).geometry) is) in
     let block : row / per ≡ row / (held d.store).geometry.pages = ap (λ n. row / n) (is_per ∙ pages) in
-    (block, is_legal ∙ (is_due ∙ may_of (shown held d).flash row (row / per) (row % per') t block (ap (λ n. row % n) (is_per' ∙ pages)) turn))
+    (block, is_legal ∙ (is_due ∙ may_of (shown held d).flash row (row / per) (row % per') t block (ap (λ n. row % n) (is_per' ∙ pages)) next_page))
 
 -- ---- the store failed
 
@@ -42,7 +42,7 @@ acts_failed held honest failed due d e fault fit is asks images leaves =
     (record {
       follows = λ h. refl;
       leaves = leaves;
-      whole = λ h. record { image_whole = (images h).pages_whole; turns_whole = fit.blocks ∙ ap (λ (g : Geometry). g.blocks) (sym asks.geometry) };
+      whole = λ h. record { image_whole = (images h).pages_whole; next_pages_whole = fit.blocks ∙ ap (λ (g : Geometry). g.blocks) (sym asks.geometry) };
       geometry = asks.geometry;
       sync_when = refl;
       as_honest = asks.as_honest;
@@ -74,103 +74,103 @@ erase_failed held honest failed d e block fault fit is asks may erases =
 
 -- ---- the change was done, or was not due
 
-long_set : (turns : List TurnState) (block n : ℕ) (turn : TurnState) → length turns ≡ n → length (slice_set turns block turn) ≡ n
-long_set turns block n turn e = length-set turns block turn ∙ e
+long_set : (next_pages : List NextState) (block n : ℕ) (next_page : NextState) → length next_pages ≡ n → length (slice_set next_pages block next_page) ≡ n
+long_set next_pages block n next_page e = length-set next_pages block next_page ∙ e
 
-pub program_done : {S : Type 0} → (held : S → Held) (honest : S → Bool) (failed : S → ℕ) (d mid e : FileState S) (row block : ℕ) (page : Page) (was turn : TurnState) (legal passed : Bool)
+pub program_done : {S : Type 0} → (held : S → Held) (honest : S → Bool) (failed : S → ℕ) (d mid e : FileState S) (row block : ℕ) (page : Page) (was next_page : NextState) (legal passed : Bool)
     → IsFit held honest d → row < row_count (held d.store).geometry → block ≡ row / (held d.store).geometry.pages → legal ≡ may_program (shown held d).flash row → legal ≡ true → passed ≡ (legal && not false)
-    → was ≡ get_or d.turns block no_turn → turn ≡ after_program was legal passed → mid ≡ idle mid.store d → e ≡ change_ended block turn legal passed mid
+    → was ≡ get_or d.next_pages block no_next_page → next_page ≡ after_program was legal passed → mid ≡ idle mid.store d → e ≡ change_ended block next_page legal passed mid
     → Asks held honest failed d.store mid.store (Ok tt) → (honest d.store ≡ true → ProgramsIn (held d.store) row page d.sync_when true (held mid.store))
     → ActsOverStore held honest failed (Programs row page) d e (Ok tt)
-program_done held honest failed d mid e row block page was turn legal passed fit lt is_block due is_legal passes is_was turns_to is to asks programs =
+program_done held honest failed d mid e row block page was next_page legal passed fit lt is_block due is_legal passes is_was turns_to is to asks programs =
     let may : true ≡ may_program (shown held d).flash row = sym is_legal ∙ due in
     let is_passed : passed ≡ true = passes ∙ ap (λ b. b && not false) is_legal in
-    let is_turn : turn ≡ after_program (get_or d.turns block no_turn) true true = turns_to ∙ (ap (λ b. after_program was b passed) is_legal ∙ (ap (λ b. after_program was true b) is_passed ∙ ap (λ t. after_program t true true) is_was)) in
+    let is_turn : next_page ≡ after_program (get_or d.next_pages block no_next_page) true true = turns_to ∙ (ap (λ b. after_program was b passed) is_legal ∙ (ap (λ b. after_program was true b) is_passed ∙ ap (λ t. after_program t true true) is_was)) in
     let m = mid.store in
     let g : Geometry = (held d.store).geometry in
-    let end : e ≡ change_ended block turn true true (idle m d) = to ∙ (ap (λ b. change_ended block turn b passed mid) is_legal ∙ (ap (λ b. change_ended block turn true b mid) is_passed ∙ ap (change_ended block turn true true) is)) in
-    let turns : slice_set d.turns block turn ≡ slice_set d.turns (row / g.pages) (after_program (turn_at (shown held d).flash (row / g.pages)) true true)
-    = ap (slice_set d.turns block) (is_turn ∙ ap (λ b. after_program (get_or d.turns b no_turn) true true) is_block) ∙ ap (λ b. slice_set d.turns b (after_program (turn_at (shown held d).flash (row / g.pages)) true true)) is_block in
+    let end : e ≡ change_ended block next_page true true (idle m d) = to ∙ (ap (λ b. change_ended block next_page b passed mid) is_legal ∙ (ap (λ b. change_ended block next_page true b mid) is_passed ∙ ap (change_ended block next_page true true) is)) in
+    let next_pages : slice_set d.next_pages block next_page ≡ slice_set d.next_pages (row / g.pages) (after_program (next_page_at (shown held d).flash (row / g.pages)) true true)
+    = ap (slice_set d.next_pages block) (is_turn ∙ ap (λ b. after_program (get_or d.next_pages b no_next_page) true true) is_block) ∙ ap (λ b. slice_set d.next_pages b (after_program (next_page_at (shown held d).flash (row / g.pages)) true true)) is_block in
     subst (λ v. ActsOverStore held honest failed (Programs row page) d v (Ok tt)) (sym end)
-    (acts_done held honest failed (Programs row page) d (change_ended block turn true true (idle m d)) refl asks
+    (acts_done held honest failed (Programs row page) d (change_ended block next_page true true (idle m d)) refl asks
     (λ h.
     let images : AreImages (held m) = (programs h).puts.whole (fit.images h) in
     record {
       passed = true;
-      step = subst (λ (x : Geometry). Steps (shown held d).flash (Program row page true (get_or (held m).pages row no_page)) (record { geometry = x; image = (held m).pages; turns = slice_set d.turns block turn; abuse = d.abuse })) (sym asks.geometry)
-          (program_steps g (held d.store).pages (held m).pages d.turns (slice_set d.turns block turn) d.abuse d.abuse row page true (whole_fit held honest d fit h)
-          (subst (λ (x : Geometry). IsImage x (held m).pages) asks.geometry images.pages_whole) lt may (λ e. (programs h).puts.put refl) (λ e. let no : ⊥ = cc in absurd no) turns refl);
+      step = subst (λ (x : Geometry). Steps (shown held d).flash (Program row page true (get_or (held m).pages row no_page)) (record { geometry = x; image = (held m).pages; next_pages = slice_set d.next_pages block next_page; abuse = d.abuse })) (sym asks.geometry)
+          (program_steps g (held d.store).pages (held m).pages d.next_pages (slice_set d.next_pages block next_page) d.abuse d.abuse row page true (whole_fit held honest d fit h)
+          (subst (λ (x : Geometry). IsImage x (held m).pages) asks.geometry images.pages_whole) lt may (λ e. (programs h).puts.put refl) (λ e. let no : ⊥ = cc in absurd no) next_pages refl);
       phase = refl;
       status = refl;
     })
     (λ h. if_due _ (ProgramsIn (held d.store) row page d.sync_when true (held m)) (held m ≡ held d.store) (sym may) (programs h))
-    (λ h. record { image_whole = ((programs h).puts.whole (fit.images h)).pages_whole; turns_whole = long_set d.turns block _ turn (fit.blocks ∙ ap (λ (g : Geometry). g.blocks) (sym asks.geometry)) }))
+    (λ h. record { image_whole = ((programs h).puts.whole (fit.images h)).pages_whole; next_pages_whole = long_set d.next_pages block _ next_page (fit.blocks ∙ ap (λ (g : Geometry). g.blocks) (sym asks.geometry)) }))
 
-pub program_refused : {S : Type 0} → (held : S → Held) (honest : S → Bool) (failed : S → ℕ) (d e : FileState S) (row block : ℕ) (page : Page) (was turn : TurnState) (legal passed : Bool)
+pub program_refused : {S : Type 0} → (held : S → Held) (honest : S → Bool) (failed : S → ℕ) (d e : FileState S) (row block : ℕ) (page : Page) (was next_page : NextState) (legal passed : Bool)
     → IsFit held honest d → row < row_count (held d.store).geometry → block ≡ row / (held d.store).geometry.pages → legal ≡ may_program (shown held d).flash row → legal ≡ false → passed ≡ (legal && not false)
-    → was ≡ get_or d.turns block no_turn → turn ≡ after_program was legal passed → e ≡ change_ended block turn legal passed d → ActsOverStore held honest failed (Programs row page) d e (Ok tt)
-program_refused held honest failed d e row block page was turn legal passed fit lt is_block due is_legal passes is_was turns_to to =
+    → was ≡ get_or d.next_pages block no_next_page → next_page ≡ after_program was legal passed → e ≡ change_ended block next_page legal passed d → ActsOverStore held honest failed (Programs row page) d e (Ok tt)
+program_refused held honest failed d e row block page was next_page legal passed fit lt is_block due is_legal passes is_was turns_to to =
     let may : false ≡ may_program (shown held d).flash row = sym is_legal ∙ due in
     let is_passed : passed ≡ false = passes ∙ ap (λ b. b && not false) is_legal in
-    let is_turn : turn ≡ after_program (get_or d.turns block no_turn) false false = turns_to ∙ (ap (λ b. after_program was b passed) is_legal ∙ (ap (λ b. after_program was false b) is_passed ∙ ap (λ t. after_program t false false) is_was)) in
+    let is_turn : next_page ≡ after_program (get_or d.next_pages block no_next_page) false false = turns_to ∙ (ap (λ b. after_program was b passed) is_legal ∙ (ap (λ b. after_program was false b) is_passed ∙ ap (λ t. after_program t false false) is_was)) in
     let g : Geometry = (held d.store).geometry in
-    let turns : slice_set d.turns block turn ≡ slice_set d.turns (row / g.pages) (after_program (turn_at (shown held d).flash (row / g.pages)) false false)
-    = ap (slice_set d.turns block) (is_turn ∙ ap (λ b. after_program (get_or d.turns b no_turn) false false) is_block) ∙ ap (λ b. slice_set d.turns b (after_program (turn_at (shown held d).flash (row / g.pages)) false false)) is_block in
-    subst (λ v. ActsOverStore held honest failed (Programs row page) d v (Ok tt)) (sym (to ∙ (ap (λ b. change_ended block turn b passed d) is_legal ∙ ap (λ b. change_ended block turn false b d) is_passed)))
-    (acts_done held honest failed (Programs row page) d (change_ended block turn false false d) refl (asks_none held honest failed d.store)
+    let next_pages : slice_set d.next_pages block next_page ≡ slice_set d.next_pages (row / g.pages) (after_program (next_page_at (shown held d).flash (row / g.pages)) false false)
+    = ap (slice_set d.next_pages block) (is_turn ∙ ap (λ b. after_program (get_or d.next_pages b no_next_page) false false) is_block) ∙ ap (λ b. slice_set d.next_pages b (after_program (next_page_at (shown held d).flash (row / g.pages)) false false)) is_block in
+    subst (λ v. ActsOverStore held honest failed (Programs row page) d v (Ok tt)) (sym (to ∙ (ap (λ b. change_ended block next_page b passed d) is_legal ∙ ap (λ b. change_ended block next_page false b d) is_passed)))
+    (acts_done held honest failed (Programs row page) d (change_ended block next_page false false d) refl (asks_none held honest failed d.store)
     (λ h. record {
       passed = false;
-      step = program_steps g (held d.store).pages (held d.store).pages d.turns (slice_set d.turns block turn) d.abuse _ row page false (whole_fit held honest d fit h)
-          (fit.images h).pages_whole lt may (λ e. let no : ⊥ = cc in absurd no) (λ e. refl) turns refl;
+      step = program_steps g (held d.store).pages (held d.store).pages d.next_pages (slice_set d.next_pages block next_page) d.abuse _ row page false (whole_fit held honest d fit h)
+          (fit.images h).pages_whole lt may (λ e. let no : ⊥ = cc in absurd no) (λ e. refl) next_pages refl;
       phase = refl;
       status = refl;
     })
     (λ h. not_due _ (ProgramsIn (held d.store) row page d.sync_when true (held d.store)) (held d.store ≡ held d.store) (sym may) refl)
-    (λ h. record { image_whole = (fit.images h).pages_whole; turns_whole = long_set d.turns block _ turn fit.blocks }))
+    (λ h. record { image_whole = (fit.images h).pages_whole; next_pages_whole = long_set d.next_pages block _ next_page fit.blocks }))
 
-pub erase_done : {S : Type 0} → (held : S → Held) (honest : S → Bool) (failed : S → ℕ) (d mid e : FileState S) (block : ℕ) (was turn : TurnState) (legal passed : Bool)
+pub erase_done : {S : Type 0} → (held : S → Held) (honest : S → Bool) (failed : S → ℕ) (d mid e : FileState S) (block : ℕ) (was next_page : NextState) (legal passed : Bool)
     → IsFit held honest d → block < (held d.store).geometry.blocks → legal ≡ may_erase (shown held d).flash block → legal ≡ true → passed ≡ (legal && not false)
-    → was ≡ get_or d.turns block no_turn → turn ≡ after_erase was legal passed → mid ≡ idle mid.store d → e ≡ change_ended block turn legal passed mid
+    → was ≡ get_or d.next_pages block no_next_page → next_page ≡ after_erase was legal passed → mid ≡ idle mid.store d → e ≡ change_ended block next_page legal passed mid
     → Asks held honest failed d.store mid.store (Ok tt) → (honest d.store ≡ true → ErasesInStore (held d.store) block true (held mid.store))
     → ActsOverStore held honest failed (Erases block) d e (Ok tt)
-erase_done held honest failed d mid e block was turn legal passed fit lt due is_legal passes is_was turns_to is to asks erases =
+erase_done held honest failed d mid e block was next_page legal passed fit lt due is_legal passes is_was turns_to is to asks erases =
     let may : true ≡ may_erase (shown held d).flash block = sym is_legal ∙ due in
     let is_passed : passed ≡ true = passes ∙ ap (λ b. b && not false) is_legal in
-    let is_turn : turn ≡ after_erase (get_or d.turns block no_turn) true true = turns_to ∙ (ap (λ b. after_erase was b passed) is_legal ∙ (ap (λ b. after_erase was true b) is_passed ∙ ap (λ t. after_erase t true true) is_was)) in
+    let is_turn : next_page ≡ after_erase (get_or d.next_pages block no_next_page) true true = turns_to ∙ (ap (λ b. after_erase was b passed) is_legal ∙ (ap (λ b. after_erase was true b) is_passed ∙ ap (λ t. after_erase t true true) is_was)) in
     let m = mid.store in
     let g : Geometry = (held d.store).geometry in
-    let end : e ≡ change_ended block turn true true (idle m d) = to ∙ (ap (λ b. change_ended block turn b passed mid) is_legal ∙ (ap (λ b. change_ended block turn true b mid) is_passed ∙ ap (change_ended block turn true true) is)) in
+    let end : e ≡ change_ended block next_page true true (idle m d) = to ∙ (ap (λ b. change_ended block next_page b passed mid) is_legal ∙ (ap (λ b. change_ended block next_page true b mid) is_passed ∙ ap (change_ended block next_page true true) is)) in
     subst (λ v. ActsOverStore held honest failed (Erases block) d v (Ok tt)) (sym end)
-    (acts_done held honest failed (Erases block) d (change_ended block turn true true (idle m d)) refl asks
+    (acts_done held honest failed (Erases block) d (change_ended block next_page true true (idle m d)) refl asks
     (λ h.
     let images : AreImages (held m) = (erases h).clears.whole (fit.images h) in
     record {
       passed = true;
-      step = subst (λ (x : Geometry). Steps (shown held d).flash (Erase block true (take x.pages (drop (block * x.pages) (held m).pages))) (record { geometry = x; image = (held m).pages; turns = slice_set d.turns block turn; abuse = d.abuse })) (sym asks.geometry)
-          (erase_steps g (held d.store).pages (held m).pages d.turns (slice_set d.turns block turn) d.abuse d.abuse block true (whole_fit held honest d fit h)
-          (subst (λ (x : Geometry). IsImage x (held m).pages) asks.geometry images.pages_whole) lt may (λ e. (erases h).clears.cleared refl) (λ e. let no : ⊥ = cc in absurd no) (ap (slice_set d.turns block) is_turn) refl);
+      step = subst (λ (x : Geometry). Steps (shown held d).flash (Erase block true (take x.pages (drop (block * x.pages) (held m).pages))) (record { geometry = x; image = (held m).pages; next_pages = slice_set d.next_pages block next_page; abuse = d.abuse })) (sym asks.geometry)
+          (erase_steps g (held d.store).pages (held m).pages d.next_pages (slice_set d.next_pages block next_page) d.abuse d.abuse block true (whole_fit held honest d fit h)
+          (subst (λ (x : Geometry). IsImage x (held m).pages) asks.geometry images.pages_whole) lt may (λ e. (erases h).clears.cleared refl) (λ e. let no : ⊥ = cc in absurd no) (ap (slice_set d.next_pages block) is_turn) refl);
       phase = refl;
       status = refl;
     })
     (λ h. if_due _ (ErasesInStore (held d.store) block true (held m)) (held m ≡ held d.store) (sym may) (erases h))
-    (λ h. record { image_whole = ((erases h).clears.whole (fit.images h)).pages_whole; turns_whole = long_set d.turns block _ turn (fit.blocks ∙ ap (λ (g : Geometry). g.blocks) (sym asks.geometry)) }))
+    (λ h. record { image_whole = ((erases h).clears.whole (fit.images h)).pages_whole; next_pages_whole = long_set d.next_pages block _ next_page (fit.blocks ∙ ap (λ (g : Geometry). g.blocks) (sym asks.geometry)) }))
 
-pub erase_refused : {S : Type 0} → (held : S → Held) (honest : S → Bool) (failed : S → ℕ) (d e : FileState S) (block : ℕ) (was turn : TurnState) (legal passed : Bool)
+pub erase_refused : {S : Type 0} → (held : S → Held) (honest : S → Bool) (failed : S → ℕ) (d e : FileState S) (block : ℕ) (was next_page : NextState) (legal passed : Bool)
     → IsFit held honest d → block < (held d.store).geometry.blocks → legal ≡ may_erase (shown held d).flash block → legal ≡ false → passed ≡ (legal && not false)
-    → was ≡ get_or d.turns block no_turn → turn ≡ after_erase was legal passed → e ≡ change_ended block turn legal passed d → ActsOverStore held honest failed (Erases block) d e (Ok tt)
-erase_refused held honest failed d e block was turn legal passed fit lt due is_legal passes is_was turns_to to =
+    → was ≡ get_or d.next_pages block no_next_page → next_page ≡ after_erase was legal passed → e ≡ change_ended block next_page legal passed d → ActsOverStore held honest failed (Erases block) d e (Ok tt)
+erase_refused held honest failed d e block was next_page legal passed fit lt due is_legal passes is_was turns_to to =
     let may : false ≡ may_erase (shown held d).flash block = sym is_legal ∙ due in
     let is_passed : passed ≡ false = passes ∙ ap (λ b. b && not false) is_legal in
-    let is_turn : turn ≡ after_erase (get_or d.turns block no_turn) false false = turns_to ∙ (ap (λ b. after_erase was b passed) is_legal ∙ (ap (λ b. after_erase was false b) is_passed ∙ ap (λ t. after_erase t false false) is_was)) in
+    let is_turn : next_page ≡ after_erase (get_or d.next_pages block no_next_page) false false = turns_to ∙ (ap (λ b. after_erase was b passed) is_legal ∙ (ap (λ b. after_erase was false b) is_passed ∙ ap (λ t. after_erase t false false) is_was)) in
     let g : Geometry = (held d.store).geometry in
-    subst (λ v. ActsOverStore held honest failed (Erases block) d v (Ok tt)) (sym (to ∙ (ap (λ b. change_ended block turn b passed d) is_legal ∙ ap (λ b. change_ended block turn false b d) is_passed)))
-    (acts_done held honest failed (Erases block) d (change_ended block turn false false d) refl (asks_none held honest failed d.store)
+    subst (λ v. ActsOverStore held honest failed (Erases block) d v (Ok tt)) (sym (to ∙ (ap (λ b. change_ended block next_page b passed d) is_legal ∙ ap (λ b. change_ended block next_page false b d) is_passed)))
+    (acts_done held honest failed (Erases block) d (change_ended block next_page false false d) refl (asks_none held honest failed d.store)
     (λ h. record {
       passed = false;
-      step = erase_steps g (held d.store).pages (held d.store).pages d.turns (slice_set d.turns block turn) d.abuse _ block false (whole_fit held honest d fit h)
-          (fit.images h).pages_whole lt may (λ e. let no : ⊥ = cc in absurd no) (λ e. refl) (ap (slice_set d.turns block) is_turn) refl;
+      step = erase_steps g (held d.store).pages (held d.store).pages d.next_pages (slice_set d.next_pages block next_page) d.abuse _ block false (whole_fit held honest d fit h)
+          (fit.images h).pages_whole lt may (λ e. let no : ⊥ = cc in absurd no) (λ e. refl) (ap (slice_set d.next_pages block) is_turn) refl;
       phase = refl;
       status = refl;
     })
     (λ h. not_due _ (ErasesInStore (held d.store) block true (held d.store)) (held d.store ≡ held d.store) (sym may) refl)
-    (λ h. record { image_whole = (fit.images h).pages_whole; turns_whole = long_set d.turns block _ turn fit.blocks }))
+    (λ h. record { image_whole = (fit.images h).pages_whole; next_pages_whole = long_set d.next_pages block _ next_page fit.blocks }))

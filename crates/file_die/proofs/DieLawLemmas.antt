@@ -11,7 +11,7 @@ use Rattle.file_die.specs.declared.die.SyncWhen.{SyncWhen}
 use Rattle.file_die.specs.declared.die.SyncWhen.TheVariants.{Always}
 use Rattle.file_die.specs.Store.{Held, AreImages, LastsOf, Puts, page_in}
 use Rattle.file_die.specs.Die.{Leaves, IfDue, ProgramsIn, ErasesInStore}
-use Rattle.file_die.specs.DieLaws.{AddsAlone, DueSpares, AllSpare, GoesAdding, Lands, LandsLaw, LastsSince, Turn, Wipes, WipesLaw, CopiesLaw, AddingGoesLaw, AlwaysLaw, ImagesLaw, KeepsLaw, SinceSyncLaw}
+use Rattle.file_die.specs.DieLaws.{AddsAlone, DueSpares, AllSpare, GoesAdding, Lands, LandsLaw, LastsSince, StoreCycle, Wipes, WipesLaw, CopiesLaw, AddingGoesLaw, AlwaysLaw, ImagesLaw, KeepsLaw, SinceSyncLaw}
 use Rattle.file_die.proofs.AskLemmas.{of_three}
 use Rattle.file_die.proofs.StoreLemmas.{erased_in}
 
@@ -71,7 +71,7 @@ one_always s t (Refuses fault) flash done h d e = same_lasts s t h e
 
 pub always : AlwaysLaw
 always s t [] run done e = same_lasts s t run e
-always s t (turn ∷ turns) run done e = always run.0 t turns run.2 done.1 (one_always s run.0 turn.due turn.flash turn.done run.1.leaves done.0 e)
+always s t (cycle ∷ cycles) run done e = always run.0 t cycles run.2 done.1 (one_always s run.0 cycle.due cycle.flash cycle.done run.1.leaves done.0 e)
 
 -- a row that a cycle leaves
 record Kept (s t : Held) (row : ℕ) : Type 0 where
@@ -92,9 +92,9 @@ one_keeps sync_when s t (Refuses fault) flash done row h n = kept_same s t row h
 
 pub keeps : KeepsLaw
 keeps sync_when s t [] row run spare = let k = kept_same s t row run in (k.stays, k.lasts)
-keeps sync_when s t (turn ∷ turns) row run spare =
-    let one = one_keeps sync_when s run.0 turn.due turn.flash turn.done row run.1.leaves spare.0 in
-    let rest = keeps sync_when run.0 t turns row run.2 (subst (λ g. AllSpare g row turns) (sym run.1.geometry) spare.1) in
+keeps sync_when s t (cycle ∷ cycles) row run spare =
+    let one = one_keeps sync_when s run.0 cycle.due cycle.flash cycle.done row run.1.leaves spare.0 in
+    let rest = keeps sync_when run.0 t cycles row run.2 (subst (λ g. AllSpare g row cycles) (sym run.1.geometry) spare.1) in
     (rest.0 ∙ one.stays, λ e. rest.1 (one.lasts e ∙ sym one.stays) ∙ one.stays)
 
 -- ---- whole images
@@ -108,13 +108,13 @@ one_whole sync_when s t (Refuses fault) flash done h w = subst AreImages (sym h)
 
 pub images : ImagesLaw
 images sync_when s t [] run = (ap (λ (h : Held). h.geometry) run, λ w. subst AreImages (sym run) w)
-images sync_when s t (turn ∷ turns) run =
-    let rest = images sync_when run.0 t turns run.2 in
-    (rest.0 ∙ run.1.geometry, λ w. rest.1 (one_whole sync_when s run.0 turn.due turn.flash turn.done run.1.leaves w))
+images sync_when s t (cycle ∷ cycles) run =
+    let rest = images sync_when run.0 t cycles run.2 in
+    (rest.0 ∙ run.1.geometry, λ w. rest.1 (one_whole sync_when s run.0 cycle.due cycle.flash cycle.done run.1.leaves w))
 
 pub adding_goes : AddingGoesLaw
 adding_goes sync_when s t [] run = run
-adding_goes sync_when s t (turn ∷ turns) run = (run.0, run.2, adding_goes sync_when run.0 t turns run.3)
+adding_goes sync_when s t (cycle ∷ cycles) run = (run.0, run.2, adding_goes sync_when run.0 t cycles run.3)
 
 -- ---- since a sync
 
@@ -182,9 +182,9 @@ one_since sync_when stored s t (Moves phase) flash done h adds since = subst (La
 one_since sync_when stored s t Resets flash done h adds since = subst (LastsSince stored) (sym h) since
 one_since sync_when stored s t (Refuses fault) flash done h adds since = subst (LastsSince stored) (sym h) since
 
-since_on : (sync_when : SyncWhen) (stored : Image) (s t : Held) (turns : List Turn) → GoesAdding sync_when s turns t → LastsSince stored s → LastsSince stored t
+since_on : (sync_when : SyncWhen) (stored : Image) (s t : Held) (cycles : List StoreCycle) → GoesAdding sync_when s cycles t → LastsSince stored s → LastsSince stored t
 since_on sync_when stored s t [] run since = subst (LastsSince stored) (sym run) since
-since_on sync_when stored s t (turn ∷ turns) run since = since_on sync_when stored run.0 t turns run.3 (one_since sync_when stored s run.0 turn.due turn.flash turn.done run.2.leaves run.1 since)
+since_on sync_when stored s t (cycle ∷ cycles) run since = since_on sync_when stored run.0 t cycles run.3 (one_since sync_when stored s run.0 cycle.due cycle.flash cycle.done run.2.leaves run.1 since)
 
 pub since_sync : SinceSyncLaw
-since_sync sync_when s t turns run lasts = since_on sync_when s.pages s t turns run (record { kept = λ row r has. refl; found = λ row. inl (ap (λ (image : Image). page_in image row) lasts) })
+since_sync sync_when s t cycles run lasts = since_on sync_when s.pages s t cycles run (record { kept = λ row r has. refl; found = λ row. inl (ap (λ (image : Image). page_in image row) lasts) })

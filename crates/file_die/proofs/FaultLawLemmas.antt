@@ -4,9 +4,9 @@ use Rattle.std.specs.Prelude.{Result, Ok, Err}
 use Rattle.std.proofs.lemmas.Option.{same_Some}
 use Rattle.file_die.specs.declared.bytes.ByteFault.{ByteFault}
 use Rattle.file_die.specs.declared.bytes.ByteFault.TheVariants as fault
-use Rattle.file_die.specs.Bytes.{FailsBy, HasAnswered, Gives, InARow, NoCall, NoRead, OneCall, OneMore, came_by}
+use Rattle.file_die.specs.Bytes.{WritesFailBy, HasAnswered, Gives, InARow, NoCall, NoRead, OneCall, OneMore, came_by}
 use Rattle.file_die.specs.Rows.{lacks_room}
-use Rattle.file_die.specs.FaultLaws.{GivesAll, HadRoom, EndedLaw, WholeReadLaw, TakenLaw, OwnFaultLaw, FullLaw, ChangedLaw, RowReadLaw, SyncedLaw, FirstFaultLaw, RefusedLaw, PatientLaw}
+use Rattle.file_die.specs.FaultLaws.{GivesAll, HadRoom, EndedLaw, WholeReadLaw, NoWriteFailsLaw, OwnFaultLaw, FullLaw, ChangedLaw, RowReadLaw, SyncedLaw, FirstFaultLaw, NeverRefusedLaw, PatientLaw}
 
 still_held : {F : Type 0} → (held : F → List ℕ) (gave : F → ℕ → ℕ → Result (List ℕ) ByteFault → F → Type 0) (old : F) (at : ℕ) (bytes : List ℕ) (new : F) → GivesAll held gave → Gives gave old at bytes new → held new ≡ held old
 still_held held gave old at _ _ all NoRead = refl
@@ -38,7 +38,7 @@ whole_read_law = record {
   some = λ old new at room lt gave. omega (arith, ap length (same_bytes _ _ gave.1), length-take room (drop at old), length-drop at old, lt);
 }
 
-pub taken_law : {F : Type 0} → (wrote : F → ℕ → List ℕ → Result ℕ ByteFault → F → Type 0) → TakenLaw wrote
+pub taken_law : {F : Type 0} → (wrote : F → ℕ → List ℕ → Result ℕ ByteFault → F → Type 0) → NoWriteFailsLaw wrote
 taken_law wrote why new all (inl (mid, at, bytes, told)) = all.done mid new at bytes why told
 taken_law wrote why new all (inr (other, (mid, at, bytes, some, told))) = all.some mid new at bytes some told
 
@@ -46,12 +46,12 @@ pub own_fault_law : {F : Type 0} → (wrote : F → ℕ → List ℕ → Result 
 own_fault_law wrote why new not_other (inl told) = told
 own_fault_law wrote why new not_other (inr (other, none)) = absurd (not_other other)
 
-had_room : {F : Type 0} → (wrote : F → ℕ → List ℕ → Result ℕ ByteFault → F → Type 0) (why : ByteFault) (new : F) → why ≢ fault.NoSpace → FailsBy wrote why new → HadRoom wrote new
+had_room : {F : Type 0} → (wrote : F → ℕ → List ℕ → Result ℕ ByteFault → F → Type 0) (why : ByteFault) (new : F) → why ≢ fault.NoSpace → WritesFailBy wrote why new → HadRoom wrote new
 had_room wrote why new room (inl told) = (Err why, (λ is. room cc), told)
 had_room wrote why new room (inr (other, (mid, at, bytes, some, told))) = (Ok 0, (λ is. cc), (mid, at, bytes, told))
 
 -- by whether a sync has failed, and by the fault
-full_by : {F : Type 0} → (wrote : F → ℕ → List ℕ → Result ℕ ByteFault → F → Type 0) (sync_failed full : Bool) (why : ByteFault) (new : F) → full ≡ lacks_room true sync_failed (Err why) → FailsBy wrote why new
+full_by : {F : Type 0} → (wrote : F → ℕ → List ℕ → Result ℕ ByteFault → F → Type 0) (sync_failed full : Bool) (why : ByteFault) (new : F) → full ≡ lacks_room true sync_failed (Err why) → WritesFailBy wrote why new
     → (full ≡ true → (sync_failed ≡ false) × HasAnswered wrote (Err fault.NoSpace) new) × (full ≡ false → sync_failed ≡ false → HadRoom wrote new)
 full_by wrote true full fault.NoSpace new is by = ((λ e. let no : ⊥ = cc in absurd no), (λ e held. let no : ⊥ = cc in absurd no))
 full_by wrote true full fault.Interrupted new is by = ((λ e. let no : ⊥ = cc in absurd no), (λ e held. let no : ⊥ = cc in absurd no))
@@ -81,9 +81,9 @@ synced_law refused old new never told = only_true old.sync_failed (λ held. neve
 pub first_fault_law : {F : Type 0} → (wrote : F → ℕ → List ℕ → Result ℕ ByteFault → F → Type 0) → FirstFaultLaw wrote
 first_fault_law wrote old new why none some told =
     let same : told.why ≡ why = same_Some told.why why (sym (told.first none) ∙ some) in
-    subst (λ e. FailsBy wrote e new.file) same told.fails
+    subst (λ e. WritesFailBy wrote e new.file) same told.fails
 
-pub refused_law : {F : Type 0} → (refused : F → ByteFault → F → Type 0) → RefusedLaw refused
+pub refused_law : {F : Type 0} → (refused : F → ByteFault → F → Type 0) → NeverRefusedLaw refused
 refused_law refused why new never (mid, told) = never mid new why told
 
 counted_at_least : {F : Type 0} → (one : F → F → Type 0) (count : F → ℕ) (n : ℕ) (new : F) → ((old left : F) → one old left → count left ≡ suc (count old)) → InARow one n new → n ≤ count new

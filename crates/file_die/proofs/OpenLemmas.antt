@@ -5,14 +5,14 @@ use Rattle.std.proofs.lemmas.Bool.{cases_eq, cases_lt, lt-ltb, le-ltb}
 use Rattle.std.proofs.lemmas.List.{ext_get_or, get_or-set_same, get_or-set_other, length-set, length-map, map-set, get_or-map}
 use Rattle.std.proofs.lemmas.List.FromFn.{length-map-range_with_len, get_or-map-range_with_len}
 use Rattle.page_layout.specs.declared.geometry.Geometry.{Geometry}
-use Rattle.page_layout.specs.Flash.{TurnState, no_turn, no_page}
+use Rattle.page_layout.specs.Flash.{NextState, no_next_page, no_page}
 use Rattle.page_layout.specs.Geometry.{row_count}
 use Rattle.page_layout.specs.Page.{Image}
 use Rattle.page_layout.specs.Sound.{is_erased_page}
 use Rattle.page_layout.specs.Block.{block_pages}
-use Rattle.nand_die.specs.declared.change.BlockTurn.{BlockTurn}
-use Rattle.nand_die.specs.Turns.{turn_of}
-use Rattle.nand_die.specs.Made.{first_turn, first_turns, is_named}
+use Rattle.nand_die.specs.declared.change.NextPage.{NextPage}
+use Rattle.nand_die.specs.NextPages.{next_page_of}
+use Rattle.nand_die.specs.Made.{first_next_page, first_next_pages, is_named}
 use Rattle.nand_die.specs.Made.{next_in}
 use Rattle.nand_die.proofs.NextLemmas.{next_law, block_page, length-block_pages}
 use Rattle.file_die.specs.Store.{page_in}
@@ -37,15 +37,15 @@ next_zero g image block n rows lt none above =
     let long : length ps ≡ g.pages = length-block_pages g image block rows lt in
     (next_law ps 0).1 (record { most = omega arith; erased = λ k le inside. above k (omega (arith, none)) (omega (arith, inside, long)); last = λ h. absurd (omega (arith, h)) })
 
--- ---- the turns
+-- ---- the next pages
 
 -- the next pages of the first k blocks were found
 abbrev pub next_so : (ℕ → ℕ) → ℕ → ℕ → ℕ
 next_so next k block = if nat_lt block k then next block else 0
 
-pub record HaveNext (g : Geometry) (next : ℕ → ℕ) (bad : List ℕ) (k : ℕ) (turns : List TurnState) : Type 0 where
-  pub long : length turns ≡ g.blocks
-  pub so : (block : ℕ) → block < g.blocks → get_or turns block no_turn ≡ first_turn (next_so next k block) (is_named bad block)
+pub record HaveNext (g : Geometry) (next : ℕ → ℕ) (bad : List ℕ) (k : ℕ) (next_pages : List NextState) : Type 0 where
+  pub long : length next_pages ≡ g.blocks
+  pub so : (block : ℕ) → block < g.blocks → get_or next_pages block no_next_page ≡ first_next_page (next_so next k block) (is_named bad block)
 
 next_below : (next : ℕ → ℕ) (k block : ℕ) → block < k → next_so next k block ≡ next block
 next_below next k block lt = ap (λ b. if b then next block else 0) (lt-ltb block k lt)
@@ -53,40 +53,40 @@ next_below next k block lt = ap (λ b. if b then next block else 0) (lt-ltb bloc
 next_past : (next : ℕ → ℕ) (k block : ℕ) → k ≤ block → next_so next k block ≡ 0
 next_past next k block le = ap (λ b. if b then next block else 0) (le-ltb block k le)
 
-first_at : (g : Geometry) (next : ℕ → ℕ) (bad : List ℕ) (block : ℕ) → block < g.blocks → get_or (first_turns g next bad) block no_turn ≡ first_turn (next block) (is_named bad block)
-first_at g next bad block lt = get_or-map-range_with_len (λ b. first_turn (next b) (is_named bad b)) 0 g.blocks block block no_turn lt (omega arith)
+first_at : (g : Geometry) (next : ℕ → ℕ) (bad : List ℕ) (block : ℕ) → block < g.blocks → get_or (first_next_pages g next bad) block no_next_page ≡ first_next_page (next block) (is_named bad block)
+first_at g next bad block lt = get_or-map-range_with_len (λ b. first_next_page (next b) (is_named bad b)) 0 g.blocks block block no_next_page lt (omega arith)
 
-first_long : (g : Geometry) (next : ℕ → ℕ) (bad : List ℕ) → length (first_turns g next bad) ≡ g.blocks
-first_long g next bad = length-map-range_with_len (λ b. first_turn (next b) (is_named bad b)) 0 g.blocks
+first_long : (g : Geometry) (next : ℕ → ℕ) (bad : List ℕ) → length (first_next_pages g next bad) ≡ g.blocks
+first_long g next bad = length-map-range_with_len (λ b. first_next_page (next b) (is_named bad b)) 0 g.blocks
 
-pub next_none : (g : Geometry) (next : ℕ → ℕ) (bad : List ℕ) (turns : List TurnState) → turns ≡ first_turns g (λ block. 0) bad → HaveNext g next bad 0 turns
-next_none g next bad turns is = subst (HaveNext g next bad 0) (sym is) (record {
+pub next_none : (g : Geometry) (next : ℕ → ℕ) (bad : List ℕ) (next_pages : List NextState) → next_pages ≡ first_next_pages g (λ block. 0) bad → HaveNext g next bad 0 next_pages
+next_none g next bad next_pages is = subst (HaveNext g next bad 0) (sym is) (record {
   long = first_long g (λ block. 0) bad;
-  so = λ block lt. first_at g (λ block. 0) bad block lt ∙ ap (λ n. first_turn n (is_named bad block)) (sym (next_past next 0 block (omega arith)));
+  so = λ block lt. first_at g (λ block. 0) bad block lt ∙ ap (λ n. first_next_page n (is_named bad block)) (sym (next_past next 0 block (omega arith)));
 })
 
-pub next_all : (g : Geometry) (next : ℕ → ℕ) (bad : List ℕ) (k : ℕ) (turns : List TurnState) → HaveNext g next bad k turns → g.blocks ≤ k → turns ≡ first_turns g next bad
-next_all g next bad k turns found le = ext_get_or no_turn turns (first_turns g next bad) (found.long ∙ sym (first_long g next bad))
+pub next_all : (g : Geometry) (next : ℕ → ℕ) (bad : List ℕ) (k : ℕ) (next_pages : List NextState) → HaveNext g next bad k next_pages → g.blocks ≤ k → next_pages ≡ first_next_pages g next bad
+next_all g next bad k next_pages found le = ext_get_or no_next_page next_pages (first_next_pages g next bad) (found.long ∙ sym (first_long g next bad))
     (λ block lt. let within : block < g.blocks = subst (λ n. block < n) found.long lt in
-    found.so block within ∙ (ap (λ n. first_turn n (is_named bad block)) (next_below next k block (omega (arith, within, le))) ∙ sym (first_at g next bad block within)))
+    found.so block within ∙ (ap (λ n. first_next_page n (is_named bad block)) (next_below next k block (omega (arith, within, le))) ∙ sym (first_at g next bad block within)))
 
 -- one more
-pub next_more : (g : Geometry) (next : ℕ → ℕ) (bad : List ℕ) (k n : ℕ) (turns : List BlockTurn) (t : BlockTurn) → HaveNext g next bad k (map turn_of turns) → k < g.blocks → n ≡ next k → t ≡ get_or turns k t
-    → HaveNext g next bad (k + 1) (map turn_of (slice_set turns k (record { next = n; barred = t.barred; programs = t.programs; erases = t.erases })))
-next_more g next bad k n turns t found lt is read =
-    let new : BlockTurn = record { next = n; barred = t.barred; programs = t.programs; erases = t.erases } in
-    let here : k < length (map turn_of turns) = subst (λ x. k < x) (sym found.long) lt in
-    let inside : k < length turns = subst (λ x. k < x) (length-map turns turn_of) here in
-    let was : turn_of t ≡ first_turn (next_so next k k) (is_named bad k) = ap turn_of read ∙ (sym (get_or-map turn_of turns k t no_turn inside) ∙ found.so k lt) in
-    let now : turn_of new ≡ first_turn (next_so next (k + 1) k) (is_named bad k)
-    = ap (λ (u : TurnState). record { next = n; barred = u.barred; programs = u.programs; erases = u.erases }) was
-    ∙ ap (λ m. first_turn m (is_named bad k)) (is ∙ sym (next_below next (k + 1) k (omega arith))) in
-    subst (HaveNext g next bad (k + 1)) (sym (map-set turn_of turns k new))
+pub next_more : (g : Geometry) (next : ℕ → ℕ) (bad : List ℕ) (k n : ℕ) (next_pages : List NextPage) (t : NextPage) → HaveNext g next bad k (map next_page_of next_pages) → k < g.blocks → n ≡ next k → t ≡ get_or next_pages k t
+    → HaveNext g next bad (k + 1) (map next_page_of (slice_set next_pages k (record { next = n; barred = t.barred; programs = t.programs; erases = t.erases })))
+next_more g next bad k n next_pages t found lt is read =
+    let new : NextPage = record { next = n; barred = t.barred; programs = t.programs; erases = t.erases } in
+    let here : k < length (map next_page_of next_pages) = subst (λ x. k < x) (sym found.long) lt in
+    let inside : k < length next_pages = subst (λ x. k < x) (length-map next_pages next_page_of) here in
+    let was : next_page_of t ≡ first_next_page (next_so next k k) (is_named bad k) = ap next_page_of read ∙ (sym (get_or-map next_page_of next_pages k t no_next_page inside) ∙ found.so k lt) in
+    let now : next_page_of new ≡ first_next_page (next_so next (k + 1) k) (is_named bad k)
+    = ap (λ (u : NextState). record { next = n; barred = u.barred; programs = u.programs; erases = u.erases }) was
+    ∙ ap (λ m. first_next_page m (is_named bad k)) (is ∙ sym (next_below next (k + 1) k (omega arith))) in
+    subst (HaveNext g next bad (k + 1)) (sym (map-set next_page_of next_pages k new))
     (record {
-      long = length-set (map turn_of turns) k (turn_of new) ∙ found.long;
+      long = length-set (map next_page_of next_pages) k (next_page_of new) ∙ found.long;
       so = λ block within. elim (cases_eq block k) [
-        | inl e ↦ ap (λ b. get_or (slice_set (map turn_of turns) k (turn_of new)) b no_turn) e ∙ (get_or-set_same (map turn_of turns) k (turn_of new) no_turn here ∙ (now ∙ ap (λ b. first_turn (next_so next (k + 1) b) (is_named bad b)) (sym e)))
-        | inr ne ↦ get_or-set_other (map turn_of turns) k block (turn_of new) no_turn ne ∙ (found.so block within ∙ ap (λ m. first_turn m (is_named bad block)) (other block ne))
+        | inl e ↦ ap (λ b. get_or (slice_set (map next_page_of next_pages) k (next_page_of new)) b no_next_page) e ∙ (get_or-set_same (map next_page_of next_pages) k (next_page_of new) no_next_page here ∙ (now ∙ ap (λ b. first_next_page (next_so next (k + 1) b) (is_named bad b)) (sym e)))
+        | inr ne ↦ get_or-set_other (map next_page_of next_pages) k block (next_page_of new) no_next_page ne ∙ (found.so block within ∙ ap (λ m. first_next_page m (is_named bad block)) (other block ne))
       ];
     })
   where

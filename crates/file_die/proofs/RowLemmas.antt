@@ -19,10 +19,10 @@ use Rattle.page_layout.specs.Flash.{no_page, with_block}
 use Rattle.page_layout.proofs.FlashLemmas.{inside, with_block-inside}
 use Rattle.onfi_cycles.specs.Cycles.{page_of}
 use Rattle.nand_die.proofs.PagesLemmas.{block_within, page_of_blank}
-use Rattle.file_die.specs.Bytes.{Bytes, AreBytes, FailsBy, Gives, HasEnded, SyncsBytes, over, piece, IsTold}
+use Rattle.file_die.specs.Bytes.{Bytes, HoldsOnlyBytes, WritesFailBy, Gives, HasEnded, SyncsBytes, over, piece, IsTold}
 use Rattle.file_die.specs.declared.bytes.ByteFault.{ByteFault}
 use Rattle.file_die.specs.declared.store.StoreFault.{StoreFault}
-use Rattle.file_die.specs.Rows.{Rows, AreRows, Counts, FailsSync, Remembers, TellsEnd, TellsFull, WritesAll, IsReading, lacks_room, read_rows, held_in, is_kept, syncs_lost}
+use Rattle.file_die.specs.Rows.{Rows, AreRows, CountsRowFailures, FailsSync, Remembers, TellsEnd, TellsFull, WritesAll, IsReading, lacks_room, read_rows, held_in, is_kept, syncs_lost}
 use Rattle.file_die.specs.Store.{Held, AreImages, MayBeLeft, LastsOf, Lasts, Loads, Puts, Clears, Syncs, page_in}
 use Rattle.file_die.proofs.BytesLemmas.{get_drop, take_alike, over_before, over_within, over_after, length_over, length_mixed, length_lasts, fits_over, fits_mixed, fits_lasts, fits_take, fits_drop}
 use Rattle.file_die.proofs.MemoryLemmas.{other_row, outside}
@@ -35,15 +35,15 @@ rows_held reads g size s = record { geometry = g; pages = read_rows reads size (
 pub record IsOfRows (g : Geometry) (size : ℕ) (s : Bytes) : Type 0 where
   pub whole : length s.bytes ≡ row_count g * size
   pub lasts : length s.durable ≡ row_count g * size
-  pub fit : AreBytes s
+  pub fit : HoldsOnlyBytes s
 
 -- ---- why a call failed
 
 pub full_told : {F : Type 0} → (wrote : F → ℕ → List ℕ → Result ℕ ByteFault → F → Type 0) (old new : Rows F) (file : F) (answer : Result (Unit {0}) ByteFault) (result : Result (Unit {0}) StoreFault)
-    → IfErr answer (λ why. FailsBy wrote why file) → new.full ≡ lacks_room true old.sync_failed answer → IfErr answer (λ why. Remembers old new why) → is_ok result ≡ is_ok answer → new.file ≡ file → OnErr result (TellsFull wrote old new)
+    → IfErr answer (λ why. WritesFailBy wrote why file) → new.full ≡ lacks_room true old.sync_failed answer → IfErr answer (λ why. Remembers old new why) → is_ok result ≡ is_ok answer → new.file ≡ file → OnErr result (TellsFull wrote old new)
 full_told wrote old new file answer (Ok done) by is first e same = tt
 full_told wrote old new file (Ok done) (Err fault) by is first e same = let no : ⊥ = cc in absurd no
-full_told wrote old new file (Err why) (Err fault) by is first e same = record { why = why; fails = subst (FailsBy wrote why) (sym same) by; full = is; first = first }
+full_told wrote old new file (Err why) (Err fault) by is first e same = record { why = why; fails = subst (WritesFailBy wrote why) (sym same) by; full = is; first = first }
 
 pub end_told : {F : Type 0} → (gave : F → ℕ → ℕ → Result (List ℕ) ByteFault → F → Type 0) (row size at wanted : ℕ) (old new : Rows F) (file : F) (answer : Result (Unit {0}) ByteFault) (result : Result (Unit {0}) StoreFault)
     → at ≡ row * size → wanted ≡ size → IfErr answer (λ why. HasEnded gave old.file at wanted why file) → IfErr answer (λ why. Remembers old new why) → is_ok result ≡ is_ok answer → new.file ≡ file → OnErr result (TellsEnd gave row size old new)
@@ -67,7 +67,7 @@ risen_on (Ok x) a b is = tt
 risen_on (Err e) a b is = risen a b is
 
 pub counts_settled : {F : Type 0} → (old new : Rows F) (result : Result (Unit {0}) StoreFault) → new.geometry ≡ old.geometry → new.size ≡ old.size → OnOk result ((new.failures ≡ old.failures) × (new.fault ≡ old.fault))
-    → old.failures ≤ new.failures → OnErr result (new.failures ≡ counted old.failures) → ((fault : ByteFault) → old.fault ≡ Some fault → new.fault ≡ Some fault) → Counts old new result
+    → old.failures ≤ new.failures → OnErr result (new.failures ≡ counted old.failures) → ((fault : ByteFault) → old.fault ≡ Some fault → new.fault ≡ Some fault) → CountsRowFailures old new result
 counts_settled old new result geometry size ok rising rose first = record {
   geometry = geometry;
   size = size;
@@ -547,7 +547,7 @@ pub parts_read : (a b : Bool) (s t : Bytes) (g : Geometry) (size : ℕ) (erased 
 parts_read a b s t g size erased failures fault lost e parts same = record {
   whole = λ h. let h' = sym e ∙ h in ap (λ (x : Bytes). length x.bytes) (same h') ∙ parts.whole h';
   lasts = λ h k. let h' = sym e ∙ h in ap (λ (x : Bytes). length x.durable) (same h') ∙ parts.lasts h' (ap (λ (x : Bytes). x.failed_syncs) (sym (same h')) ∙ k);
-  fit = λ h. let h' = sym e ∙ h in subst AreBytes (sym (same h')) (parts.fit h');
+  fit = λ h. let h' = sym e ∙ h in subst HoldsOnlyBytes (sym (same h')) (parts.fit h');
   blank = parts.blank;
   told = parts.told;
 }
@@ -556,7 +556,7 @@ pub gives_at : {F : Type 0} → (gave : F → ℕ → ℕ → Result (List ℕ) 
 gives_at gave old at other bytes file new a f g = subst (λ z. Gives gave old other bytes z) f (subst (λ k. Gives gave old k bytes file) a g)
 
 -- the parts of a file as it was taken: what stands in it was made to last
-pub parts_taken : (a b m : Bool) (u s t : Bytes) (g : Geometry) (size found : ℕ) (erased : List ℕ) → m ≡ a → b ≡ m → (a ≡ true → s ≡ u) → (a ≡ true → found ≡ length u.bytes) → (a ≡ true → AreBytes u) → found ≡ row_count g * size
+pub parts_taken : (a b m : Bool) (u s t : Bytes) (g : Geometry) (size found : ℕ) (erased : List ℕ) → m ≡ a → b ≡ m → (a ≡ true → s ≡ u) → (a ≡ true → found ≡ length u.bytes) → (a ≡ true → HoldsOnlyBytes u) → found ≡ row_count g * size
     → (m ≡ true → SyncsBytes s true t) → erased ≡ replicate (g.pages * size) 255 → AreRows b t g size erased 0 None false
 parts_taken a b m u s t g size found erased e f same long fits n settles blank = record {
   whole = λ h. let m' = sym f ∙ h in let h' = sym e ∙ m' in ap length (settles m').same ∙ (ap (λ (x : Bytes). length x.bytes) (same h') ∙ (sym (long h') ∙ n));
@@ -565,7 +565,7 @@ parts_taken a b m u s t g size found erased e f same long fits n settles blank =
       ap length (w.synced refl (sym w.syncs ∙ k)) ∙ (ap (λ (x : Bytes). length x.bytes) (same h') ∙ (sym (long h') ∙ n));
   fit = λ h. let m' = sym f ∙ h in let h' = sym e ∙ m' in
       let w = settles m' in
-      let old : AreBytes s = subst AreBytes (sym (same h')) (fits h') in
+      let old : HoldsOnlyBytes s = subst HoldsOnlyBytes (sym (same h')) (fits h') in
       let new : (i : ℕ) → slice_index t.bytes i < 256 = subst (λ xs. (i : ℕ) → slice_index xs i < 256) (sym w.same) old.bytes_fit in
       record { bytes_fit = new; durable_fit = fits_lasts s.durable s.bytes t.bytes t.durable w.lasts old.durable_fit old.bytes_fit new };
   blank = blank;

@@ -9,7 +9,7 @@ use Rattle.page_layout.specs.Flash.{no_page, with_block}
 use Rattle.page_layout.proofs.FlashLemmas.{inside, with_block-inside}
 use Rattle.nand_die.proofs.PagesLemmas.{block_within}
 use Rattle.file_die.specs.Store.{Held, AreImages, page_in}
-use Rattle.file_die.specs.Laws.{Call, Load, Put, Clear, Sync, CallsStore, StoreRun, Spares, SpareAll, StaysLaw, ReadBackLaw, ClearedLaw, LoadLaw, SyncLaw, WholeLaw}
+use Rattle.file_die.specs.Laws.{Call, Load, Put, Clear, Sync, CallsStore, StoreRun, Spares, SpareAll, StaysLaw, PutIsLoadedLaw, ClearedLaw, LoadLaw, SyncLaw, WholeLaw}
 
 -- one call spares the row: its page stays
 spared : (s t : Held) (call : Call) (done : Bool) (row : ℕ) → CallsStore s call done t → Spares s.geometry row call → page_in t.pages row ≡ page_in s.pages row
@@ -49,7 +49,7 @@ whole_run s t (call ∷ calls) w r = whole_run r.0 t calls (whole_call s r.0 cal
 pub load_law : LoadLaw
 load_law s t row page done c = c.does.same
 
-pub read_back : ReadBackLaw
+pub read_back : PutIsLoadedLaw
 read_back s t u v calls row page given w lt put run spare load =
     let there : page_in t.pages row ≡ page = ap (λ (image : Image). page_in image row) (put.does.put refl) ∙ get_or-set_same s.pages row page no_page (subst (λ n. row < n) (sym w.pages_whole.rows) lt) in
     load.does.gave refl ∙ (stays t u calls row run (subst (λ g. SpareAll g row calls) (sym put.geometry) spare) ∙ there)

@@ -21,7 +21,7 @@ pub record Bytes : Type 0 where
   pub failed_syncs : ℕ
 
 -- all of it are bytes
-pub record AreBytes (s : Bytes) : Type 0 where
+pub record HoldsOnlyBytes (s : Bytes) : Type 0 where
   pub bytes_fit : (i : ℕ) → slice_index s.bytes i < 256
   pub durable_fit : (i : ℕ) → slice_index s.durable i < 256
 
@@ -77,8 +77,8 @@ pub record IsTold (size : ℕ) (reads : List ℕ → Page) (since : Bytes) (want
   pub lasts : (row : ℕ) → LastsOf (reads (piece size row since.durable)) (reads (piece size row since.bytes)) (reads (piece size row t.bytes)) (reads (piece size row t.durable))
 
 -- a call that is to make these bytes of the file: what was told of it before is told of it after
-abbrev pub Tells : ℕ → (List ℕ → Page) → List ℕ → Bytes → Bytes → Type 0
-Tells size reads wanted s t = (since : Bytes) → IsTold size reads since wanted s → IsTold size reads since wanted t
+abbrev pub KeepsTold : ℕ → (List ℕ → Page) → List ℕ → Bytes → Bytes → Type 0
+KeepsTold size reads wanted s t = (since : Bytes) → IsTold size reads since wanted s → IsTold size reads since wanted t
 
 -- ---- why bytes were not written
 
@@ -91,8 +91,8 @@ abbrev pub TookNone : {F : Type 0} → (wrote : F → ℕ → List ℕ → Resul
 TookNone {F} wrote new = (mid : F) × (at : ℕ) × (bytes : List ℕ) × (0 < length bytes) × wrote mid at bytes (Ok 0) new
 
 -- WRITES FAILED BY A FAULT that was the file's last answer; by `Other` also where its last write took no byte
-abbrev pub FailsBy : {F : Type 0} → (wrote : F → ℕ → List ℕ → Result ℕ ByteFault → F → Type 0) → ByteFault → (new : F) → Type 0
-FailsBy wrote why new = HasAnswered wrote (Err why) new ⊎ ((why ≡ fault.Other) × TookNone wrote new)
+abbrev pub WritesFailBy : {F : Type 0} → (wrote : F → ℕ → List ℕ → Result ℕ ByteFault → F → Type 0) → ByteFault → (new : F) → Type 0
+WritesFailBy wrote why new = HasAnswered wrote (Err why) new ⊎ ((why ≡ fault.Other) × TookNone wrote new)
 
 -- ---- why it was not taken, or not made to last
 

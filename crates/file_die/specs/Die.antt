@@ -3,7 +3,7 @@ use Rattle.std.specs.Prelude.{◌≡◌, ◌≢◌, ◌⊎◌, ◌≤◌, ◌/�
 use Rattle.page_layout.specs.declared.geometry.Geometry.{Geometry}
 use Rattle.page_layout.specs.Geometry.{page_bytes}
 use Rattle.page_layout.specs.Page.{Page}
-use Rattle.page_layout.specs.Flash.{Flash, TurnState, IsWhole, may_program, may_erase}
+use Rattle.page_layout.specs.Flash.{Flash, NextState, IsWhole, may_program, may_erase}
 use Rattle.page_layout.specs.Counter.{counted, HasRisen}
 use Rattle.onfi_cycles.specs.Cycles.{DieState, Phase, Due, Moves, Resets, Programs, Erases, Refuses, Follows, IsCounted, IsUncounted, Ready, NoOutput, page_of, given_up, status_of}
 use Rattle.onfi_cycles.specs.declared.nand.BusFault.{BusFault}
@@ -11,17 +11,17 @@ use Rattle.onfi_cycles.specs.declared.nand.BusFault.TheVariants.{Device}
 use Rattle.nand_die.specs.declared.bus_state.BusState.{BusState}
 use Rattle.nand_die.specs.declared.bus_state.BusState.TheVariants as stands
 use Rattle.nand_die.specs.declared.bus_state.OutputSource.TheVariants as source
-use Rattle.nand_die.specs.declared.change.BlockTurn.{BlockTurn}
+use Rattle.nand_die.specs.declared.change.NextPage.{NextPage}
 use Rattle.nand_die.specs.BusState.{IsWithin}
 use Rattle.file_die.specs.declared.die.SyncWhen.{SyncWhen}
 use Rattle.file_die.specs.declared.die.SyncWhen.TheVariants as sync
 use Rattle.file_die.specs.Store.{Held, AreImages, Puts, Clears, page_in}
 
--- its store; the turn of each block, and how many programs and erases were not due; where it stands, its page register, its status byte; when
+-- its store; the next page of each block, and how many programs and erases were not due; where it stands, its page register, its status byte; when
 -- it syncs
 pub record FileState (S : Type 0) : Type 0 where
   pub store : S
-  pub turns : List TurnState
+  pub next_pages : List NextState
   pub abuse : ℕ
   pub phase : Phase
   pub register : List ℕ
@@ -29,20 +29,20 @@ pub record FileState (S : Type 0) : Type 0 where
   pub sync_when : SyncWhen
 
 -- its flash: the pages are the store's
-abbrev pub flash_over : Held → List TurnState → ℕ → Flash
-flash_over s turns abuse = record { geometry = s.geometry; image = s.pages; turns = turns; abuse = abuse }
+abbrev pub flash_over : Held → List NextState → ℕ → Flash
+flash_over s next_pages abuse = record { geometry = s.geometry; image = s.pages; next_pages = next_pages; abuse = abuse }
 
 -- what its bus shows
 abbrev pub shown : {S : Type 0} → (S → Held) → FileState S → DieState
-shown held d = record { flash = flash_over (held d.store) d.turns d.abuse; phase = d.phase; status = d.status }
+shown held d = record { flash = flash_over (held d.store) d.next_pages d.abuse; phase = d.phase; status = d.status }
 
 -- what is true of its parts. The buffer holds the page of a row, or none; while a page is put out it is that page
-pub record AreParts (s : Held) (honest : Bool) (g : Geometry) (register buffer : List ℕ) (buffered : Option ℕ) (turns : List BlockTurn) (state : BusState) : Type 0 where
+pub record AreParts (s : Held) (honest : Bool) (g : Geometry) (register buffer : List ℕ) (buffered : Option ℕ) (next_pages : List NextPage) (state : BusState) : Type 0 where
   pub same : s.geometry ≡ g
   pub images : honest ≡ true → AreImages s
   pub register_whole : length register ≡ page_bytes g
   pub buffer_whole : length buffer ≡ page_bytes g
-  pub turns_whole : length turns ≡ g.blocks
+  pub next_pages_whole : length next_pages ≡ g.blocks
   pub within : IsWithin g state
   pub holds : honest ≡ true → (row : ℕ) → buffered ≡ Some row → page_of g buffer ≡ page_in s.pages row
   pub put_out : (row column : ℕ) → state ≡ stands.Ready (source.Page row column) → buffered ≡ Some row
@@ -50,21 +50,21 @@ pub record AreParts (s : Held) (honest : Bool) (g : Geometry) (register buffer :
 -- what is true of a die between two cycles
 pub record IsFit {S : Type 0} (held : S → Held) (honest : S → Bool) (d : FileState S) : Type 0 where
   pub images : honest d.store ≡ true → AreImages (held d.store)
-  pub blocks : length d.turns ≡ (held d.store).geometry.blocks
+  pub blocks : length d.next_pages ≡ (held d.store).geometry.blocks
 
 -- the die with this store
-abbrev pub with_store : {S : Type 0} → S → FileState S → FileState S
-with_store store d = record { store = store; turns = d.turns; abuse = d.abuse; phase = d.phase; register = d.register; status = d.status; sync_when = d.sync_when }
+abbrev pub die_with_store : {S : Type 0} → S → FileState S → FileState S
+die_with_store store d = record { store = store; next_pages = d.next_pages; abuse = d.abuse; phase = d.phase; register = d.register; status = d.status; sync_when = d.sync_when }
 
 -- the same, its unfinished command given up
 abbrev pub idle : {S : Type 0} → S → FileState S → FileState S
-idle store d = record { store = store; turns = d.turns; abuse = d.abuse; phase = given_up d.phase; register = d.register; status = d.status; sync_when = d.sync_when }
+idle store d = record { store = store; next_pages = d.next_pages; abuse = d.abuse; phase = given_up d.phase; register = d.register; status = d.status; sync_when = d.sync_when }
 
--- the die after a program or an erase of a block, which then has this turn; one that was not due is abuse
-abbrev pub change_ended : {S : Type 0} → ℕ → TurnState → Bool → Bool → FileState S → FileState S
-change_ended block turn legal passed d = record {
+-- the die after a program or an erase of a block, which then has this next page; one that was not due is abuse
+abbrev pub change_ended : {S : Type 0} → ℕ → NextState → Bool → Bool → FileState S → FileState S
+change_ended block next_page legal passed d = record {
   store = d.store;
-  turns = slice_set d.turns block turn;
+  next_pages = slice_set d.next_pages block next_page;
   abuse = if legal then d.abuse else counted d.abuse;
   phase = Ready NoOutput;
   register = d.register;
@@ -96,7 +96,7 @@ abbrev pub IfDue : Bool → Type 0 → Type 0 → Type 0
 IfDue true change none = change
 IfDue false change none = none
 
--- WHAT A CYCLE DOES TO THE STORE, by what was due: a program or an erase that its block's turn allows is one in the store, and nothing else
+-- WHAT A CYCLE DOES TO THE STORE, by what was due: a program or an erase that its block's next page allows is one in the store, and nothing else
 -- changes a page or what lasts
 abbrev pub Leaves : Due → Flash → SyncWhen → Held → Bool → Held → Type 0
 Leaves (Programs row page) flash sync_when s done t = IfDue (may_program flash row) (ProgramsIn s row page sync_when done t) (t ≡ s)

@@ -2,7 +2,7 @@
 use Rattle.std.specs.Prelude.{◌≡◌, ◌≢◌, ◌<◌, ◌≤◌, ℕ, suc, ◌+◌, ◌*◌, ◌^◌, true, false, List, [], length, take, drop, Some, None, Result, Ok, Err}
 use Rattle.file_die.specs.declared.bytes.ByteFault.{ByteFault}
 use Rattle.file_die.specs.declared.bytes.ByteFault.TheVariants as fault
-use Rattle.file_die.specs.Bytes.{FailsBy, HasAnswered, HasEnded, HasRefused, IsPatient}
+use Rattle.file_die.specs.Bytes.{WritesFailBy, HasAnswered, HasEnded, HasRefused, IsPatient}
 use Rattle.file_die.specs.Rows.{Rows, FailsSync, TellsEnd, TellsFull}
 
 -- EACH READ is done, leaves what the file holds as it is, and gives a byte wherever one stands and there is room
@@ -31,12 +31,12 @@ abbrev pub WholeReadLaw : Type 0
 WholeReadLaw = GivesAll {F = List ℕ} (λ bytes. bytes) (λ old at room answer new. (new ≡ old) × (answer ≡ Ok (take room (drop at old))))
 
 -- writes that are done and take bytes fail by nothing
-abbrev pub TakenLaw : {F : Type 0} → (wrote : F → ℕ → List ℕ → Result ℕ ByteFault → F → Type 0) → Type 0
-TakenLaw {F} wrote = (why : ByteFault) (new : F) → TakesAll wrote → FailsBy wrote why new → ⊥
+abbrev pub NoWriteFailsLaw : {F : Type 0} → (wrote : F → ℕ → List ℕ → Result ℕ ByteFault → F → Type 0) → Type 0
+NoWriteFailsLaw {F} wrote = (why : ByteFault) (new : F) → TakesAll wrote → WritesFailBy wrote why new → ⊥
 
 -- a fault that is not `Other` is the file's last answer
 abbrev pub OwnFaultLaw : {F : Type 0} → (wrote : F → ℕ → List ℕ → Result ℕ ByteFault → F → Type 0) → Type 0
-OwnFaultLaw {F} wrote = (why : ByteFault) (new : F) → why ≢ fault.Other → FailsBy wrote why new → HasAnswered wrote (Err why) new
+OwnFaultLaw {F} wrote = (why : ByteFault) (new : F) → why ≢ fault.Other → WritesFailBy wrote why new → HasAnswered wrote (Err why) new
 
 -- whether it was for want of room is told by the file's last answer, as long as no sync has failed
 abbrev pub FullLaw : {F : Type 0} → (wrote : F → ℕ → List ℕ → Result ℕ ByteFault → F → Type 0) → Type 0
@@ -57,11 +57,11 @@ SyncedLaw {F} refused = (old new : Rows F) → ((file left : F) (why : ByteFault
 
 -- why the first call failed is the file's own answer
 abbrev pub FirstFaultLaw : {F : Type 0} → (wrote : F → ℕ → List ℕ → Result ℕ ByteFault → F → Type 0) → Type 0
-FirstFaultLaw {F} wrote = (old new : Rows F) (why : ByteFault) → old.fault ≡ None → new.fault ≡ Some why → TellsFull wrote old new → FailsBy wrote why new.file
+FirstFaultLaw {F} wrote = (old new : Rows F) (why : ByteFault) → old.fault ≡ None → new.fault ≡ Some why → TellsFull wrote old new → WritesFailBy wrote why new.file
 
 -- a file whose syncs and tellings of its length never fail is refused by none
-abbrev pub RefusedLaw : {F : Type 0} → (refused : F → ByteFault → F → Type 0) → Type 0
-RefusedLaw {F} refused = (why : ByteFault) (new : F) → ((old left : F) (e : ByteFault) → refused old e left → ⊥) → HasRefused refused why new → ⊥
+abbrev pub NeverRefusedLaw : {F : Type 0} → (refused : F → ByteFault → F → Type 0) → Type 0
+NeverRefusedLaw {F} refused = (why : ByteFault) (new : F) → ((old left : F) (e : ByteFault) → refused old e left → ⊥) → HasRefused refused why new → ⊥
 
 -- a file that counts its calls that were interrupted, and has not come to 2^64, is told as interrupted by none
 abbrev pub PatientLaw : {F : Type 0} → (one : F → F → Type 0) → Type 0

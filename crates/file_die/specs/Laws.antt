@@ -49,8 +49,8 @@ abbrev pub StaysLaw : Type 0
 StaysLaw = (s t : Held) (calls : List Call) (row : ℕ) → StoreRun s calls t → SpareAll s.geometry row calls → page_in t.pages row ≡ page_in s.pages row
 
 -- what was put is what a load gives, until the row is put at again or cleared, whatever is done or fails between
-abbrev pub ReadBackLaw : Type 0
-ReadBackLaw = (s t u v : Held) (calls : List Call) (row : ℕ) (page given : Page) → AreImages s → row < row_count s.geometry
+abbrev pub PutIsLoadedLaw : Type 0
+PutIsLoadedLaw = (s t u v : Held) (calls : List Call) (row : ℕ) (page given : Page) → AreImages s → row < row_count s.geometry
     → CallsStore s (Put row page) true t → StoreRun t calls u → SpareAll s.geometry row calls → CallsStore u (Load row given) true v → given ≡ page
 
 -- the same of a block that was cleared: each of its rows is loaded erased

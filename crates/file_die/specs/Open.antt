@@ -2,7 +2,7 @@
 use Rattle.std.specs.Prelude.{◌≡◌, ℕ, Bool, true, List, replicate, Result, Ok, Err}
 use Rattle.page_layout.specs.declared.geometry.Geometry.{Geometry}
 use Rattle.page_layout.specs.Geometry.{page_bytes}
-use Rattle.page_layout.specs.Flash.{TurnState}
+use Rattle.page_layout.specs.Flash.{NextState}
 use Rattle.page_layout.specs.Counter.{HasRisen}
 use Rattle.onfi_cycles.specs.Cycles.{Unreset}
 use Rattle.nand_die.specs.Made.{IsFirstMisnamed}
@@ -13,10 +13,10 @@ use Rattle.file_die.specs.Store.{Held}
 use Rattle.file_die.specs.Die.{FileState}
 
 -- a die that was not yet reset, and of which nothing was asked
-abbrev pub newly_opened : {S : Type 0} → S → Geometry → List TurnState → SyncWhen → FileState S
-newly_opened store g turns sync_when = record {
+abbrev pub newly_opened : {S : Type 0} → S → Geometry → List NextState → SyncWhen → FileState S
+newly_opened store g next_pages sync_when = record {
   store = store;
-  turns = turns;
+  next_pages = next_pages;
   abuse = 0;
   phase = Unreset;
   register = replicate (page_bytes g) 255;
@@ -36,9 +36,9 @@ CountsAs OutOfMemory old new = new ≡ old
 CountsAs (BadBlock block) old new = new ≡ old
 CountsAs Store old new = HasRisen old new
 
-abbrev pub Counts : {A : Type 0} → Result A OpenDieFault → ℕ → ℕ → Type 0
-Counts (Ok x) old new = new ≡ old
-Counts (Err fault) old new = CountsAs fault old new
+abbrev pub CountsFailedLoads : {A : Type 0} → Result A OpenDieFault → ℕ → ℕ → Type 0
+CountsFailedLoads (Ok x) old new = new ≡ old
+CountsFailedLoads (Err fault) old new = CountsAs fault old new
 
 -- the fault says which block is misnamed
 abbrev pub IsCause : Geometry → List ℕ → OpenDieFault → Type 0

@@ -9,7 +9,7 @@ use Rattle.page_layout.specs.Counter.{HasRisen}
 use Rattle.file_die.specs.declared.bytes.ByteFault.{ByteFault}
 use Rattle.file_die.specs.declared.store.StoreFault.{StoreFault}
 use Rattle.file_die.specs.declared.bytes.ByteFault.TheVariants as fault
-use Rattle.file_die.specs.Bytes.{Bytes, AreBytes, FailsBy, HasEnded, Mixes, LastsMixed, AreAlike, over, piece}
+use Rattle.file_die.specs.Bytes.{Bytes, HoldsOnlyBytes, WritesFailBy, HasEnded, Mixes, LastsMixed, AreAlike, over, piece}
 use Rattle.file_die.specs.Store.{Held}
 
 -- ---- a write of all bytes
@@ -76,7 +76,7 @@ is_kept held honest tells reads r = honest r.file && (tells r.file r.size reads 
 pub record AreRows (honest : Bool) (s : Bytes) (g : Geometry) (size : ℕ) (erased : List ℕ) (failures : ℕ) (fault : Option ByteFault) (sync_failed : Bool) : Type 0 where
   pub whole : honest ≡ true → length s.bytes ≡ row_count g * size
   pub lasts : honest ≡ true → s.failed_syncs ≡ syncs_lost sync_failed → length s.durable ≡ row_count g * size
-  pub fit : honest ≡ true → AreBytes s
+  pub fit : honest ≡ true → HoldsOnlyBytes s
   pub blank : erased ≡ replicate (g.pages * size) 255
   pub told : (failures ≡ 0 → fault ≡ None) × (fault ≡ None → failures ≡ 0)
 
@@ -100,7 +100,7 @@ Remembers old new why = old.fault ≡ None → new.fault ≡ Some why
 -- has failed
 pub record TellsFull {F : Type 0} (wrote : F → ℕ → List ℕ → Result ℕ ByteFault → F → Type 0) (old new : Rows F) : Type 0 where
   pub why : ByteFault
-  pub fails : FailsBy wrote why new.file
+  pub fails : WritesFailBy wrote why new.file
   pub full : new.full ≡ lacks_room true old.sync_failed (Err why)
   pub first : Remembers old new why
 
@@ -119,7 +119,7 @@ pub record FailsSync {F : Type 0} (refused : F → ByteFault → F → Type 0) (
 -- ---- a call
 
 -- WHAT STAYS in any call, and what is counted: a failure is, and the first one's fault is remembered
-pub record Counts {F : Type 0} (old new : Rows F) (result : Result (Unit {0}) StoreFault) : Type 0 where
+pub record CountsRowFailures {F : Type 0} (old new : Rows F) (result : Result (Unit {0}) StoreFault) : Type 0 where
   pub geometry : new.geometry ≡ old.geometry
   pub size : new.size ≡ old.size
   pub rising : old.failures ≤ new.failures

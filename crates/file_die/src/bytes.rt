@@ -49,7 +49,7 @@ pub trait ByteFile {
     ghost use Rattle.std.specs.Prelude.{◌≡◌, ◌≤◌, ℕ, Bool, true, List, length, Result, IfErr, IfOk, is_ok};
     ghost use Rattle.page_layout.specs.Page.{Page};
     ghost use Rattle.file_die.specs.declared.bytes.ByteFault.{ByteFault};
-    ghost use Rattle.file_die.specs.Bytes.{Bytes, AreBytes, ReadsBytes, WritesBytes, SyncsBytes, Tells, over, given_by};
+    ghost use Rattle.file_die.specs.Bytes.{Bytes, HoldsOnlyBytes, ReadsBytes, WritesBytes, SyncsBytes, KeepsTold, over, given_by};
 
     /// What it holds.
     ghost held: { Self → Bytes };
@@ -93,7 +93,7 @@ pub trait ByteFile {
         ensures wrote { wrote self.old at bytes.now result self.new }
         ensures writes { honest self.old ≡ true → at ≤ length (held self.old).bytes → WritesBytes (held self.old) at bytes.now result (held self.new) }
         ensures told { honest self.old ≡ true → at ≤ length (held self.old).bytes → (size : ℕ) (reads : List ℕ → Page) → tells self.old size reads ≡ true →
-            Tells size reads (over at bytes.now (held self.old).bytes) (held self.old) (held self.new) }
+            KeepsTold size reads (over at bytes.now (held self.old).bytes) (held self.old) (held self.new) }
         ensures honest { honest self.new ≡ honest self.old }
         ensures tells { (size : ℕ) (reads : List ℕ → Page) → tells self.new size reads ≡ tells self.old size reads };
 
@@ -106,7 +106,7 @@ pub trait ByteFile {
         ensures refused { IfErr result (λ why. refused self.old why self.new) }
         ensures settles { honest self.old ≡ true → SyncsBytes (held self.old) (is_ok result) (held self.new) }
         ensures told { honest self.old ≡ true → (size : ℕ) (reads : List ℕ → Page) → tells self.old size reads ≡ true →
-            Tells size reads (held self.old).bytes (held self.old) (held self.new) }
+            KeepsTold size reads (held self.old).bytes (held self.old) (held self.new) }
         ensures honest { honest self.new ≡ honest self.old }
         ensures tells { (size : ℕ) (reads : List ℕ → Page) → tells self.new size reads ≡ tells self.old size reads };
 
@@ -118,7 +118,7 @@ pub trait ByteFile {
     fn length(&mut self) -> Result<u64, ByteFault>
         ensures refused { IfErr result (λ why. refused self.old why self.new) }
         ensures length { honest self.old ≡ true → IfOk result (λ n. n ≡ length (held self.old).bytes) }
-        ensures bytes { honest self.old ≡ true → AreBytes (held self.old) }
+        ensures bytes { honest self.old ≡ true → HoldsOnlyBytes (held self.old) }
         ensures same { honest self.old ≡ true → held self.new ≡ held self.old }
         ensures honest { honest self.new ≡ honest self.old }
         ensures tells { (size : ℕ) (reads : List ℕ → Page) → tells self.new size reads ≡ tells self.old size reads };

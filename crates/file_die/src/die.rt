@@ -1,18 +1,18 @@
 //! A die whose pages stand in a store.
 ghost use Rattle.std.specs.Prelude.{◌≡◌, ◌<◌, ◌/◌, ℕ, List, Bool, true, length, get_or, is_ok, IfOk, IfErr, OnOk, OnErr, MatchResult};
 ghost use Rattle.page_layout.specs.Geometry.{row_count};
-ghost use Rattle.page_layout.specs.Flash.{no_turn};
+ghost use Rattle.page_layout.specs.Flash.{no_next_page};
 ghost use Rattle.onfi_cycles.specs.Cycles.{Ready, NoOutput, status_of, Moves, Programs, Erases, Refuses, Loading, page_of, command_due, address_due, data_in_due, data_out_due, bytes_out};
 ghost use Rattle.nand_die.specs.BusState.{IsProtocolFault, IsWithin, phase_of};
-ghost use Rattle.nand_die.specs.Turns.{turn_of};
-ghost use Rattle.nand_die.specs.Made.{AreNames, first_turns, next_in};
+ghost use Rattle.nand_die.specs.NextPages.{next_page_of};
+ghost use Rattle.nand_die.specs.Made.{AreNames, first_next_pages, next_in};
 ghost use Rattle.file_die.specs.Open.{newly_opened, OnlyLooks, IsCause, CountsAs};
 
 use crate::asks;
 use crate::open::{OpenDieFault, Parts, parts_of};
 use crate::store::Store;
 use nand_die::{
-    AddressStep, BlockTurn, BusState, Change, CommandStep, OutputSource, address_step, change_of,
+    AddressStep, BusState, Change, CommandStep, NextPage, OutputSource, address_step, change_of,
     command_step, data_place, erased, is_due, programmed, put_out_at,
 };
 use onfi_cycles::{Bus, BusFault};
@@ -29,7 +29,7 @@ pub enum SyncWhen {
     Always,
 }
 
-/// A raw NAND die over a store, behind its bus. It holds two pages and the turn of each block, and never the image. Where the store fails
+/// A raw NAND die over a store, behind its bus. It holds two pages and the next page of each block, and never the image. Where the store fails
 /// the cycle is answered `Device`, and the unfinished command is given up; of its pages is known then what the store says. (Commands and
 /// status bits are ONFI 1.0's; the rules of turns are this project's.)
 #[derive(Drop)]
@@ -39,7 +39,7 @@ pub struct FileDie<S: Store> {
     register: Vec<u8>,
     page: Vec<u8>,
     page_row: Option<u32>,
-    turns: Vec<BlockTurn>,
+    next_pages: Vec<NextPage>,
     bus_state: BusState,
     passed: bool,
     abuse: u64,
@@ -50,14 +50,14 @@ impl<S: Store> Model for FileDie<S> {
     ghost use Rattle.std.specs.Prelude.{map};
     ghost use Rattle.onfi_cycles.specs.Cycles.{status_of};
     ghost use Rattle.nand_die.specs.BusState.{phase_of};
-    ghost use Rattle.nand_die.specs.Turns.{turn_of};
+    ghost use Rattle.nand_die.specs.NextPages.{next_page_of};
     ghost use Rattle.file_die.specs.Die.{FileState, AreParts};
 
     ghost Value = { FileState S };
 
     ghost view = { λ d. record {
       store = d.store;
-      turns = map turn_of d.turns.items;
+      next_pages = map next_page_of d.next_pages.items;
       abuse = d.abuse;
       phase = phase_of d.register.items d.bus_state;
       register = d.register.items;
@@ -65,12 +65,12 @@ impl<S: Store> Model for FileDie<S> {
       sync_when = d.sync_when;
     } };
 
-    ghost invariant = { λ d. AreParts (S.held d.store) (S.honest d.store) d.geometry d.register.items d.page.items d.page_row d.turns.items d.bus_state };
+    ghost invariant = { λ d. AreParts (S.held d.store) (S.honest d.store) d.geometry d.register.items d.page.items d.page_row d.next_pages.items d.bus_state };
 }
 
 impl<S: Store> FileDie<S> {
     ghost use Rattle.file_die.specs.Store.{Syncs};
-    ghost use Rattle.file_die.specs.Die.{ActsOverStore, IsFit, Asks, ProgramsIn, ErasesInStore, change_ended, idle, shown, with_store};
+    ghost use Rattle.file_die.specs.Die.{ActsOverStore, IsFit, Asks, ProgramsIn, ErasesInStore, change_ended, idle, shown, die_with_store};
 
     /// A die of the pages that a store holds, not yet reset. Of each block the next page is one past the last that is not erased: the store is
     /// read once, each block from its last page down to that one. The blocks named are bad, and nothing was asked of any of them.
@@ -79,7 +79,7 @@ impl<S: Store> FileDie<S> {
     ///
     /// With the store, whose pages are as they were:
     ///
-    /// - `OutOfMemory` where there is no memory for two pages and the turns of the blocks.
+    /// - `OutOfMemory` where there is no memory for two pages and the next pages of the blocks.
     /// - `BadBlock` of the first name that lies past the die or was named before. No page was read.
     /// - `Store` where the store failed to load a page.
     pub fn open(
@@ -88,8 +88,8 @@ impl<S: Store> FileDie<S> {
         bad: &[u32],
         sync_when: SyncWhen,
     ) -> Result<FileDie<S>, (S, OpenDieFault)>
-        ensures fresh { IfOk result (λ die. die ≡ newly_opened die.store (S.held store).geometry die.turns sync_when) }
-        ensures turns { IfOk result (λ die. S.honest store ≡ true → die.turns ≡ first_turns (S.held store).geometry (next_in (S.held store).geometry (S.held store).pages) bad.now) }
+        ensures fresh { IfOk result (λ die. die ≡ newly_opened die.store (S.held store).geometry die.next_pages sync_when) }
+        ensures next_pages { IfOk result (λ die. S.honest store ≡ true → die.next_pages ≡ first_next_pages (S.held store).geometry (next_in (S.held store).geometry (S.held store).pages) bad.now) }
         ensures named { OnOk result (AreNames (S.held store).geometry bad.now) }
         ensures looks { MatchResult result (λ die. OnlyLooks S.held S.honest store die.store) (λ e. OnlyLooks S.held S.honest store e.0) }
         ensures uncounted { IfOk result (λ die. S.failed die.store ≡ S.failed store) }
@@ -102,7 +102,7 @@ impl<S: Store> FileDie<S> {
                 Parts {
                     register,
                     page,
-                    turns,
+                    next_pages,
                 },
             ) => Ok(FileDie {
                 store,
@@ -110,7 +110,7 @@ impl<S: Store> FileDie<S> {
                 register,
                 page,
                 page_row: None,
-                turns,
+                next_pages,
                 bus_state: BusState::Unreset,
                 passed: true,
                 abuse: 0,
@@ -166,21 +166,21 @@ impl<S: Store> FileDie<S> {
         Ok(())
     }
 
-    // The turn of a block.
-    fn turn(&self, block: u32) -> BlockTurn
+    // The next page of a block.
+    fn next_page(&self, block: u32) -> NextPage
         requires { block < (S.held self.now.store).geometry.blocks }
-        ensures turn { turn_of result ≡ get_or self.now.turns block no_turn }
+        ensures next_page { next_page_of result ≡ get_or self.now.next_pages block no_next_page }
         ensures fit { IsFit S.held S.honest self.now }
     {
-        self.turns[block as usize]
+        self.next_pages[block as usize]
     }
 
     // Ends a program or an erase.
-    fn end(&mut self, block: u32, turn: BlockTurn, change: Change)
+    fn end(&mut self, block: u32, next_page: NextPage, change: Change)
         requires { block < (S.held self.old.store).geometry.blocks }
-        ensures { self.new ≡ change_ended block (turn_of turn) change.legal change.passed self.old }
+        ensures { self.new ≡ change_ended block (next_page_of next_page) change.legal change.passed self.old }
     {
-        self.turns[block as usize] = turn;
+        self.next_pages[block as usize] = next_page;
         self.passed = change.passed;
         self.bus_state = BusState::Ready(OutputSource::Nothing);
         if !change.legal {
@@ -218,12 +218,12 @@ impl<S: Store> FileDie<S> {
         ensures { ActsOverStore S.held S.honest S.failed (Programs row (page_of (S.held self.old.store).geometry self.old.register)) self.old self.new result }
     {
         let block = row / self.geometry.pages();
-        let turn = self.turn(block);
-        let change = change_of(is_due(turn, row % self.geometry.pages()), false);
+        let next_page = self.next_page(block);
+        let change = change_of(is_due(next_page, row % self.geometry.pages()), false);
         if change.legal {
             self.put(row)?;
         }
-        self.end(block, programmed(turn, change), change);
+        self.end(block, programmed(next_page, change), change);
         Ok(())
     }
 
@@ -232,12 +232,12 @@ impl<S: Store> FileDie<S> {
         requires in_range { block < (S.held self.old.store).geometry.blocks }
         ensures { ActsOverStore S.held S.honest S.failed (Erases block) self.old self.new result }
     {
-        let turn = self.turn(block);
-        let change = change_of(!turn.barred, false);
+        let next_page = self.next_page(block);
+        let change = change_of(!next_page.barred, false);
         if change.legal {
             self.clear(block)?;
         }
-        self.end(block, erased(turn, change), change);
+        self.end(block, erased(next_page, change), change);
         Ok(())
     }
 
@@ -327,7 +327,7 @@ impl<S: Store> FileDie<S> {
     pub fn sync(&mut self) -> Result<(), BusFault>
         ensures syncs { S.honest self.old.store ≡ true → Syncs (S.held self.old.store) (is_ok result) (S.held self.new.store) }
         ensures asks { Asks S.held S.honest S.failed self.old.store self.new.store result }
-        ensures same { self.new ≡ with_store self.new.store self.old }
+        ensures same { self.new ≡ die_with_store self.new.store self.old }
     {
         asks::sync(&mut self.store)
     }

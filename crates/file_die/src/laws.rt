@@ -1,9 +1,9 @@
 //! What the clauses of a store and of a die over one come to. Each function does nothing: its contract is the law.
 ghost use Rattle.file_die.specs.Bytes.{ReadInterrupted, WriteInterrupted};
 ghost use Rattle.file_die.specs.DieLaws.{AddingGoesLaw, AlwaysLaw, CopiesLaw, ImagesLaw, KeepsLaw, LandsLaw, SinceSyncLaw, WipesLaw};
-ghost use Rattle.file_die.specs.FaultLaws.{ChangedLaw, EndedLaw, FirstFaultLaw, FullLaw, OwnFaultLaw, PatientLaw, RefusedLaw, RowReadLaw, SyncedLaw, TakenLaw, WholeReadLaw};
+ghost use Rattle.file_die.specs.FaultLaws.{ChangedLaw, EndedLaw, FirstFaultLaw, FullLaw, OwnFaultLaw, PatientLaw, NeverRefusedLaw, RowReadLaw, SyncedLaw, NoWriteFailsLaw, WholeReadLaw};
 ghost use Rattle.file_die.specs.FileLaws.{OverLaw, RawLaw};
-ghost use Rattle.file_die.specs.Laws.{StaysLaw, ReadBackLaw, ClearedLaw, LoadLaw, SyncLaw, WholeLaw};
+ghost use Rattle.file_die.specs.Laws.{StaysLaw, PutIsLoadedLaw, ClearedLaw, LoadLaw, SyncLaw, WholeLaw};
 
 use crate::bytes::ByteFile;
 
@@ -11,7 +11,7 @@ use crate::bytes::ByteFile;
 /// page where its block was cleared; a load changes nothing; and after a sync each page lasts that no later call changes. (This project's.)
 pub fn store_laws()
     ensures stays { StaysLaw }
-    ensures read_back { ReadBackLaw }
+    ensures read_back { PutIsLoadedLaw }
     ensures cleared { ClearedLaw }
     ensures load { LoadLaw }
     ensures sync { SyncLaw }
@@ -48,14 +48,14 @@ pub fn file_laws()
 pub fn fault_laws<F: ByteFile>()
     ensures ended { EndedLaw F.gave }
     ensures whole { WholeReadLaw }
-    ensures taken { TakenLaw F.wrote }
+    ensures taken { NoWriteFailsLaw F.wrote }
     ensures own { OwnFaultLaw F.wrote }
     ensures full { FullLaw F.wrote }
     ensures changed { ChangedLaw F.wrote }
     ensures first { FirstFaultLaw F.wrote }
     ensures read { RowReadLaw F.gave }
     ensures synced { SyncedLaw F.refused }
-    ensures refused { RefusedLaw F.refused }
+    ensures refused { NeverRefusedLaw F.refused }
     ensures patient_reads { PatientLaw (ReadInterrupted F.gave) }
     ensures patient_writes { PatientLaw (WriteInterrupted F.wrote) }
 {}

@@ -1,7 +1,7 @@
 //! Whole reads and writes of a file, whose calls may move less.
 ghost use Rattle.std.specs.Prelude.{◌≡◌, ◌<◌, ◌≤◌, ℕ, ◌+◌, ◌^◌, true, List, length, take, IfErr, IfOk, is_ok};
 ghost use Rattle.page_layout.specs.Page.{Page};
-ghost use Rattle.file_die.specs.Bytes.{Bytes, FailsBy, Gives, HasEnded, IsPatient, ReadInterrupted, Tells, WriteInterrupted, over};
+ghost use Rattle.file_die.specs.Bytes.{Bytes, WritesFailBy, Gives, HasEnded, IsPatient, ReadInterrupted, KeepsTold, WriteInterrupted, over};
 ghost use Rattle.file_die.specs.Rows.{WritesAll, Going, IsFilled, moved_by};
 
 use crate::bytes::{ByteFault, ByteFile};
@@ -68,11 +68,11 @@ fn write_once<F: ByteFile>(
     requires unfinished { done < length bytes.now }
     requires within { at + length bytes.now < 2 ^ 64 }
     ensures next { IfOk result (λ next. (done < next) × (next ≤ length bytes.now)) }
-    ensures fails { IfErr result (λ why. FailsBy F.wrote why file.new) }
+    ensures fails { IfErr result (λ why. WritesFailBy F.wrote why file.new) }
     ensures interrupted { IfErr result (λ why. why ≡ ByteFault.Interrupted → WriteInterrupted F.wrote file.old file.new) }
     ensures goes { F.honest file.old ≡ true → (first : Bytes) → at ≤ length first.bytes → Going first at bytes.now done (F.held file.old) → Going first at bytes.now (moved_by done result) (F.held file.new) }
     ensures told { F.honest file.old ≡ true → (first : Bytes) → at ≤ length first.bytes → Going first at bytes.now done (F.held file.old) →
-        (size : ℕ) (reads : List ℕ → Page) → F.tells file.old size reads ≡ true → Tells size reads (over at bytes.now first.bytes) (F.held file.old) (F.held file.new) }
+        (size : ℕ) (reads : List ℕ → Page) → F.tells file.old size reads ≡ true → KeepsTold size reads (over at bytes.now first.bytes) (F.held file.old) (F.held file.new) }
     ensures honest { F.honest file.new ≡ F.honest file.old }
     ensures tells { (size : ℕ) (reads : List ℕ → Page) → F.tells file.new size reads ≡ F.tells file.old size reads }
 {
@@ -93,11 +93,11 @@ fn write_next<F: ByteFile>(
     requires unfinished { done < length bytes.now }
     requires within { at + length bytes.now < 2 ^ 64 }
     ensures next { IfOk result (λ next. (done < next) × (next ≤ length bytes.now)) }
-    ensures fails { IfErr result (λ why. FailsBy F.wrote why file.new) }
+    ensures fails { IfErr result (λ why. WritesFailBy F.wrote why file.new) }
     ensures patient { IfErr result (λ why. IsPatient (WriteInterrupted F.wrote) why file.new) }
     ensures goes { F.honest file.old ≡ true → (first : Bytes) → at ≤ length first.bytes → Going first at bytes.now done (F.held file.old) → Going first at bytes.now (moved_by done result) (F.held file.new) }
     ensures told { F.honest file.old ≡ true → (first : Bytes) → at ≤ length first.bytes → Going first at bytes.now done (F.held file.old) →
-        (size : ℕ) (reads : List ℕ → Page) → F.tells file.old size reads ≡ true → Tells size reads (over at bytes.now first.bytes) (F.held file.old) (F.held file.new) }
+        (size : ℕ) (reads : List ℕ → Page) → F.tells file.old size reads ≡ true → KeepsTold size reads (over at bytes.now first.bytes) (F.held file.old) (F.held file.new) }
     ensures honest { F.honest file.new ≡ F.honest file.old }
     ensures tells { (size : ℕ) (reads : List ℕ → Page) → F.tells file.new size reads ≡ F.tells file.old size reads }
 {
@@ -147,11 +147,11 @@ pub fn read_all<F: ByteFile>(file: &mut F, to: &mut [u8], at: u64) -> Result<(),
 /// Each byte is as it was or as it was to be.
 pub fn write_all<F: ByteFile>(file: &mut F, bytes: &[u8], at: u64) -> Result<(), ByteFault>
     requires within { at + length bytes.now < 2 ^ 64 }
-    ensures fails { IfErr result (λ why. FailsBy F.wrote why file.new) }
+    ensures fails { IfErr result (λ why. WritesFailBy F.wrote why file.new) }
     ensures patient { IfErr result (λ why. IsPatient (WriteInterrupted F.wrote) why file.new) }
     ensures writes { F.honest file.old ≡ true → at ≤ length (F.held file.old).bytes → WritesAll (F.held file.old) at bytes.now (is_ok result) (F.held file.new) }
     ensures told { F.honest file.old ≡ true → at ≤ length (F.held file.old).bytes → (size : ℕ) (reads : List ℕ → Page) → F.tells file.old size reads ≡ true →
-        Tells size reads (over at bytes.now (F.held file.old).bytes) (F.held file.old) (F.held file.new) }
+        KeepsTold size reads (over at bytes.now (F.held file.old).bytes) (F.held file.old) (F.held file.new) }
     ensures honest { F.honest file.new ≡ F.honest file.old }
     ensures tells { (size : ℕ) (reads : List ℕ → Page) → F.tells file.new size reads ≡ F.tells file.old size reads }
 {

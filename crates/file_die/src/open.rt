@@ -2,14 +2,14 @@
 ghost use Rattle.std.specs.Prelude.{◌≡◌, ◌<◌, true, [], ℕ, List, length, map, replicate, IfOk, IfErr, OnOk};
 ghost use Rattle.page_layout.specs.Geometry.{row_count, page_bytes};
 ghost use Rattle.page_layout.specs.Sound.{is_erased_page};
-ghost use Rattle.nand_die.specs.Turns.{turn_of};
-ghost use Rattle.nand_die.specs.Made.{AreNames, IsFirstMisnamed, first_turns, next_in};
+ghost use Rattle.nand_die.specs.NextPages.{next_page_of};
+ghost use Rattle.nand_die.specs.Made.{AreNames, IsFirstMisnamed, first_next_pages, next_in};
 ghost use Rattle.file_die.specs.Store.{page_in};
-ghost use Rattle.file_die.specs.Open.{OnlyLooks, Counts, IsCause};
+ghost use Rattle.file_die.specs.Open.{OnlyLooks, CountsFailedLoads, IsCause};
 
 use crate::asks::load;
 use crate::store::Store;
-use nand_die::{BlockTurn, bar_all, new_turns, page_length};
+use nand_die::{NextPage, bar_all, new_next_pages, page_length};
 use page_layout::geometry::Geometry;
 use page_layout::record::is_erased;
 use std::alloc::Global;
@@ -18,7 +18,7 @@ use thiserror::Error;
 /// Why a die was not opened. (This project's.)
 #[derive(Clone, Copy, Debug, PartialEq, Eq, Error)]
 pub enum OpenDieFault {
-    /// There is no memory for two pages and the turns of the blocks.
+    /// There is no memory for two pages and the next pages of the blocks.
     #[error("OutOfMemory")]
     OutOfMemory,
     /// A block that is named bad lies past the die, or was named before.
@@ -34,7 +34,7 @@ pub enum OpenDieFault {
 pub struct Parts {
     pub register: Vec<u8>,
     pub page: Vec<u8>,
-    pub turns: Vec<BlockTurn>,
+    pub next_pages: Vec<NextPage>,
 }
 
 // A page of bytes FFh.
@@ -48,14 +48,14 @@ fn blank(alloc: Global, geometry: &Geometry) -> Result<Vec<u8>, OpenDieFault>
     }
 }
 
-// A turn for each block.
-fn turns_for(alloc: Global, geometry: &Geometry) -> Result<Vec<BlockTurn>, OpenDieFault>
-    ensures ok { IfOk result (λ turns. map turn_of turns.items ≡ first_turns geometry.now (λ block. 0) []) }
-    ensures len { IfOk result (λ turns. length turns.items ≡ geometry.now.blocks) }
+// A next page for each block.
+fn turns_for(alloc: Global, geometry: &Geometry) -> Result<Vec<NextPage>, OpenDieFault>
+    ensures ok { IfOk result (λ next_pages. map next_page_of next_pages.items ≡ first_next_pages geometry.now (λ block. 0) []) }
+    ensures len { IfOk result (λ next_pages. length next_pages.items ≡ geometry.now.blocks) }
     ensures err { IfErr result (λ fault. fault ≡ OpenDieFault.OutOfMemory) }
 {
-    match new_turns(alloc, geometry) {
-        Ok(turns) => Ok(turns),
+    match new_next_pages(alloc, geometry) {
+        Ok(next_pages) => Ok(next_pages),
         Err(_) => Err(OpenDieFault::OutOfMemory),
     }
 }
@@ -72,7 +72,7 @@ fn is_row_erased<S: Store>(
     requires room { length page.old ≡ page_bytes geometry.now }
     ensures erased { IfOk result (λ erased. S.honest store.old ≡ true → erased ≡ is_erased_page (page_in (S.held store.old).pages row)) }
     ensures looks { OnlyLooks S.held S.honest store.old store.new }
-    ensures counts { Counts result (S.failed store.old) (S.failed store.new) }
+    ensures counts { CountsFailedLoads result (S.failed store.old) (S.failed store.new) }
     ensures err { IfErr result (λ fault. fault ≡ OpenDieFault.Store) }
 {
     if load(store, row, page).is_err() {
@@ -95,7 +95,7 @@ fn next_page<S: Store>(
     requires room { length page.old ≡ page_bytes geometry.now }
     ensures next { IfOk result (λ next. S.honest store.old ≡ true → next ≡ next_in geometry.now (S.held store.old).pages block) }
     ensures looks { OnlyLooks S.held S.honest store.old store.new }
-    ensures counts { Counts result (S.failed store.old) (S.failed store.new) }
+    ensures counts { CountsFailedLoads result (S.failed store.old) (S.failed store.new) }
     ensures err { IfErr result (λ fault. fault ≡ OpenDieFault.Store) }
 {
     let mut next = geometry.pages();
@@ -109,14 +109,18 @@ fn next_page<S: Store>(
 }
 
 // Names blocks bad, where none was yet.
-fn name_bad(turns: &mut [BlockTurn], geometry: &Geometry, bad: &[u32]) -> Result<(), OpenDieFault>
-    requires blocks { length turns.old ≡ geometry.now.blocks }
-    requires fresh { map turn_of turns.old ≡ first_turns geometry.now (λ block. 0) [] }
-    ensures turns { OnOk result (map turn_of turns.new ≡ first_turns geometry.now (λ block. 0) bad.now) }
+fn name_bad(
+    next_pages: &mut [NextPage],
+    geometry: &Geometry,
+    bad: &[u32],
+) -> Result<(), OpenDieFault>
+    requires blocks { length next_pages.old ≡ geometry.now.blocks }
+    requires fresh { map next_page_of next_pages.old ≡ first_next_pages geometry.now (λ block. 0) [] }
+    ensures next_pages { OnOk result (map next_page_of next_pages.new ≡ first_next_pages geometry.now (λ block. 0) bad.now) }
     ensures named { OnOk result (AreNames geometry.now bad.now) }
     ensures err { IfErr result (λ fault. (block : ℕ) × (fault ≡ OpenDieFault.BadBlock block) × IsFirstMisnamed geometry.now bad.now block) }
 {
-    match bar_all(turns, geometry, bad) {
+    match bar_all(next_pages, geometry, bad) {
         Ok(()) => Ok(()),
         Err(block) => Err(OpenDieFault::BadBlock { block }),
     }
@@ -124,23 +128,23 @@ fn name_bad(turns: &mut [BlockTurn], geometry: &Geometry, bad: &[u32]) -> Result
 
 // Finds the next page of each block of a store.
 fn find_next_pages<S: Store>(
-    turns: &mut [BlockTurn],
+    next_pages: &mut [NextPage],
     store: &mut S,
     geometry: &Geometry,
     page: &mut [u8],
 ) -> Result<(), OpenDieFault>
     requires geometry { (S.held store.old).geometry ≡ geometry.now }
     requires images { S.honest store.old ≡ true → length (S.held store.old).pages ≡ row_count geometry.now }
-    requires blocks { length turns.old ≡ geometry.now.blocks }
+    requires blocks { length next_pages.old ≡ geometry.now.blocks }
     requires room { length page.old ≡ page_bytes geometry.now }
-    ensures turns { OnOk result (S.honest store.old ≡ true → (bad : List ℕ) → map turn_of turns.old ≡ first_turns geometry.now (λ block. 0) bad →
-        map turn_of turns.new ≡ first_turns geometry.now (next_in geometry.now (S.held store.old).pages) bad) }
+    ensures next_pages { OnOk result (S.honest store.old ≡ true → (bad : List ℕ) → map next_page_of next_pages.old ≡ first_next_pages geometry.now (λ block. 0) bad →
+        map next_page_of next_pages.new ≡ first_next_pages geometry.now (next_in geometry.now (S.held store.old).pages) bad) }
     ensures looks { OnlyLooks S.held S.honest store.old store.new }
-    ensures counts { Counts result (S.failed store.old) (S.failed store.new) }
+    ensures counts { CountsFailedLoads result (S.failed store.old) (S.failed store.new) }
     ensures err { IfErr result (λ fault. fault ≡ OpenDieFault.Store) }
 {
     for block in 0..geometry.blocks() {
-        turns[block as usize].next = next_page(store, geometry, block, page)?;
+        next_pages[block as usize].next = next_page(store, geometry, block, page)?;
     }
     Ok(())
 }
@@ -149,14 +153,14 @@ fn find_next_pages<S: Store>(
 fn new_parts(alloc: Global, geometry: &Geometry) -> Result<Parts, OpenDieFault>
     ensures register { IfOk result (λ parts. parts.register.items ≡ replicate (page_bytes geometry.now) 255) }
     ensures page { IfOk result (λ parts. length parts.page.items ≡ page_bytes geometry.now) }
-    ensures blocks { IfOk result (λ parts. length parts.turns.items ≡ geometry.now.blocks) }
-    ensures turns { IfOk result (λ parts. map turn_of parts.turns.items ≡ first_turns geometry.now (λ block. 0) []) }
+    ensures blocks { IfOk result (λ parts. length parts.next_pages.items ≡ geometry.now.blocks) }
+    ensures next_pages { IfOk result (λ parts. map next_page_of parts.next_pages.items ≡ first_next_pages geometry.now (λ block. 0) []) }
     ensures err { IfErr result (λ fault. fault ≡ OpenDieFault.OutOfMemory) }
 {
     Ok(Parts {
         register: blank(alloc, geometry)?,
         page: blank(alloc, geometry)?,
-        turns: turns_for(alloc, geometry)?,
+        next_pages: turns_for(alloc, geometry)?,
     })
 }
 
@@ -171,15 +175,15 @@ pub fn parts_of<S: Store>(
     requires images { S.honest store.old ≡ true → length (S.held store.old).pages ≡ row_count geometry.now }
     ensures register { IfOk result (λ parts. parts.register.items ≡ replicate (page_bytes geometry.now) 255) }
     ensures page { IfOk result (λ parts. length parts.page.items ≡ page_bytes geometry.now) }
-    ensures blocks { IfOk result (λ parts. length parts.turns.items ≡ geometry.now.blocks) }
-    ensures turns { IfOk result (λ parts. S.honest store.old ≡ true → map turn_of parts.turns.items ≡ first_turns geometry.now (next_in geometry.now (S.held store.old).pages) bad.now) }
+    ensures blocks { IfOk result (λ parts. length parts.next_pages.items ≡ geometry.now.blocks) }
+    ensures next_pages { IfOk result (λ parts. S.honest store.old ≡ true → map next_page_of parts.next_pages.items ≡ first_next_pages geometry.now (next_in geometry.now (S.held store.old).pages) bad.now) }
     ensures named { OnOk result (AreNames geometry.now bad.now) }
     ensures looks { OnlyLooks S.held S.honest store.old store.new }
-    ensures counts { Counts result (S.failed store.old) (S.failed store.new) }
+    ensures counts { CountsFailedLoads result (S.failed store.old) (S.failed store.new) }
     ensures err { IfErr result (IsCause geometry.now bad.now) }
 {
     let mut parts = new_parts(alloc, geometry)?;
-    name_bad(&mut parts.turns, geometry, bad)?;
-    find_next_pages(&mut parts.turns, store, geometry, &mut parts.page)?;
+    name_bad(&mut parts.next_pages, geometry, bad)?;
+    find_next_pages(&mut parts.next_pages, store, geometry, &mut parts.page)?;
     Ok(parts)
 }

@@ -5,7 +5,7 @@ ghost use Rattle.page_layout.specs.Geometry.{row_count};
 ghost use Rattle.page_layout.specs.Counter.{counted, HasRisen};
 ghost use Rattle.file_die.specs.Bytes.{Gives, HasRefused, piece};
 ghost use Rattle.file_die.specs.Store.{AreImages, Loads, Puts, Clears, Syncs};
-ghost use Rattle.file_die.specs.Rows.{Counts, FailsSync, IsReading, TellsEnd, TellsFull, held_in, is_kept, lacks_room};
+ghost use Rattle.file_die.specs.Rows.{CountsRowFailures, FailsSync, IsReading, TellsEnd, TellsFull, held_in, is_kept, lacks_room};
 
 use crate::bytes::{ByteFault, ByteFile};
 use crate::moves::{read_all, write_all};
@@ -160,7 +160,7 @@ impl<F: ByteFile> RowFile<F> {
         ensures bytes { is_ok result ≡ true → F.honest self.old.file ≡ true → to.new ≡ piece self.old.size row (F.held self.old.file).bytes }
         ensures loads { (reads : List ℕ → Page) → is_kept F.held F.honest F.tells reads self.old ≡ true → Loads (held_in F.held reads self.old) row (reads to.new) (is_ok result) (held_in F.held reads self.new) }
         ensures kept { (reads : List ℕ → Page) → is_kept F.held F.honest F.tells reads self.new ≡ is_kept F.held F.honest F.tells reads self.old }
-        ensures counts { Counts self.old self.new result }
+        ensures counts { CountsRowFailures self.old self.new result }
         ensures unfilled { self.new.full ≡ false }
     {
         let start = self.offset(row);
@@ -180,7 +180,7 @@ impl<F: ByteFile> RowFile<F> {
         ensures puts { (reads : List ℕ → Page) → IsReading self.old.geometry self.old.size reads → is_kept F.held F.honest F.tells reads self.old ≡ true →
             Puts (held_in F.held reads self.old) row (reads bytes.now) (is_ok result) (held_in F.held reads self.new) }
         ensures kept { (reads : List ℕ → Page) → is_kept F.held F.honest F.tells reads self.new ≡ is_kept F.held F.honest F.tells reads self.old }
-        ensures counts { Counts self.old self.new result }
+        ensures counts { CountsRowFailures self.old self.new result }
         ensures full { OnErr result (TellsFull F.wrote self.old self.new) }
         ensures room { OnOk result (self.new.full ≡ false) }
     {
@@ -199,7 +199,7 @@ impl<F: ByteFile> RowFile<F> {
         ensures clears { (reads : List ℕ → Page) → IsReading self.old.geometry self.old.size reads → is_kept F.held F.honest F.tells reads self.old ≡ true →
             Clears (held_in F.held reads self.old) block (is_ok result) (held_in F.held reads self.new) }
         ensures kept { (reads : List ℕ → Page) → is_kept F.held F.honest F.tells reads self.new ≡ is_kept F.held F.honest F.tells reads self.old }
-        ensures counts { Counts self.old self.new result }
+        ensures counts { CountsRowFailures self.old self.new result }
         ensures full { OnErr result (TellsFull F.wrote self.old self.new) }
         ensures room { OnOk result (self.new.full ≡ false) }
     {
@@ -217,7 +217,7 @@ impl<F: ByteFile> RowFile<F> {
         ensures syncs { (reads : List ℕ → Page) → IsReading self.old.geometry self.old.size reads → is_kept F.held F.honest F.tells reads self.old ≡ true →
             Syncs (held_in F.held reads self.old) (is_ok result) (held_in F.held reads self.new) }
         ensures kept { (reads : List ℕ → Page) → is_kept F.held F.honest F.tells reads self.new ≡ is_kept F.held F.honest F.tells reads self.old }
-        ensures counts { Counts self.old self.new result }
+        ensures counts { CountsRowFailures self.old self.new result }
         ensures unfilled { self.new.full ≡ false }
         ensures once { self.old.sync_failed ≡ true → (is_ok result ≡ false) × (self.new.file ≡ self.old.file) }
         ensures refused { OnErr result (FailsSync F.refused self.old self.new) }

@@ -6,9 +6,9 @@ use Rattle.nbd_stream.specs.declared.reply.RequestError.{RequestError}
 use Rattle.nbd_stream.specs.declared.task.Task.{Task}
 use Rattle.nbd_stream.specs.declared.task.Task.TheVariants.{Read, Write, Flush, Trim, WriteZeroes}
 use Rattle.nbd_stream.specs.Disk.{Contents, answer_from, error_for}
-use Rattle.frame_laws.specs.CallWords.{AskedLaw, CallWordLaw}
+use Rattle.frame_laws.specs.CallWords.{DiskAskedLaw, CallWordLaw}
 
-pub asked : AskedLaw
+pub asked : DiskAskedLaw
 asked (Read offset count) body bytes place = (refl, refl, refl, λ o n d is. cc)
 asked (Write offset count durable) body bytes place = (refl, refl, refl, λ o n d is. cc)
 asked Flush body bytes place = (refl, refl, refl, λ o n d is. cc)

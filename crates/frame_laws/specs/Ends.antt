@@ -16,6 +16,6 @@ abbrev pub NoHeaderLaw : Type 0
 NoHeaderLaw = (size : ℕ) (tail : List ℕ) (left : Option (List ℕ)) → Rests size BadFrame tail left → (length tail ≡ 12) × (is_header tail ≡ false)
 
 -- A READ THAT FAILED came inside a request: it had taken fewer bytes than a header has, or fewer than the request that its header begins
-abbrev pub CutLaw : Type 0
-CutLaw = (size : ℕ) (unread left : Option (List ℕ)) (buffer : List ℕ) (fault : ServeFault) → ReadsRequest size unread left buffer (Err fault)
+abbrev pub FailedInRequestLaw : Type 0
+FailedInRequestLaw = (size : ℕ) (unread left : Option (List ℕ)) (buffer : List ℕ) (fault : ServeFault) → ReadsRequest size unread left buffer (Err fault)
     → (tail : List ℕ) × Consumes unread left tail × ((length tail < 12) ⊎ ((r : Request) × (length r.body < body_length size r.op) × (tail ≡ request_bytes r)))

@@ -2,8 +2,8 @@
 //! stand in no crate that others rest on, so that a new one has nothing proved again.
 #![tactic(auto)]
 
-ghost use Rattle.frame_laws.specs.CallWords.{AskedLaw, CallWordLaw};
-ghost use Rattle.frame_laws.specs.Ends.{AtEndLaw, NoHeaderLaw, CutLaw};
+ghost use Rattle.frame_laws.specs.CallWords.{DiskAskedLaw, CallWordLaw};
+ghost use Rattle.frame_laws.specs.Ends.{AtEndLaw, NoHeaderLaw, FailedInRequestLaw};
 ghost use Rattle.frame_laws.specs.Lines.{PartLaw, SentLineLaw};
 ghost use Rattle.frame_laws.specs.RestWords.{RestWordLaw};
 
@@ -14,7 +14,7 @@ use nbd_stream::Disk;
 pub fn end_laws()
     ensures ended { AtEndLaw }
     ensures header { NoHeaderLaw }
-    ensures cut { CutLaw }
+    ensures cut { FailedInRequestLaw }
 {}
 
 /// A part of a line is a beginning of it, and never all of it; and a line is sent whole, or a write failed and a part of it was. (This project.)
@@ -32,6 +32,6 @@ pub fn rest_laws<D: Disk>()
 /// A disk is asked what a request of NBD asks, zeroes as a trim. A request that is answered without an error is a call that the disk itself says was done, and an
 /// error is the one that its call ended with. (This project.)
 pub fn call_laws<D: Disk>()
-    ensures asked { AskedLaw }
+    ensures asked { DiskAskedLaw }
     ensures told { CallWordLaw D.contents D.honest D.calm D.does }
 {}

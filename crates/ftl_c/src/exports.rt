@@ -27,7 +27,7 @@ pub extern "C" fn ftl_entry_version() -> u32
 /// Sets `sizes` to what follows from a shape. Else its number comes, and `sizes` stays. (This project's.)
 #[unsafe(no_mangle)]
 pub extern "C" fn ftl_entry_measure(shape: &Shape, sizes: &mut Sizes) -> u32
-    ensures { measured.Tells shape.now result sizes.old sizes.new }
+    ensures { measured.TellsSizes shape.now result sizes.old sizes.new }
 {
     tell(shape, sizes)
 }

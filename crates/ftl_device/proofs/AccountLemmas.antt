@@ -11,7 +11,7 @@ use Rattle.allocation.specs.State.{State, pointer_at}
 use Rattle.promises.specs.Log.{block_of, has_passed, failed_in}
 use Rattle.promises.specs.Legal.{Account, no_account, account_at, accounted, accounted_all, IsDue, LegalFrom}
 use Rattle.promises.proofs.AccountLemmas.{due_good, length-accounted, length-accounted_all, accounted-same, accounted-other, noted-barred}
-use Rattle.collection.specs.Log.{IsAccounted, Follows}
+use Rattle.collection.specs.Log.{IsAccounted, FollowsLog}
 
 -- ---- one operation
 
@@ -84,7 +84,7 @@ agrees s = record {
   next = λ b lt good. ap (λ (a : Account). a.next) (by_at s b lt);
 }
 
-module _ (pages : ℕ) (log : List Operation) (old new : State) (h : Follows pages log old new) (b : ℕ) (lt : b < old.geometry.blocks) where
+module _ (pages : ℕ) (log : List Operation) (old new : State) (h : FollowsLog pages log old new) (b : ℕ) (lt : b < old.geometry.blocks) where
   was : (account_at (accounts_by old) b).barred ≡ not (is_good_at old.table b)
   was = (agrees old).barred b lt
 

@@ -26,13 +26,13 @@ use Rattle.mapping_cache.specs.Mapping.{known, pending, known_by, pending_by, sl
 use Rattle.allocation.specs.State.{pointer_at}
 use Rattle.allocation.specs.Begun.{begun}
 use Rattle.allocation.specs.Counts.{IsLiveExact}
-use Rattle.image_check.specs.Blocks.{is_good, pointer}
+use Rattle.image_check.specs.Blocks.{is_good_block, pointer}
 use Rattle.image_check.specs.Stale.{is_stale, stale_sectors, same_row}
 use Rattle.image_check.specs.Agrees.{Agrees}
 use Rattle.image_check.proofs.StateLemmas.{pointer_most}
 use Rattle.image_check.proofs.TablesLemmas.{table_is}
 use Rattle.collection.specs.Pages.{directory_place, newest_row}
-use Rattle.collection.specs.Truth.{IsTrue, AreFilled, AreWorn, HasTable}
+use Rattle.collection.specs.Truth.{IsTrue, AreFilled, AreWorn, HasFormedTablePage}
 use Rattle.ftl_device.specs.Begin.{stale_entry, begun_mapping, begun_ram}
 use Rattle.ftl_device.proofs.WearLemmas.{begun_wear_most, told_begun}
 use Rattle.ftl_device.proofs.BlockLemmas.{given, good_same, pointer_same, live_same, pointer_good, sound_below, erased_from}
@@ -159,13 +159,13 @@ module _ (g : Geometry) (share capacity : ℕ) (image : Image) (c : Claim) (whol
   filled = record {
     sound = λ b p lt good below.
         let here = given g capacity image c b agrees lt in
-        let fine : is_good g image b ≡ true = sym (good_same g image c b here) ∙ good in
+        let fine : is_good_block g image b ≡ true = sym (good_same g image c b here) ∙ good in
         let at : pointer_at (begun g c.blocks) b ≡ pointer g image b = pointer_same g image c b here in
         let most = pointer_most g image b in
         sound_below g image b p whole fine lt (omega arith) (let many = pointer_good g image b fine in omega arith);
     erased = λ b p lt good past in_block.
         let here = given g capacity image c b agrees lt in
-        let fine : is_good g image b ≡ true = sym (good_same g image c b here) ∙ good in
+        let fine : is_good_block g image b ≡ true = sym (good_same g image c b here) ∙ good in
         let at : pointer_at (begun g c.blocks) b ≡ pointer g image b = pointer_same g image c b here in
         erased_from g image b p whole fine lt in_block (let many = pointer_good g image b fine in omega arith);
   }
@@ -179,7 +179,7 @@ module _ (g : Geometry) (share capacity : ℕ) (image : Image) (c : Claim) (whol
     told = λ row x at. told_begun g capacity image c row x whole agrees at;
   }
 
-  tables : (u : ℕ) → u < table_pages g → HasTable g image u
+  tables : (u : ℕ) → u < table_pages g → HasFormedTablePage g image u
   tables u lt =
       let newest_table = agrees.tables.formatted u lt in
       record {

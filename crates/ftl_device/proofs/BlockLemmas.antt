@@ -32,7 +32,7 @@ use Rattle.allocation.specs.Begun.{begun, class_from, row_from, fill_from}
 use Rattle.promises.specs.Log as logs
 use Rattle.promises.specs.Legal.{Account, account_at, accounts_of}
 use Rattle.promises.proofs.AccountLemmas.{account_of, length-accounts_of}
-use Rattle.image_check.specs.Blocks.{table_class, is_factory, is_grown, is_free, is_open, is_of_data, is_good, class, pointer}
+use Rattle.image_check.specs.Blocks.{table_class, is_factory, is_grown, is_shown_free, is_shown_open, is_of_data, is_good_block, class, pointer}
 use Rattle.image_check.specs.Agrees.{Agrees}
 use Rattle.image_check.proofs.StateLemmas.{class_most, pointer_most}
 use Rattle.image_check.proofs.LookLemmas.{block_page}
@@ -82,20 +82,20 @@ low_class false false false true true = refl
 low_class false false false true false = refl
 low_class false false false false e = refl
 
-pub good_class : (g : Geometry) (image : Image) (b : ℕ) → nat_lt (class g image b) 4 ≡ is_good g image b
-unfolding class is_good
-good_class g image b = low_class (is_factory g image b) (is_grown g image b) (is_free g image b) (is_open g image b) (is_of_data g image b)
+pub good_class : (g : Geometry) (image : Image) (b : ℕ) → nat_lt (class g image b) 4 ≡ is_good_block g image b
+unfolding class is_good_block
+good_class g image b = low_class (is_factory g image b) (is_grown g image b) (is_shown_free g image b) (is_shown_open g image b) (is_of_data g image b)
 
 module _ (g : Geometry) (image : Image) (c : Claim) (b : ℕ) (here : IsGiven g image c b) where
-  pub good_same : is_good_at (begun g c.blocks).table b ≡ is_good g image b
+  pub good_same : is_good_at (begun g c.blocks).table b ≡ is_good_block g image b
   good_same =
       ap table.is_good (get_or-map row_from c.blocks b no_block no_table_row here.within)
       ∙ (ap (λ (s : BlockState). is_good_class (class_from s.class)) here.is
       ∙ (ap (λ k. is_good_class (class_from k)) here.class_is
       ∙ (class_good (class g image b) (class_most g image b) ∙ good_class g image b)))
 
-  pub bad_same : is_bad_in c b ≡ not (is_good g image b)
-  bad_same = ap (λ (s : BlockState). not (claims.is_good s)) here.is ∙ (ap (λ k. not (nat_lt k 4)) here.class_is ∙ ap not (good_class g image b))
+  pub bad_same : is_bad_in c b ≡ not (is_good_block g image b)
+  bad_same = ap (λ (s : BlockState). not (claims.is_good_state s)) here.is ∙ (ap (λ k. not (nat_lt k 4)) here.class_is ∙ ap not (good_class g image b))
 
   fill_is : fill_at (begun g c.blocks) b ≡ fill_from g.pages here.its
   fill_is = get_or-map (fill_from g.pages) c.blocks b no_block no_fill here.within ∙ ap (fill_from g.pages) here.is
@@ -120,17 +120,17 @@ clean false false false true e = absurd (let no : false ≡ true = e in cc)
 clean false false false false e = (refl, refl)
 
 -- none of its pages is broken, and it has no gap
-pub good_pages : (g : Geometry) (image : Image) (b : ℕ) → is_good g image b ≡ true → (list_any is_broken (block_pages g image b) ≡ false) × (has_gap (block_pages g image b) ≡ false)
-unfolding is_good
+pub good_pages : (g : Geometry) (image : Image) (b : ℕ) → is_good_block g image b ≡ true → (list_any is_broken (block_pages g image b) ≡ false) × (has_gap (block_pages g image b) ≡ false)
+unfolding is_good_block
 good_pages g image b e = clean (is_factory g image b) (table_class g image b == 2) (list_any is_broken (block_pages g image b)) (has_gap (block_pages g image b)) e
 
-pub pointer_good : (g : Geometry) (image : Image) (b : ℕ) → is_good g image b ≡ true → pointer g image b ≡ written (block_pages g image b)
+pub pointer_good : (g : Geometry) (image : Image) (b : ℕ) → is_good_block g image b ≡ true → pointer g image b ≡ written (block_pages g image b)
 unfolding pointer
-pointer_good g image b e = cond-true (is_good g image b) (written (block_pages g image b)) 0 e
+pointer_good g image b e = cond-true (is_good_block g image b) (written (block_pages g image b)) 0 e
 
-pub pointer_bad : (g : Geometry) (image : Image) (b : ℕ) → is_good g image b ≡ false → pointer g image b ≡ 0
+pub pointer_bad : (g : Geometry) (image : Image) (b : ℕ) → is_good_block g image b ≡ false → pointer g image b ≡ 0
 unfolding pointer
-pointer_bad g image b e = cond-false (is_good g image b) (written (block_pages g image b)) 0 e
+pointer_bad g image b e = cond-false (is_good_block g image b) (written (block_pages g image b)) 0 e
 
 -- page p of a block
 pub page_there : (g : Geometry) (image : Image) (b p : ℕ) → IsImage g image → b < g.blocks → p < g.pages → slice_get image (b * g.pages + p) ≡ Some (get_or image (b * g.pages + p) no_page)
@@ -153,7 +153,7 @@ some_is : {X : Type 0} (o : Option X) → is_some o ≡ true → IsSome o
 some_is o e = e
 
 -- a page of a good block
-module _ (g : Geometry) (image : Image) (b p : ℕ) (whole : IsImage g image) (good : is_good g image b ≡ true) (lt : b < g.blocks) (in_block : p < g.pages) where
+module _ (g : Geometry) (image : Image) (b p : ℕ) (whole : IsImage g image) (good : is_good_block g image b ≡ true) (lt : b < g.blocks) (in_block : p < g.pages) where
   abbrev its_page : Page
   its_page = get_or image (b * g.pages + p) no_page
 
@@ -204,17 +204,17 @@ pub free_same : (g : Geometry) (image : Image) (c : Claim) (b : ℕ) → IsGiven
 free_same g image c b here =
     let ps = block_pages g image b in
     rw (good_same g image c b here, pointer_same g image c b here, bad_same g image c b here)
-    (free_by (is_good g image b) (pointer g image b) (written ps) (list_all is_erased_page ps) (pointer_good g image b) (all_erased ps))
+    (free_by (is_good_block g image b) (pointer g image b) (written ps) (list_all is_erased_page ps) (pointer_good g image b) (all_erased ps))
 
-pub free_counted : (g : Geometry) (capacity : ℕ) (image : Image) (c : Claim) → Agrees g capacity image c → blocks.free_count (begun g c.blocks) ≡ logs.free_count g (is_bad_in c) [] image
+pub free_counted : (g : Geometry) (capacity : ℕ) (image : Image) (c : Claim) → Agrees g capacity image c → blocks.free_count (begun g c.blocks) ≡ logs.free_count_after g (is_bad_in c) [] image
 free_counted g capacity image c agrees = count_same (blocks.is_free (begun g c.blocks)) (logs.free_of g (is_bad_in c) [] image) 0 g.blocks (λ b low high. free_same g image c b (given g capacity image c b agrees (omega arith)))
 
-pub good_counted : (states : List BlockState) → AllByRecursion FitsBlock states → table.good_count (map row_from states) ≡ count_by claims.is_good states
+pub good_counted : (states : List BlockState) → AllByRecursion FitsBlock states → table.good_count (map row_from states) ≡ count_by claims.is_good_state states
 good_counted [] fits = refl
 good_counted (s ∷ states) fits =
-    let here : bit (table.is_good (row_from s)) ≡ bit (claims.is_good s) = ap bit (class_good s.class fits.0.class) in
+    let here : bit (table.is_good (row_from s)) ≡ bit (claims.is_good_state s) = ap bit (class_good s.class fits.0.class) in
     let rest = good_counted states fits.1 in
-    omega (arith, count_by-cons table.is_good (row_from s) (map row_from states), count_by-cons claims.is_good s states)
+    omega (arith, count_by-cons table.is_good (row_from s) (map row_from states), count_by-cons claims.is_good_state s states)
 
 -- ---- accounts
 
@@ -248,7 +248,7 @@ barred_same g image c b lt here = ap (λ (a : Account). a.barred) (account_of g 
 
 next_same : (g : Geometry) (image : Image) (c : Claim) (b : ℕ) → b < g.blocks → IsGiven g image c b → is_good_at (begun g c.blocks).table b ≡ true → (account_at (accounts_of g image (is_bad_in c)) b).next ≡ pointer_at (begun g c.blocks) b
 next_same g image c b lt here good =
-    let fine : is_good g image b ≡ true = sym (good_same g image c b here) ∙ good in
+    let fine : is_good_block g image b ≡ true = sym (good_same g image c b here) ∙ good in
     ap (λ (a : Account). a.next) (account_of g image (is_bad_in c) b lt)
     ∙ (past_written (block_pages g image b) (good_pages g image b fine).1
     ∙ (sym (pointer_good g image b fine) ∙ sym (pointer_same g image c b here)))

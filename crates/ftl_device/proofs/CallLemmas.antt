@@ -20,7 +20,7 @@ use Rattle.ftl_device.specs.declared.fault.CallFault.{CallFault}
 use Rattle.ftl_device.specs.declared.fault.CallFault.TheVariants as call
 use Rattle.ftl_device.specs.declared.fault.DeviceFault.{DeviceFault}
 use Rattle.ftl_device.specs.declared.fault.DeviceFault.TheVariants.{BusFault, OutOfMemory}
-use Rattle.ftl_device.specs.Calls.{stop_of, PinIsTrue, IsWell, HoldsSector, CallRefused, standing_after, answer_of, IsMostRecent}
+use Rattle.ftl_device.specs.Calls.{stop_of, PinIsTrue, IsWell, ChangesOneSector, CallRefused, standing_after, answer_of, IsMostRecent}
 use Rattle.ftl_device.proofs.MountableLemmas.{restart_more}
 
 pub pin_at : (r : Ram) (image : Image) (fault : Option EngineFault) → r.fault ≡ fault → PinIsTrue fault r image → PinIsTrue r.fault r image
@@ -29,7 +29,7 @@ pin_at r image fault is h = subst (λ f. PinIsTrue f r image) (sym is) h
 -- the engine isn't stopped, and what it knows is so
 pub well_ram : (answer : Result (Unit {0}) CallFault) (result : Result (Unit {0}) DeviceFault) (good n : ℕ) (bytes : List ℕ) (g : Geometry)
     (before after : Image) (r q : Ram) → r.fault ≡ standing_after answer → result ≡ answer_of q good answer → result ≢ Err BusFault
-    → MatchResult answer (λ _. HoldsSector g n bytes before r after) (CallRefused g before r after)
+    → MatchResult answer (λ _. ChangesOneSector g n bytes before r after) (CallRefused g before r after)
     → (stop_of r.fault ≡ None) × IsTrue None r after × PinIsTrue r.fault r after
 well_ram (Ok done) result good n bytes g before after r q fault is ne h = (ap stop_of fault, h.truth.truth, pin_at r after None fault (h.truth.passed, h.truth.few))
 well_ram (Err (call.Engine engine_fault.ReadOnly)) result good n bytes g before after r q fault is ne h = (ap stop_of fault, h.truth, pin_at r after (Some engine_fault.ReadOnly) fault tt)

@@ -14,11 +14,11 @@ use Rattle.page_layout.specs.Version.{AddsNoOld}
 use Rattle.page_layout.specs.Counter.{HasRisen}
 use Rattle.bad_blocks.specs.Table.{good_count}
 use Rattle.allocation.specs.State.{free_count}
-use Rattle.promises.specs.Step.{State, Command, Reply, WriteStep, ArrayStep}
+use Rattle.promises.specs.Step.{ArrayState, Command, Reply, WriteStep, ArrayStep}
 use Rattle.collection.specs.declared.engine.Engine.{Engine}
 use Rattle.collection.specs.declared.fault.EngineFault.TheVariants as engine_fault
 use Rattle.collection.specs.State.{Ram}
-use Rattle.collection.specs.Safe.{ram, image_in, page_in}
+use Rattle.collection.specs.Safe.{ram, image_in, page_in_buffer}
 use Rattle.collection.specs.Results.{array_after}
 use Rattle.collection.specs.Stops.{room_of}
 use Rattle.collection.proofs.Logs.{went_same}
@@ -30,10 +30,10 @@ use Rattle.ftl_device.specs.declared.fault.DeviceFault.TheVariants.{OutOfRange, 
 use Rattle.ftl_device.specs.Begin.{is_scarce}
 use Rattle.ftl_device.specs.Counts.{is_flush}
 use Rattle.ftl_device.specs.Device.{IsDevice}
-use Rattle.ftl_device.specs.Calls.{Knows, IsWell, state_in, reply_of, stop_of, Says, CallTells, CallRefused, HoldsSector, standing_after, answer_of, MayChange, MayNot, IsBeyond, IsShortOf, IsMostRecent, HasCost, HasPageOf, IsLastOf, order_after}
+use Rattle.ftl_device.specs.Calls.{Knows, IsWell, state_in, reply_of, stop_of, Says, CallTells, CallRefused, ChangesOneSector, standing_after, answer_of, MayChange, MayNot, IsBeyond, IsShortOf, IsMostRecent, HasCost, HasPageOf, IsLastOf, order_after}
 use Rattle.ftl_device.specs.Shortage.{HasFunds, CallShort}
 use Rattle.ftl_device.specs.Stopped.{changes_sector}
-use Rattle.ftl_device.specs.Changes.{PinsNone, MayPin, HasLookedUp, Stays, Refuses, RefusesSector, ProgramsSector, Logs, Means, IsCut, Changes, EndsChange}
+use Rattle.ftl_device.specs.Changes.{PinsNone, MayPin, HasLookedUp, Stays, RefusesCall, RefusesSector, ProgramsSector, Logs, Means, IsCallCut, Changes, EndsChange}
 use Rattle.ftl_device.proofs.CallLemmas.{well_ram, well_device, memory_only, mountable_after, went_after, done_too}
 use Rattle.ftl_device.proofs.PinLemmas.{knows_well, unpinned_moved, none_moved}
 use Rattle.ftl_device.proofs.CostLemmas.{closed_is, spent_is, never_memory}
@@ -89,17 +89,17 @@ not_past (Err call.OutOfMemory) new good e = (let no : ⊥ = cc in no)
 
 -- a step of the array
 module _ (g h : Geometry) (n : ℕ) (bytes : List ℕ) (before after : Image) (old new : Ram) (ro on : Bool) (good : ℕ) (within : n < g.sectors) (writable : ro ≡ false) (flag : on ≡ is_scarce (free_count new.blocks)) (same : h ≡ g) where
-  abbrev state_now : State
+  abbrev state_now : ArrayState
   state_now = record { array = array_of h after; ro = on }
 
-  abbrev state_was : State
+  abbrev state_was : ArrayState
   state_was = record { array = array_of g before; ro = ro }
 
   array_now : (xs : List (List ℕ)) → array_of g after ≡ xs → array_of h after ≡ xs
   array_now xs is = ap (λ x. array_of x after) same ∙ is
 
   pub step_of : (answer : Result (Unit {0}) CallFault) → CallTells old new answer
-      → MatchResult answer (λ _. HoldsSector g n bytes before new after) (CallRefused g before new after)
+      → MatchResult answer (λ _. ChangesOneSector g n bytes before new after) (CallRefused g before new after)
       → answer_of new good answer ≢ Err BusFault → WriteStep g state_was n bytes (reply_of (answer_of new good answer)) state_now
   step_of (Ok done) tells is ne = record { within = within; writable = writable; array_is = array_now _ is.array }
   step_of (Err (call.Engine engine_fault.ReadOnly)) tells is ne = record { within = within; becomes = record { array_is = array_now _ is.array; read_only = flag ∙ lt-ltb (free_count new.blocks) 5 tells.0 } }
@@ -111,7 +111,7 @@ module _ (g h : Geometry) (n : ℕ) (bytes : List ℕ) (before after : Image) (o
 -- a call that was made was neither stopped nor read-only as it began
 module _ {N : Type 0} (failed : N → ℕ) (old new : Device N) (going : old.engine.fault ≡ None) (writable : old.read_only ≡ false) where
   pub refuses_made : (answer : Result (Unit {0}) CallFault) → new.engine.fault ≡ standing_after answer → CallTells (ram old.engine) (ram new.engine) answer → (answer ≡ Err (call.Engine engine_fault.Bus) → HasRisen (failed old.engine.nand) (failed new.engine.nand))
-      → Refuses failed old (answer_of (ram new.engine) (good_count (ram old.engine).blocks.table) answer) new
+      → RefusesCall failed old (answer_of (ram new.engine) (good_count (ram old.engine).blocks.table) answer) new
   refuses_made answer stands tells rose = record {
     stopped = λ fault is. no_stop (stop_of old.engine.fault) fault _ (ap stop_of going) is;
     closed = λ on. (let off : old.read_only ≡ false = writable in let no : ⊥ = cc in absurd no);
@@ -132,7 +132,7 @@ pins_of (Err call.OutOfMemory) old new q good pins none some = unpinned_some new
 -- a command that changes a sector changes the array where it is done, and keeps it where it is refused
 changed_or : (g : Geometry) (n : ℕ) (bytes : List ℕ) (command : Command) → changes_sector command ≡ true
     → (before after : Image) (new q : Ram) (good : ℕ) (answer : Result (Unit {0}) CallFault)
-    → MatchResult answer (λ _. HoldsSector g n bytes before new after) (CallRefused g before new after)
+    → MatchResult answer (λ _. ChangesOneSector g n bytes before new after) (CallRefused g before new after)
     → answer_of q good answer ≢ Err BusFault → (array_of g after ≡ array_of g before) ⊎ ((changes_sector command ≡ true) × (answer_of q good answer ≡ Ok tt))
 changed_or g n bytes command its before after new q good (Ok done) h ne = inr (its, refl)
 changed_or g n bytes command its before after new q good (Err (call.Engine engine_fault.ReadOnly)) h ne = inl h.array
@@ -142,7 +142,7 @@ changed_or g n bytes command its before after new q good (Err (call.Engine engin
 changed_or g n bytes command its before after new q good (Err call.OutOfMemory) h ne = inl h.array
 
 -- whatever it is answered, no newest page of version 1 is added
-changed_versions : (g : Geometry) (n : ℕ) (bytes : List ℕ) (before after : Image) (new q : Ram) (good : ℕ) (answer : Result (Unit {0}) CallFault) → MatchResult answer (λ _. HoldsSector g n bytes before new after) (CallRefused g before new after)
+changed_versions : (g : Geometry) (n : ℕ) (bytes : List ℕ) (before after : Image) (new q : Ram) (good : ℕ) (answer : Result (Unit {0}) CallFault) → MatchResult answer (λ _. ChangesOneSector g n bytes before new after) (CallRefused g before new after)
     → answer_of q good answer ≢ Err BusFault → AddsNoOld g before after
 changed_versions g n bytes before after new q good (Ok done) h ne = h.versions
 changed_versions g n bytes before after new q good (Err (call.Engine engine_fault.ReadOnly)) h ne = h.versions
@@ -159,7 +159,7 @@ no_flush_is command off P its = (let no : ⊥ = cc in absurd no)
 module _ {N : Type 0} (view : View N) (n : ℕ) (bytes : List ℕ)
     (command : Command) (old new : Device N) (device : IsDevice view.flash old) (device' : IsDevice view.flash new)
     (may : MayChange (ram old.engine) old.read_only n)
-    (takes : (reply : Reply) (s : State) → WriteStep old.engine.geometry (state_in view.flash old) n bytes reply s → ArrayStep old.engine.geometry (state_in view.flash old) command reply s) (no_flush : is_flush command ≡ false) (changes : changes_sector command ≡ true)
+    (takes : (reply : Reply) (s : ArrayState) → WriteStep old.engine.geometry (state_in view.flash old) n bytes reply s → ArrayStep old.engine.geometry (state_in view.flash old) command reply s) (no_flush : is_flush command ≡ false) (changes : changes_sector command ≡ true)
     (kind : Kind) (gives : (xs : List (List ℕ)) → array_after old.engine.geometry kind n bytes xs ≡ slice_set xs n bytes) where
   abbrev good_then : ℕ
   good_then = good_count (ram old.engine).blocks.table
@@ -185,8 +185,8 @@ module _ {N : Type 0} (view : View N) (n : ℕ) (bytes : List ℕ)
       recent = done_too (IsMostRecent n new.engine.mapping) answer good_then (ram new.engine) k.readies.recent;
       keys = done_too (keys_of new.engine.mapping.cached ≡ order_after old.engine.mapping n) answer good_then (ram new.engine) k.readies.keys;
       cost = done_too (HasCost n (ram old.engine) (ram new.engine)) answer good_then (ram new.engine) k.cost;
-      checked = done_too (HasLookedUp n (ram old.engine) (ram new.engine) (page_in new.engine.scratch)) answer good_then (ram new.engine) k.checked;
-      page = done_too (IsLastOf old.engine.geometry command (ram new.engine) (page_in new.engine.page)) answer good_then (ram new.engine) k.page;
+      checked = done_too (HasLookedUp n (ram old.engine) (ram new.engine) (page_in_buffer new.engine.scratch)) answer good_then (ram new.engine) k.checked;
+      page = done_too (IsLastOf old.engine.geometry command (ram new.engine) (page_in_buffer new.engine.page)) answer good_then (ram new.engine) k.page;
       newest = λ is_honest well. done_too (HasPageOf old.engine.geometry command (ram new.engine) (image_in view.flash new.engine)) answer good_then (ram new.engine) (k.newest is_honest (here well));
       unwritten = λ e. k.readies.unwritten (memory_only answer replied good_then (ram new.engine) refl e);
       same_keys = λ e. k.readies.same_keys (memory_only answer replied good_then (ram new.engine) refl e);
@@ -210,7 +210,7 @@ module _ {N : Type 0} (view : View N) (n : ℕ) (bytes : List ℕ)
           dead = λ well. dead_call view old.engine new.engine w.log device.engine w.records (k.ends.stops is_honest (here well) (λ bus. ne (ap (answer_of (ram new.engine) good_then) bus)));
         }
 
-    cut_done : view.honest old.engine.nand ≡ true → Knows (ram old.engine) (image_in view.flash old.engine) → replied ≡ Err BusFault → IsCut view command old new
+    cut_done : view.honest old.engine.nand ≡ true → Knows (ram old.engine) (image_in view.flash old.engine) → replied ≡ Err BusFault → IsCallCut view command old new
     cut_done is_honest known bus = cut_put view old.engine new.engine command device.engine kind n bytes bytes changes may.within gives
         (λ s w. subst (λ ro. ArrayStep old.engine.geometry (record { array = array_of old.engine.geometry (image_in view.flash old.engine); ro = ro }) command (reply_of (Ok tt)) s) may.writable
         (takes (reply_of (Ok tt)) s (subst (λ ro. WriteStep old.engine.geometry (record { array = array_of old.engine.geometry (image_in view.flash old.engine); ro = ro }) n bytes (reply_of (Ok tt)) s) (sym may.writable) w)))
@@ -283,7 +283,7 @@ module _ (r : Ram) where
       let stop : stop_of r.fault ≡ Some BusFault = subst (Why r) same not in
       no_stop (stop_of r.fault) BusFault P going stop
 
-pub refuses_at_once : {N : Type 0} (failed : N → ℕ) (old : Device N) (fault : DeviceFault) → Why (ram old.engine) fault → Refuses failed old (Err fault) old
+pub refuses_at_once : {N : Type 0} (failed : N → ℕ) (old : Device N) (fault : DeviceFault) → Why (ram old.engine) fault → RefusesCall failed old (Err fault) old
 refuses_at_once failed old fault why = record {
   stopped = λ other is. (ap Err (stopped_refusal (ram old.engine) fault other why is), refl);
   closed = λ on. refl;
@@ -327,7 +327,7 @@ module _ (r : Ram) (ro : Bool) (n : ℕ) where
   step_refusal g xs bytes BusFault same not going = no_stop (stop_of r.fault) BusFault _ going not
 
 module _ {N : Type 0} (view : View N) (n : ℕ) (bytes : List ℕ) (command : Command) (old : Device N) (device : IsDevice view.flash old)
-    (takes : (reply : Reply) (s : State) → WriteStep old.engine.geometry (state_in view.flash old) n bytes reply s → ArrayStep old.engine.geometry (state_in view.flash old) command reply s) (no_flush : is_flush command ≡ false) where
+    (takes : (reply : Reply) (s : ArrayState) → WriteStep old.engine.geometry (state_in view.flash old) n bytes reply s → ArrayStep old.engine.geometry (state_in view.flash old) command reply s) (no_flush : is_flush command ≡ false) where
   pub not_changed : (fault : DeviceFault) → MayNot (ram old.engine) old.read_only n fault → Changes view n command old (Err fault) old
   not_changed fault not = record {
     stays = stays_same view old;

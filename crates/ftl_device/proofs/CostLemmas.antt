@@ -25,7 +25,7 @@ use Rattle.ftl_device.specs.declared.fault.CallFault.{CallFault}
 use Rattle.ftl_device.specs.declared.fault.CallFault.TheVariants as call
 use Rattle.ftl_device.specs.declared.fault.DeviceFault.{DeviceFault}
 use Rattle.ftl_device.specs.declared.fault.DeviceFault.TheVariants.{OutOfRange, ReadOnly, SequenceSpent, OutOfMemory, Damaged, BusFault}
-use Rattle.ftl_device.specs.Calls.{stop_of, CallTells, MayNot, IsBeyond, answer_of, HasMadeRoom, HasMadePlace, IsReady, HasPutSector, HasCost, order_after}
+use Rattle.ftl_device.specs.Calls.{stop_of, CallTells, MayNot, IsBeyond, answer_of, HasMadeRoom, HasMadePlace, HasMadeRoomAndPlace, HasPutSector, HasCost, order_after}
 use Rattle.ftl_device.proofs.ReadyLemmas.{same_slots}
 use Rattle.ftl_device.proofs.CallLemmas.{done_too}
 
@@ -126,10 +126,10 @@ place_then n old mid new geometry blocks next p = record {
   taken = λ no. put_to Meta old mid new blocks next (p.taken no);
 }
 
-pub ready_then : (n : ℕ) (old mid new : Ram) → new.geometry ≡ mid.geometry → new.blocks ≡ mid.blocks → new.next ≡ mid.next → IsReady n old mid → IsReady n old new
+pub ready_then : (n : ℕ) (old mid new : Ram) → new.geometry ≡ mid.geometry → new.blocks ≡ mid.blocks → new.next ≡ mid.next → HasMadeRoomAndPlace n old mid → HasMadeRoomAndPlace n old new
 ready_then n old mid new geometry blocks next p = record { mid = p.mid; room = p.room; place = place_then n p.mid mid new geometry blocks next p.place }
 
-pub ready_found : (result : Result (Option ℕ) EngineFault) (n : ℕ) (old first mid new : Ram) (fault : Option EngineFault) → HasMadeRoom 9 false old first → new ≡ record mid { fault = fault } → HasMadePlace n first mid → OnOk result (IsReady n old new)
+pub ready_found : (result : Result (Option ℕ) EngineFault) (n : ℕ) (old first mid new : Ram) (fault : Option EngineFault) → HasMadeRoom 9 false old first → new ≡ record mid { fault = fault } → HasMadePlace n first mid → OnOk result (HasMadeRoomAndPlace n old new)
 ready_found (Ok row) n old first mid new fault room is p = record { mid = first; room = room; place = place_then n first mid new (ap (λ (r : Ram). r.geometry) is) (ap (λ (r : Ram). r.blocks) is) (ap (λ (r : Ram). r.next) is) p }
 ready_found (Err f) n old first mid new fault room is p = tt
 
@@ -140,7 +140,7 @@ put_of n old mid new p page = record {
   taken = λ no. record { mid = mid; geometry = p.geometry; meta = p.taken no; page = page };
 }
 
-pub cost_of : (n : ℕ) (old mid new : Ram) → IsReady n old mid → HasPut Data mid new → HasCost n old new
+pub cost_of : (n : ℕ) (old mid new : Ram) → HasMadeRoomAndPlace n old mid → HasPut Data mid new → HasCost n old new
 cost_of n old mid new p page = record { mid = p.mid; room = p.room; put = put_of n p.mid mid new p.place page }
 
 -- what the engine's memory tells of a page that was refused

@@ -17,7 +17,7 @@ use Rattle.page_layout.proofs.CountLemmas.{bit, count_by-cons}
 use Rattle.page_layout.proofs.ErasedLemmas.{erased_at_unsound}
 use Rattle.bad_blocks.specs.Table.{is_good_at, good_count}
 use Rattle.allocation.specs.State as blocks
-use Rattle.allocation.specs.State.{State, IsSafe, free_count, pointer_at}
+use Rattle.allocation.specs.State.{State, AreBlocksSafe, free_count, pointer_at}
 use Rattle.allocation.proofs.TallyLemmas.{good_by_number}
 use Rattle.promises.specs.Log as logs
 use Rattle.promises.specs.Log.{bad_of, failed_in, failed_count, IsShort}
@@ -25,10 +25,10 @@ use Rattle.image_check.proofs.LookLemmas.{block_page, block_short}
 use Rattle.collection.specs.State.{Ram}
 use Rattle.collection.specs.Safe.{IsRam}
 use Rattle.collection.specs.Truth.{IsTrue, AreFilled}
-use Rattle.collection.specs.Log.{Follows}
+use Rattle.collection.specs.Log.{FollowsLog}
 use Rattle.ftl_device.specs.Calls.{IsShortOf}
 use Rattle.ftl_device.specs.Shortage.{LacksGood}
-use Rattle.ftl_device.specs.Counts.{is_bad_by, IsShortIn, FreeNowLaw, GoodNowLaw, BadNowLaw, ShortLaw}
+use Rattle.ftl_device.specs.Counts.{is_bad_by, IsShortIn, FreeNowLaw, GoodNowLaw, BadNowLaw, ShortOfBlocksLaw}
 use Rattle.ftl_device.proofs.BlockLemmas.{count_same, page_there}
 use Rattle.ftl_device.proofs.AccountLemmas.{bad_after, failed_good}
 
@@ -42,7 +42,7 @@ free_by_pages : (good zero_pointer all : Bool) → (good ≡ true → zero_point
 free_by_pages true z all same = same refl
 free_by_pages false z all same = refl
 
-module _ (s : State) (free : ℕ) (image : Image) (safe : IsSafe free s) (whole : IsImage s.geometry image) (filled : AreFilled image s) where
+module _ (s : State) (free : ℕ) (image : Image) (safe : AreBlocksSafe free s) (whole : IsImage s.geometry image) (filled : AreFilled image s) where
   -- no page of a good block is programmed where its pointer is 0
   blank : (b : ℕ) → b < s.geometry.blocks → is_good_at s.table b ≡ true → pointer_at s b ≡ 0 → list_all is_erased_page (block_pages s.geometry image b) ≡ true
   blank b lt good none = all_erased (block_pages s.geometry image b) (λ k q at.
@@ -79,12 +79,12 @@ module _ (s : State) (free : ℕ) (image : Image) (safe : IsSafe free s) (whole 
     | inr none ↦ (let zero_is : pointer_at s b ≡ 0 = omega arith in eq-eqb (pointer_at s b) 0 zero_is ∙ sym (blank b lt good zero_is))
   ])
 
-  free_now : free_count s ≡ logs.free_count s.geometry (λ k. not (is_good_at s.table k)) [] image
+  free_now : free_count s ≡ logs.free_count_after s.geometry (λ k. not (is_good_at s.table k)) [] image
   free_now = count_same (blocks.is_free s) (logs.free_of s.geometry (λ k. not (is_good_at s.table k)) [] image) 0 s.geometry.blocks (λ b low high. free_at b (omega arith))
 
 pub free_now_law : FreeNowLaw
 free_now_law r image safe w =
-    subst (λ (g : Geometry). free_count r.blocks ≡ logs.free_count g (is_bad_by r) [] image) safe.blocks_of
+    subst (λ (g : Geometry). free_count r.blocks ≡ logs.free_count_after g (is_bad_by r) [] image) safe.blocks_of
     (free_now r.blocks (free_count r.blocks) image safe.blocks (subst (λ (g : Geometry). IsImage g image) (sym safe.blocks_of) w.whole) w.filled)
 
 -- ---- good blocks
@@ -125,7 +125,7 @@ split_bits false false true is never = (let no : true ≡ false = never refl in 
 split_bits false false false is never = refl
 
 -- the good blocks before a log are those after it and those that failed in it
-pub failed_counted : (old new : Ram) (log : List Operation) → IsRam old → IsRam new → new.geometry ≡ old.geometry → Follows old.geometry.pages log old.blocks new.blocks → good_count old.blocks.table ≡ good_count new.blocks.table + failed_count old.geometry log
+pub failed_counted : (old new : Ram) (log : List Operation) → IsRam old → IsRam new → new.geometry ≡ old.geometry → FollowsLog old.geometry.pages log old.blocks new.blocks → good_count old.blocks.table ≡ good_count new.blocks.table + failed_count old.geometry log
 failed_counted old new log safe safe' same follows =
     let n : ℕ = old.geometry.blocks in
     let old_size = safe.blocks.table_whole ∙ ap (λ (g : Geometry). g.blocks) safe.blocks_of in
@@ -146,18 +146,18 @@ module _ (g : Geometry) (bad : ℕ → Bool) (log : List Operation) (new : Ram) 
   good_so : (b : ℕ) → b < g.blocks → not (is_bad_by new b || false) ≡ not (bad_of g.pages bad log b)
   good_so b lt = ap not (or_none (is_bad_by new b) ∙ bads b lt)
 
-  pub good_of_log : logs.good_count g (is_bad_by new) [] ≡ logs.good_count g bad log
+  pub good_of_log : logs.good_count_after g (is_bad_by new) [] ≡ logs.good_count_after g bad log
   good_of_log = count_same (logs.good_of g.pages (is_bad_by new) []) (logs.good_of g.pages bad log) 0 g.blocks (λ b low high. good_so b (omega arith))
 
-  free_of_log : logs.free_count g (is_bad_by new) [] image ≡ logs.free_count g bad log image
+  free_of_log : logs.free_count_after g (is_bad_by new) [] image ≡ logs.free_count_after g bad log image
   free_of_log = count_same (logs.free_of g (is_bad_by new) [] image) (logs.free_of g bad log image) 0 g.blocks (λ b low high. ap (λ x. x && list_all is_erased_page (block_pages g image b)) (good_so b (omega arith)))
 
-  pub short_in : (old : Ram) (call : List Operation) (good wanted failed : ℕ) → IsRam old → IsRam new → old.geometry ≡ g → Follows g.pages call old.blocks new.blocks → IsTrue None new image → IsShortOf old new good wanted failed → IsShortIn g new.mapping.share bad log call image good wanted failed
+  pub short_in : (old : Ram) (call : List Operation) (good wanted failed : ℕ) → IsRam old → IsRam new → old.geometry ≡ g → FollowsLog g.pages call old.blocks new.blocks → IsTrue None new image → IsShortOf old new good wanted failed → IsShortIn g new.mapping.share bad log call image good wanted failed
   short_in old call good wanted failed safe safe' was follows w short =
-      let free : free_count new.blocks ≡ logs.free_count g bad log image = subst (λ (h : Geometry). free_count new.blocks ≡ logs.free_count h (is_bad_by new) [] image) same (free_now_law new image safe' w) ∙ free_of_log in
-      let many : good_count new.blocks.table ≡ logs.good_count g bad log = subst (λ (h : Geometry). good_count new.blocks.table ≡ logs.good_count h (is_bad_by new) []) same (good_now_law new safe') ∙ good_of_log in
+      let free : free_count new.blocks ≡ logs.free_count_after g bad log image = subst (λ (h : Geometry). free_count new.blocks ≡ logs.free_count_after h (is_bad_by new) [] image) same (free_now_law new image safe' w) ∙ free_of_log in
+      let many : good_count new.blocks.table ≡ logs.good_count_after g bad log = subst (λ (h : Geometry). good_count new.blocks.table ≡ logs.good_count_after h (is_bad_by new) []) same (good_now_law new safe') ∙ good_of_log in
       let fails : good_count old.blocks.table ≡ good_count new.blocks.table + failed_count g call =
-      subst (λ (h : Geometry). good_count old.blocks.table ≡ good_count new.blocks.table + failed_count h call) was (failed_counted old new call safe safe' (same ∙ sym was) (subst (λ (h : Geometry). Follows h.pages call old.blocks new.blocks) (sym was) follows)) in
+      subst (λ (h : Geometry). good_count old.blocks.table ≡ good_count new.blocks.table + failed_count h call) was (failed_counted old new call safe safe' (same ∙ sym was) (subst (λ (h : Geometry). FollowsLog h.pages call old.blocks new.blocks) (sym was) follows)) in
       record {
         scarce = subst (λ n. n < 5) free short.scarce;
         good_is = short.good_is ∙ many;
@@ -166,22 +166,22 @@ module _ (g : Geometry) (bad : ℕ → Bool) (log : List Operation) (new : Ram) 
       }
 
   -- fewer good blocks than are asked for, or three that failed
-  pub lacks_in : (old : Ram) (call : List Operation) → IsRam old → IsRam new → old.geometry ≡ g → Follows g.pages call old.blocks new.blocks → LacksGood old new → (logs.good_count g bad log < need_at g old.mapping.share) ⊎ (2 < failed_count g call)
+  pub lacks_in : (old : Ram) (call : List Operation) → IsRam old → IsRam new → old.geometry ≡ g → FollowsLog g.pages call old.blocks new.blocks → LacksGood old new → (logs.good_count_after g bad log < need_at g old.mapping.share) ⊎ (2 < failed_count g call)
   lacks_in old call safe safe' was follows lacks =
-      let many : good_count new.blocks.table ≡ logs.good_count g bad log = subst (λ (h : Geometry). good_count new.blocks.table ≡ logs.good_count h (is_bad_by new) []) same (good_now_law new safe') ∙ good_of_log in
+      let many : good_count new.blocks.table ≡ logs.good_count_after g bad log = subst (λ (h : Geometry). good_count new.blocks.table ≡ logs.good_count_after h (is_bad_by new) []) same (good_now_law new safe') ∙ good_of_log in
       let fails : good_count old.blocks.table ≡ good_count new.blocks.table + failed_count g call =
-      subst (λ (h : Geometry). good_count old.blocks.table ≡ good_count new.blocks.table + failed_count h call) was (failed_counted old new call safe safe' (same ∙ sym was) (subst (λ (h : Geometry). Follows h.pages call old.blocks new.blocks) (sym was) follows)) in
+      subst (λ (h : Geometry). good_count old.blocks.table ≡ good_count new.blocks.table + failed_count h call) was (failed_counted old new call safe safe' (same ∙ sym was) (subst (λ (h : Geometry). FollowsLog h.pages call old.blocks new.blocks) (sym was) follows)) in
       let needed : need_at old.geometry old.mapping.share ≡ need_at g old.mapping.share = ap (λ h. need_at h old.mapping.share) was in
       elim lacks [ inl few ↦ inl (omega arith) | inr three ↦ inr (omega arith) ]
 
-pub short_law : ShortLaw
+pub short_law : ShortOfBlocksLaw
 short_law old new log image good wanted failed safe safe' same share follows w short =
     subst (λ n. IsShortIn old.geometry n (is_bad_by old) log log image good wanted failed) share
     (short_in old.geometry (is_bad_by old) log new image same (λ b lt. bad_now_law old new log b safe.blocks_of follows lt) old log good wanted failed safe safe' refl follows w short)
 
 -- ---- a shortage, before other logs
 
-module _ (old new : Ram) (call : List Operation) (safe : IsRam old) (safe' : IsRam new) (sized : new.geometry ≡ old.geometry) (follows : Follows old.geometry.pages call old.blocks new.blocks) where
+module _ (old new : Ram) (call : List Operation) (safe : IsRam old) (safe' : IsRam new) (sized : new.geometry ≡ old.geometry) (follows : FollowsLog old.geometry.pages call old.blocks new.blocks) where
   pub bads : (b : ℕ) → b < old.geometry.blocks → is_bad_by new b ≡ bad_of old.geometry.pages (is_bad_by old) call b
   bads b lt = bad_now_law old new call b safe.blocks_of follows lt
 

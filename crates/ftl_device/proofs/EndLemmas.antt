@@ -10,7 +10,7 @@ use Rattle.collection.specs.declared.engine.Engine.{Engine}
 use Rattle.collection.specs.declared.fault.EngineFault.{EngineFault}
 use Rattle.collection.specs.declared.fault.EngineFault.TheVariants.{ReadOnly, SequenceSpent, Damaged, Bus}
 use Rattle.collection.specs.State.{Ram}
-use Rattle.collection.specs.Safe.{IsSafe, ram, image_in, page_in}
+use Rattle.collection.specs.Safe.{IsSafe, ram, image_in, page_in_buffer}
 use Rattle.collection.specs.Left.{IsCalm, LeavesPin}
 use Rattle.collection.specs.Settle.{HasNoMore}
 use Rattle.collection.specs.Cost.{HasPut, PageCosts}
@@ -22,7 +22,7 @@ use Rattle.collection.proofs.Costs.{risen_over}
 use Rattle.collection.proofs.Logs.{went_then}
 use Rattle.ftl_device.specs.declared.fault.CallFault.{CallFault}
 use Rattle.ftl_device.specs.declared.fault.CallFault.TheVariants as call
-use Rattle.ftl_device.specs.Calls.{Tells, CallTells, IsReady, standing_after, Knows}
+use Rattle.ftl_device.specs.Calls.{TellsByMemory, CallTells, HasMadeRoomAndPlace, standing_after, Knows}
 use Rattle.collection.specs.Settle.{HasSettled}
 use Rattle.ftl_device.specs.Read.{IsLookedUp}
 use Rattle.ftl_device.specs.Shortage.{HasFunds}
@@ -37,7 +37,7 @@ use Rattle.ftl_device.proofs.StoppedLemmas.{KeepsOn, stops_still, stops_on}
 use Rattle.ftl_device.proofs.SpentLemmas.{room_page, page_refused, call_kept}
 
 -- the fault of a call as that of one that may want memory too
-pub call_tells : (fault : EngineFault) (a b : Ram) → Tells {A = Option ℕ} a b (Err fault) → CallTells {A = Unit {0}} a b (Err (call.Engine fault))
+pub call_tells : (fault : EngineFault) (a b : Ram) → TellsByMemory {A = Option ℕ} a b (Err fault) → CallTells {A = Unit {0}} a b (Err (call.Engine fault))
 call_tells ReadOnly a b h = h
 call_tells SequenceSpent a b h = h
 call_tells Damaged a b h = tt
@@ -55,7 +55,7 @@ module _ {N : Type 0} (view : View N) where
   -- ---- nothing was made ready
 
   pub ends_refused : (old new : Engine N) (fault : EngineFault) → IsSafe view.flash new → new.fault ≡ Some fault → new.geometry ≡ old.geometry → StaysDie view old.nand new.nand
-      → (fault ≡ Bus → HasRisen (view.failed old.nand) (view.failed new.nand)) → HasLimitsOf old.mapping new.mapping → Tells {A = Option ℕ} (ram old) (ram new) (Err fault)
+      → (fault ≡ Bus → HasRisen (view.failed old.nand) (view.failed new.nand)) → HasLimitsOf old.mapping new.mapping → TellsByMemory {A = Option ℕ} (ram old) (ram new) (Err fault)
       → (view.honest old.nand ≡ true → fault ≢ Bus → Went (ram old) (view.flash old.nand) (view.recorded old.nand) (ram new) (view.flash new.nand) (view.recorded new.nand))
       → (view.honest old.nand ≡ true → Knows (ram old) (image_in view.flash old) → fault ≢ Bus → StopsSafely view old new) → EndsCall view old (Err (call.Engine fault)) new
   ends_refused old new fault safe stands geometry die rose limits tells went stops = record {
@@ -176,7 +176,7 @@ module _ {N : Type 0} (view : View N) (n : ℕ) where
     }
 
 -- the page buffer that the look-up left is as it was
-pub looked_up_before : {N : Type 0} (old mid new : Engine N) (n : ℕ) → IsReady n (ram old) (ram mid)
-    → IsLookedUp n (ram old) (ram mid) (page_in mid.scratch) → new.scratch ≡ mid.scratch → HasPut Data (ram mid) (ram new)
-    → HasSettled n (ram mid) (ram new) → HasLookedUp n (ram old) (ram new) (page_in new.scratch)
-looked_up_before old mid new n ready looked same page settled = record { mid = ram mid; ready = ready; looked_up = subst (λ b. IsLookedUp n (ram old) (ram mid) (page_in b)) (sym same) looked; put = page; settled = settled }
+pub looked_up_before : {N : Type 0} (old mid new : Engine N) (n : ℕ) → HasMadeRoomAndPlace n (ram old) (ram mid)
+    → IsLookedUp n (ram old) (ram mid) (page_in_buffer mid.scratch) → new.scratch ≡ mid.scratch → HasPut Data (ram mid) (ram new)
+    → HasSettled n (ram mid) (ram new) → HasLookedUp n (ram old) (ram new) (page_in_buffer new.scratch)
+looked_up_before old mid new n ready looked same page settled = record { mid = ram mid; ready = ready; looked_up = subst (λ b. IsLookedUp n (ram old) (ram mid) (page_in_buffer b)) (sym same) looked; put = page; settled = settled }

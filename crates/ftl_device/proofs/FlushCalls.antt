@@ -25,7 +25,7 @@ use Rattle.ftl_device.specs.declared.fault.CallFault.TheVariants as call
 use Rattle.ftl_device.specs.declared.fault.DeviceFault.{DeviceFault}
 use Rattle.ftl_device.specs.declared.fault.DeviceFault.TheVariants.{OutOfRange, ReadOnly, SequenceSpent, OutOfMemory, Damaged, BusFault}
 use Rattle.ftl_device.specs.Calls.{stop_of, PinIsTrue, KeepsArray, CallRefused, CallTells, standing_after, answer_of}
-use Rattle.ftl_device.specs.Counts.{is_bad_by, IsShown, IsLeftReadOnly}
+use Rattle.ftl_device.specs.Counts.{is_bad_by, IsShownByRefusal, IsLeftReadOnly}
 use Rattle.ftl_device.specs.Shortage.{CallShort, FlushShort}
 use Rattle.ftl_device.specs.Flush.{IsFlushed, HasNewTables, MayNotFlush, ShowsBad, first_of, IsFlushedOut}
 use Rattle.ftl_device.proofs.CallLemmas.{well_ram, pin_at}
@@ -49,13 +49,13 @@ pub flush_shown : {N : Type 0} (view : View N) (old e last : Engine N)
     → ((fault : CallFault) → answer ≡ Err fault → CallShort (ram old) (ram e) answer)
     → MatchResult answer (λ _. KeepsArray old.geometry (image_in view.flash old) (ram e) (image_in view.flash e))
     (CallRefused old.geometry (image_in view.flash old) (ram e) (image_in view.flash e))
-    → result ≢ Err BusFault → IfErr result (IsShown old.geometry old.mapping.share (is_bad_by (ram old)) old.next [] w.log ro (image_in view.flash last))
-flush_shown view old e last w ro (Ok done) result good same safe shared safe' sized many is tells lacks so ne = subst (λ y. IfErr y (IsShown old.geometry old.mapping.share (is_bad_by (ram old)) old.next [] w.log ro (image_in view.flash last))) (sym is) tt
+    → result ≢ Err BusFault → IfErr result (IsShownByRefusal old.geometry old.mapping.share (is_bad_by (ram old)) old.next [] w.log ro (image_in view.flash last))
+flush_shown view old e last w ro (Ok done) result good same safe shared safe' sized many is tells lacks so ne = subst (λ y. IfErr y (IsShownByRefusal old.geometry old.mapping.share (is_bad_by (ram old)) old.next [] w.log ro (image_in view.flash last))) (sym is) tt
 flush_shown view old e last w ro (Err f) result good same safe shared safe' sized many is tells lacks so ne = shown_after view old e last w 0 [] ro (Err f) result good same safe shared safe' sized many is tells (lacks f refl) so ne
 
 -- where it was not to begin
 pub flush_refused : (r : Ram) (s : Flash) {told told' : Option Recording} (w : Went r s told r s told') (ro : Bool) (fault : DeviceFault) → IsRam r
-    → IsTrue None r s.image → stop_of r.fault ≡ None → MayNotFlush r ro fault → IsShown r.geometry r.mapping.share (is_bad_by r) r.next [] w.log ro s.image fault
+    → IsTrue None r s.image → stop_of r.fault ≡ None → MayNotFlush r ro fault → IsShownByRefusal r.geometry r.mapping.share (is_bad_by r) r.next [] w.log ro s.image fault
 flush_refused r s w ro OutOfRange safe truth going not = tt
 flush_refused r s w ro (ReadOnly good wanted failed) safe truth going not = (short_law r r w.log s.image good wanted failed safe safe refl refl w.follows truth not.short, inr (inr not.closed))
 flush_refused r s w ro SequenceSpent safe truth going not = sym w.next ∙ not.last

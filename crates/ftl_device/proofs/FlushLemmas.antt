@@ -22,11 +22,11 @@ use Rattle.page_layout.proofs.ErasedLemmas.{is_erased_unsound}
 use Rattle.bad_blocks.specs.declared.class.Class.{Class}
 use Rattle.bad_blocks.specs.declared.class.Class.TheVariants.{Good, Factory, Grown}
 use Rattle.bad_blocks.specs.Table.{is_good_at, is_good_class, class_at, wear_at, table_row_at, no_table_row, most_wear}
-use Rattle.bad_blocks.specs.TablePage.{code_of, table_word, word_or_padding}
+use Rattle.bad_blocks.specs.TablePage.{code_of_class, table_word, word_or_padding}
 use Rattle.bad_blocks.proofs.PageLemmas.{table_bytes_page}
 use Rattle.collection.proofs.Tables.{counted_rows}
 use Rattle.allocation.specs.State.{State, pointer_at}
-use Rattle.image_check.specs.Blocks.{word_of_block, table_class, table_wear, is_good, class, erase_count}
+use Rattle.image_check.specs.Blocks.{word_of_block, table_class, table_wear, is_good_block, class, erase_count}
 use Rattle.image_check.specs.Stale.{is_stale, stale_sectors, stale_count}
 use Rattle.image_check.proofs.LookLemmas.{block_page, block_short}
 use Rattle.image_check.proofs.StateLemmas.{class_most}
@@ -37,7 +37,7 @@ use Rattle.collection.specs.Safe.{IsRam}
 use Rattle.collection.specs.Truth.{IsTrue, AreFilled, AreWorn}
 use Rattle.collection.specs.Tables.{SpellsTable}
 use Rattle.collection.proofs.MapLemmas.{none_not}
-use Rattle.ftl_device.specs.Flush.{IsFlushed, ShowsBad, FreshLaw, AnywhereLaw, ShownBadLaw, ShownWearLaw}
+use Rattle.ftl_device.specs.Flush.{IsFlushed, ShowsBad, NoEntryStaleLaw, AnywhereLaw, ShownBadLaw, ShownWearLaw}
 use Rattle.ftl_device.specs.Counts.{is_bad_by}
 use Rattle.collection.proofs.Mounts.{right_entry, tables_are}
 use Rattle.ftl_device.proofs.BlockLemmas.{good_class}
@@ -50,7 +50,7 @@ none_from p a (suc n) none =
     cond-false (p a) (a ∷ filter p (range_with_len (a + 1) n)) (filter p (range_with_len (a + 1) n)) (none a (omega arith) (omega arith))
     ∙ none_from p (a + 1) n (λ k low high. none k (omega arith) (omega arith))
 
-pub fresh_law : FreshLaw
+pub fresh_law : NoEntryStaleLaw
 unfolding stale_sectors
 fresh_law r image w f = none_from (is_stale r.geometry image) 0 r.geometry.sectors
     (λ n low lt. right_entry r.geometry image n (w.maps.entry_is n (omega arith) (none_not _) (f.clean n (omega arith))))
@@ -142,7 +142,7 @@ module _ (s : State) (image : Image) (whole : IsImage s.geometry image) (f : Are
 
   -- ---- what the newest table says of it
 
-  word_is : word_of_block s.geometry image b ≡ code_of (class_at s.table b) + 256 * wear_at s.table b
+  word_is : word_of_block s.geometry image b ≡ code_of_class (class_at s.table b) + 256 * wear_at s.table b
   unfolding word_of_block
   word_is =
       let n : ℕ = entries s.geometry in
@@ -153,22 +153,22 @@ module _ (s : State) (image : Image) (whole : IsImage s.geometry image) (f : Are
       ap (λ body. word_at body (4 * (b % n))) (table_is image (b / n) t.row t.newest_is)
       ∙ (ap (λ bytes. word_at bytes (4 * (b % n))) t.spelled ∙ ((table_bytes_page n s.table (b / n) (counted_rows image s w)).words (b % n) (omega arith) ∙ (ap (table_word s.table) parts ∙ ap word_or_padding row)))
 
-  code_small : (c : Class) → code_of c < 3
+  code_small : (c : Class) → code_of_class c < 3
   code_small Good = omega arith
   code_small Factory = omega arith
   code_small Grown = omega arith
 
-  class_is : table_class s.geometry image b ≡ code_of (class_at s.table b)
+  class_is : table_class s.geometry image b ≡ code_of_class (class_at s.table b)
   class_is = omega (arith, word_is, code_small (class_at s.table b))
 
   wear_is : table_wear s.geometry image b ≡ wear_at s.table b
   wear_is = omega (arith, word_is, code_small (class_at s.table b))
 
-  pub good_is : is_good s.geometry image b ≡ is_good_at s.table b
-  unfolding is_good
+  pub good_is : is_good_block s.geometry image b ≡ is_good_at s.table b
+  unfolding is_good_block
   good_is = by (class_at s.table b) (table_class s.geometry image b) (list_any is_broken ps) (has_gap ps) class_is none_broken no_gap
     where
-      by : (c : Class) (code : ℕ) (broken gap : Bool) → code ≡ code_of c → (is_good_class c ≡ true → broken ≡ false) → (is_good_class c ≡ true → gap ≡ false) → (not (code == 1) && not (not (code == 1) && (code == 2 || broken || gap))) ≡ is_good_class c
+      by : (c : Class) (code : ℕ) (broken gap : Bool) → code ≡ code_of_class c → (is_good_class c ≡ true → broken ≡ false) → (is_good_class c ≡ true → gap ≡ false) → (not (code == 1) && not (not (code == 1) && (code == 2 || broken || gap))) ≡ is_good_class c
       by Good code broken gap e h k = rw (e, h refl, k refl) refl
       by Factory code broken gap e h k = rw e refl
       by Grown code broken gap e h k = rw e refl
@@ -222,8 +222,8 @@ module _ (r : Ram) (image : Image) (b : ℕ) (s : IsRam r) (w : IsTrue None r im
   lt_here : b < r.blocks.geometry.blocks
   lt_here = subst (λ (g : Geometry). b < g.blocks) same lt
 
-  good_here : is_good r.geometry image b ≡ is_good_at r.blocks.table b
-  good_here = ap (λ g. is_good g image b) same ∙ good_is r.blocks image whole_here w.filled s.blocks.table_whole tables_here w.worn b lt_here
+  good_here : is_good_block r.geometry image b ≡ is_good_at r.blocks.table b
+  good_here = ap (λ g. is_good_block g image b) same ∙ good_is r.blocks image whole_here w.filled s.blocks.table_whole tables_here w.worn b lt_here
 
   pub shown_bad : ShowsBad r.geometry image b ↔ (is_bad_by r b ≡ true)
   shown_bad = bad_code (class r.geometry image b) (is_good_at r.blocks.table b) (class_most r.geometry image b) (good_class r.geometry image b ∙ good_here)

@@ -10,7 +10,7 @@ use Rattle.page_layout.specs.declared.record.Key.TheVariants.{Table}
 use Rattle.page_layout.specs.Sound.{version_for}
 use Rattle.page_layout.specs.Version.{is_old}
 use Rattle.bad_blocks.specs.Table.{good_count}
-use Rattle.budget.specs.Counts.{Counts, Fits}
+use Rattle.budget.specs.Counts.{Counts, FitsGoodBlocks}
 use Rattle.budget.specs.Spending.{Spending}
 use Rattle.budget.specs.Put.{StreamPut, NoneFree}
 use Rattle.budget.proofs.AccountLemmas.{no_page, one_page, few_meta_openings}
@@ -140,7 +140,7 @@ pub record SpellsWhere (good : ℕ) (g : Geometry) (before : Image) (new : Ram) 
 
 pub first_round : (good : ℕ) (a b : Ram) → IsRam a → good ≡ good_count a.blocks.table → AddsPages (table_pages a.geometry) a b → HasRounds good a b
 first_round good a b s is x =
-    let fits_here : Fits a.geometry.pages (counts_of a.blocks) = subst (λ (g : Geometry). Fits g.pages (counts_of a.blocks)) s.blocks_of (fits (free_count a.blocks) a.blocks s.blocks) in
+    let fits_here : FitsGoodBlocks a.geometry.pages (counts_of a.blocks) = subst (λ (g : Geometry). FitsGoodBlocks g.pages (counts_of a.blocks)) s.blocks_of (fits (free_count a.blocks) a.blocks s.blocks) in
     let all : Spending a.geometry.pages (counts_of a.blocks) (counts_of b.blocks) 0 (0 + table_pages a.geometry) = x.account (counts_of a.blocks) 0 (no_page a.geometry.pages (counts_of a.blocks) fits_here) in
     let e : 0 + table_pages a.geometry ≡ 1 * table_pages a.geometry = omega arith in
     record { rounds = 1; few = omega arith; account = subst (λ n. Spending a.geometry.pages (counts_of a.blocks) (counts_of b.blocks) 0 n) e all }
@@ -195,7 +195,7 @@ free_most failures free left n = elim n.cases [ inl c ↦ omega (arith, c.1) | i
 -- in the first round
 pub first_fails : (a c : Ram) → IsRam a → FailsAmong (table_pages a.geometry) a c → RunsOut a c
 first_fails a c s h =
-    let fits_here : Fits a.geometry.pages (counts_of a.blocks) = subst (λ (g : Geometry). Fits g.pages (counts_of a.blocks)) s.blocks_of (fits (free_count a.blocks) a.blocks s.blocks) in
+    let fits_here : FitsGoodBlocks a.geometry.pages (counts_of a.blocks) = subst (λ (g : Geometry). FitsGoodBlocks g.pages (counts_of a.blocks)) s.blocks_of (fits (free_count a.blocks) a.blocks s.blocks) in
     let all : Spending a.geometry.pages (counts_of a.blocks) (counts_of h.mid.blocks) 0 (0 + h.pages) = h.used.account (counts_of a.blocks) 0 (no_page a.geometry.pages (counts_of a.blocks) fits_here) in
     let few = table_fits a.geometry in
     let left : (counts_of h.mid.blocks).meta_left < a.geometry.pages = all.meta_open in

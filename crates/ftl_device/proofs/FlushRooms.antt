@@ -5,7 +5,7 @@ use Rattle.page_layout.specs.declared.geometry.Geometry.{Geometry}
 use Rattle.page_layout.specs.Geometry.{translation_pages}
 use Rattle.bad_blocks.specs.Table.{good_count}
 use Rattle.budget.specs.declared.stream.Stream.TheVariants.{Meta}
-use Rattle.budget.specs.Counts.{Counts, Fits}
+use Rattle.budget.specs.Counts.{Counts, FitsGoodBlocks}
 use Rattle.budget.specs.Spending.{Spending, IsFunded}
 use Rattle.budget.proofs.AccountLemmas.{no_page}
 use Rattle.budget.proofs.RoomLemmas.{flush_leaves}
@@ -23,7 +23,7 @@ use Rattle.collection.specs.Collect.{RoomCounts}
 use Rattle.collection.specs.Results.{fault_after}
 use Rattle.ftl_device.specs.declared.fault.CallFault.{CallFault}
 use Rattle.ftl_device.specs.declared.fault.CallFault.TheVariants.{Engine}
-use Rattle.ftl_device.specs.Calls.{Tells}
+use Rattle.ftl_device.specs.Calls.{TellsByMemory}
 use Rattle.ftl_device.specs.Flush.{AddsPages, AddsAtMost, FailsAmong, WritesTables, RunsOut}
 use Rattle.ftl_device.specs.Shortage.{LacksGood, SpendsPages, FlushCounts, FlushShort}
 use Rattle.ftl_device.proofs.FlushLoops.{pages_none, pages_more, free_most}
@@ -135,7 +135,7 @@ module _ (a b : Ram) (some : 0 < a.mapping.share) (safe : IsRam b) (same : b.geo
   module _ (room : RoomCounts (wanted reserve.Flush a) 0 a b (Ok tt)) where
     spent : (c : Ram) (x : AddsAtMost (translation_pages b.geometry) b c) → Spending b.geometry.pages (counts_of b.blocks) (counts_of c.blocks) 0 x.pages
     spent c x =
-        let here : Fits b.geometry.pages (counts_of b.blocks) = subst (λ (g : Geometry). Fits g.pages (counts_of b.blocks)) safe.blocks_of (fits (free_count b.blocks) b.blocks safe.blocks) in
+        let here : FitsGoodBlocks b.geometry.pages (counts_of b.blocks) = subst (λ (g : Geometry). FitsGoodBlocks g.pages (counts_of b.blocks)) safe.blocks_of (fits (free_count b.blocks) b.blocks safe.blocks) in
         let e : 0 + x.pages ≡ x.pages = omega arith in
         subst (λ n. Spending b.geometry.pages (counts_of b.blocks) (counts_of c.blocks) 0 n) e (x.adds.account (counts_of b.blocks) 0 (no_page b.geometry.pages (counts_of b.blocks) here))
 

@@ -16,7 +16,7 @@ use Rattle.collection.specs.Left.{IsCalm}
 use Rattle.collection.specs.Room.{wanted}
 use Rattle.collection.specs.Collect.{RoomCounts}
 use Rattle.ftl_device.specs.declared.fault.CallFault.TheVariants as call
-use Rattle.ftl_device.specs.Calls.{Tells}
+use Rattle.ftl_device.specs.Calls.{TellsByMemory}
 use Rattle.ftl_device.specs.Changes.{EngineLeaves, EngineKeeps, EndsKept, FlushesOn}
 use Rattle.ftl_device.specs.Shortage.{SpendsPages, FlushFunded, FlushCounts, FlushShort}
 use Rattle.ftl_device.proofs.StoppedLemmas.{KeepsOn}
@@ -112,7 +112,7 @@ module _ (a b : Ram) (safe : IsRam b) (same : b.geometry ≡ a.geometry) (share 
         (counts : b.mapping.share ≡ 0 → (failures : ℕ) → IsFunded b.geometry.pages failures (counts_of b.blocks) → FlushFunded failures b c)
         (spends : 0 < b.mapping.share → SpendsPages (translation_pages b.geometry) b c (Ok tt)) where
       -- room for the table pages was refused
-      pub room_end : (fault : EngineFault) → Tells {A = Unit {0}} c d (Err fault)
+      pub room_end : (fault : EngineFault) → TellsByMemory {A = Unit {0}} c d (Err fault)
           → (c.mapping.share ≡ 0 → (failures : ℕ) → IsFunded c.geometry.pages failures (counts_of c.blocks) → RoomCounts 9 failures c d (Err fault))
           → (0 < c.mapping.share → SpendsPages 0 c d (Err fault)) → FlushShort a d (Err (call.Engine fault))
       room_end fault tells more spent = elim (cases_eq a.mapping.share 0) [

@@ -22,7 +22,7 @@ use Rattle.collection.specs.declared.fault.EngineFault.{EngineFault}
 use Rattle.collection.specs.declared.engine.room.Reserve.TheVariants as reserve
 use Rattle.collection.specs.Room.{wanted}
 use Rattle.collection.specs.State.{Ram}
-use Rattle.collection.specs.Safe.{IsRam, ram, image_in, page_in}
+use Rattle.collection.specs.Safe.{IsRam, ram, image_in, page_in_buffer}
 use Rattle.collection.specs.Truth.{IsTrue}
 use Rattle.collection.specs.Left.{LeavesPin}
 use Rattle.collection.specs.Acts.{Stands}
@@ -105,7 +105,7 @@ module _ {N : Type 0} (view : View N) where
 
   -- a translation page was written back
   pub written_back : (t : ℕ) (mid new : Engine N) (result : Result (Unit {0}) EngineFault) → IsRam (ram mid) → IsRam (ram new) → LeavesPin (ram mid) (ram new) → Goes (ram mid) (ram new) → Stands view mid new result
-      → OnOk result (new.mapping ≡ cleaned mid.mapping t) → OnOk result (IsLastPage kind.Translation t (ram new) (page_in new.page)) → WriteBackCosts (ram mid) (ram new) result
+      → OnOk result (new.mapping ≡ cleaned mid.mapping t) → OnOk result (IsLastPage kind.Translation t (ram new) (page_in_buffer new.page)) → WriteBackCosts (ram mid) (ram new) result
       → (view.honest mid.nand ≡ true → IsTrue None (ram mid) (image_in view.flash mid) → MatchResult result (λ done. IsWrittenBack t (ram mid) (image_in view.flash mid) (ram new) (image_in view.flash new)) (Refused (ram mid) (image_in view.flash mid) (ram new) (image_in view.flash new)))
       → OnOk result (WritesBack view t mid new)
   written_back t mid new (Ok done) s s' beside blocks stands mapping page cost truth = record {
@@ -133,7 +133,7 @@ module _ {N : Type 0} (view : View N) where
   -- ---- table pages
 
   pub table_written : (u : ℕ) (mid new : Engine N) (done : Unit {0}) → IsRam (ram mid) → IsRam (ram new) → LeavesPin (ram mid) (ram new) → Goes (ram mid) (ram new) → Stands view mid new (Ok done)
-      → new.mapping ≡ mid.mapping → IsLastPage kind.Table u (ram new) (page_in new.page) → new.page.body.items ≡ table_bytes (entries mid.geometry) (ram mid).blocks.table u → HasPut Meta (ram mid) (ram new)
+      → new.mapping ≡ mid.mapping → IsLastPage kind.Table u (ram new) (page_in_buffer new.page) → new.page.body.items ≡ table_bytes (entries mid.geometry) (ram mid).blocks.table u → HasPut Meta (ram mid) (ram new)
       → (view.honest mid.nand ≡ true → IsTrue None (ram mid) (image_in view.flash mid) → IsTabled u (ram mid) (image_in view.flash mid) (ram new) (image_in view.flash new))
       → WritesTable view u mid new
   table_written u mid new done s s' beside blocks stands mapping page spelled cost truth = record {

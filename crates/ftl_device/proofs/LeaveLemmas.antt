@@ -20,13 +20,13 @@ use Rattle.collection.proofs.Costs.{risen_over}
 use Rattle.collection.proofs.Logs.{went_same, went_then}
 use Rattle.ftl_device.specs.declared.fault.CallFault.{CallFault}
 use Rattle.ftl_device.specs.declared.fault.CallFault.TheVariants as call
-use Rattle.ftl_device.specs.Calls.{Tells, CallTells, standing_after, Knows, CallRefused}
+use Rattle.ftl_device.specs.Calls.{TellsByMemory, CallTells, standing_after, Knows, CallRefused}
 use Rattle.ftl_device.specs.Changes.{EngineLeaves, EndsCall, EndsKept}
 use Rattle.ftl_device.proofs.DieLemmas.{die_same, die_then, die_of}
 use Rattle.ftl_device.proofs.EndLemmas.{call_of}
 use Rattle.ftl_device.proofs.StoppedLemmas.{KeepsOn, cuts_on, stops_same, stops_still, stops_on}
 
-pub tells_then : {B : Type 0} (a b c : Ram) (result : Result B EngineFault) → good_count b.blocks.table ≤ good_count a.blocks.table → Tells b c result → Tells a c result
+pub tells_then : {B : Type 0} (a b c : Ram) (result : Result B EngineFault) → good_count b.blocks.table ≤ good_count a.blocks.table → TellsByMemory b c result → TellsByMemory a c result
 tells_then a b c (Ok answer) fewer h = omega (arith, fewer, h)
 tells_then a b c (Err ReadOnly) fewer h = (h.0, omega (arith, fewer, h.1))
 tells_then a b c (Err SequenceSpent) fewer h = h
@@ -45,14 +45,14 @@ pub call_bus : (result : Result (Unit {0}) EngineFault) → call_of result ≡ E
 call_bus (Ok done) e = (let no : ⊥ = cc in absurd no)
 call_bus (Err fault) e = (let same : fault ≡ Bus = cc in ap Err same)
 
-call_tells : (result : Result (Unit {0}) EngineFault) (a b : Ram) → Tells a b result → CallTells a b (call_of result)
+call_tells : (result : Result (Unit {0}) EngineFault) (a b : Ram) → TellsByMemory a b result → CallTells a b (call_of result)
 call_tells (Ok done) a b h = h
 call_tells (Err ReadOnly) a b h = h
 call_tells (Err SequenceSpent) a b h = h
 call_tells (Err Damaged) a b h = tt
 call_tells (Err Bus) a b h = tt
 
-refused_tells : (A B : Type 0) (fault : EngineFault) (a b : Ram) → Tells {A = A} a b (Err fault) → Tells {A = B} a b (Err fault)
+refused_tells : (A B : Type 0) (fault : EngineFault) (a b : Ram) → TellsByMemory {A = A} a b (Err fault) → TellsByMemory {A = B} a b (Err fault)
 refused_tells A B ReadOnly a b h = h
 refused_tells A B SequenceSpent a b h = h
 refused_tells A B Damaged a b h = tt
@@ -64,7 +64,7 @@ ended fault = Err (call.Engine fault)
 
 module _ {N : Type 0} (view : View N) where
   -- a call that the engine's standing fault would have stopped
-  pub leaves_by : {A : Type 0} (old new : Engine N) (result : Result A EngineFault) → old.fault ≡ None → Stands view old new result → new.geometry ≡ old.geometry → Tells (ram old) (ram new) result
+  pub leaves_by : {A : Type 0} (old new : Engine N) (result : Result A EngineFault) → old.fault ≡ None → Stands view old new result → new.geometry ≡ old.geometry → TellsByMemory (ram old) (ram new) result
       → (view.honest old.nand ≡ true → Knows (ram old) (image_in view.flash old) → result ≢ Err Bus → StopsSafely view old new)
       → (view.honest old.nand ≡ true → Knows (ram old) (image_in view.flash old) → result ≡ Err Bus → CutsSafely view old new) → EngineLeaves view old result new
   leaves_by old new result none s same tells stops cut = record {
@@ -186,14 +186,14 @@ limits_same a b is = record { geometry = ap (λ (m : MappingState). m.geometry) 
 
 -- ---- what the engine's answers cost, as what the memory tells
 
-pub page_told : (stream : Stream) (result : Result (Unit {0}) EngineFault) (a b : Ram) → PageCosts stream a b result → Tells a b result
+pub page_told : (stream : Stream) (result : Result (Unit {0}) EngineFault) (a b : Ram) → PageCosts stream a b result → TellsByMemory a b result
 page_told stream (Ok done) a b h = omega (arith, h.put.good)
 page_told stream (Err ReadOnly) a b h = (omega (arith, h.none.none_free), omega (arith, h.found.good))
 page_told stream (Err SequenceSpent) a b h = h.last
 page_told stream (Err Damaged) a b h = tt
 page_told stream (Err Bus) a b h = tt
 
-pub back_told : (result : Result (Unit {0}) EngineFault) (a b : Ram) → WriteBackCosts a b result → Tells a b result
+pub back_told : (result : Result (Unit {0}) EngineFault) (a b : Ram) → WriteBackCosts a b result → TellsByMemory a b result
 back_told (Ok done) a b h = omega (arith, h.put.good)
 back_told (Err ReadOnly) a b h = (omega (arith, h.none.none_free), omega (arith, h.found.good))
 back_told (Err SequenceSpent) a b h = h.last

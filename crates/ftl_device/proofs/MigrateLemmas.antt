@@ -28,7 +28,7 @@ use Rattle.collection.proofs.Costs.{risen_over}
 use Rattle.collection.proofs.Logs.{went_then}
 use Rattle.ftl_device.specs.declared.fault.CallFault.{CallFault}
 use Rattle.ftl_device.specs.declared.fault.CallFault.TheVariants as call
-use Rattle.ftl_device.specs.Calls.{Knows, Tells, CallTells, KeepsArray, CallRefused}
+use Rattle.ftl_device.specs.Calls.{Knows, TellsByMemory, CallTells, KeepsArray, CallRefused}
 use Rattle.ftl_device.specs.Shortage.{CallShort}
 use Rattle.ftl_device.specs.Changes.{EngineLeaves, EndsCall, EndsKept}
 use Rattle.ftl_device.proofs.DieLemmas.{die_then}
@@ -96,7 +96,7 @@ still_ok a b still same = still ∙ ap (λ f. record a { fault = f }) same
 pub over : (P : Ram → Image → Type 0) (a b : Ram) (x y : Image) → b ≡ a → y ≡ x → P b y → P a x
 over P a b x y same still h = subst (P a) still (subst (λ r. P r y) same h)
 
-pub look_tells : {A : Type 0} (result : Result A EngineFault) (a b : Ram) → b.blocks ≡ a.blocks → IfErr result IsReadFault → Tells a b result
+pub look_tells : {A : Type 0} (result : Result A EngineFault) (a b : Ram) → b.blocks ≡ a.blocks → IfErr result IsReadFault → TellsByMemory a b result
 look_tells (Ok x) a b same faults = (let e : good_count b.blocks.table ≡ good_count a.blocks.table = ap (λ (t : State). good_count t.table) same in omega arith)
 look_tells (Err ReadOnly) a b same faults = absurd faults
 look_tells (Err SequenceSpent) a b same faults = absurd faults

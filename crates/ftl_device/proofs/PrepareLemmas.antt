@@ -23,7 +23,7 @@ use Rattle.collection.specs.Log.{Went}
 use Rattle.collection.specs.Looks.{IsReadFault}
 use Rattle.collection.specs.Pages.{newest_row}
 use Rattle.ftl_device.specs.declared.fault.CallFault.TheVariants.{Engine as OfEngine}
-use Rattle.ftl_device.specs.Calls.{Tells, Knows, KeepsArray, IsFound, CallRefused, HasMadeRoom}
+use Rattle.ftl_device.specs.Calls.{TellsByMemory, Knows, KeepsArray, FindsNewestRow, CallRefused, HasMadeRoom}
 use Rattle.ftl_device.proofs.PinLemmas.{knows_beside}
 use Rattle.collection.proofs.Lefts.{calm_law}
 use Rattle.collection.proofs.Puts.{leaves_same}
@@ -31,7 +31,7 @@ use Rattle.collection.proofs.Puts.{leaves_same}
 -- ---- counts
 
 -- where more were good before
-pub tells_then : (fault : EngineFault) (a b c : Ram) → good_count b.blocks.table ≤ good_count a.blocks.table → Tells {A = Option ℕ} b c (Err fault) → Tells {A = Option ℕ} a c (Err fault)
+pub tells_then : (fault : EngineFault) (a b c : Ram) → good_count b.blocks.table ≤ good_count a.blocks.table → TellsByMemory {A = Option ℕ} b c (Err fault) → TellsByMemory {A = Option ℕ} a c (Err fault)
 tells_then ReadOnly a b c fewer h = (h.0, omega (arith, h.1))
 tells_then SequenceSpent a b c fewer h = h
 tells_then Damaged a b c fewer h = tt
@@ -39,7 +39,7 @@ tells_then Bus a b c fewer h = tt
 
 pub tells_found : (result : Result (Option ℕ) EngineFault) (a b c d : Ram) (fault : Option EngineFault)
     → good_count b.blocks.table ≤ good_count a.blocks.table → good_count c.blocks.table ≤ good_count b.blocks.table
-    → d ≡ record c { fault = fault } → IfErr result IsReadFault → Tells a d result
+    → d ≡ record c { fault = fault } → IfErr result IsReadFault → TellsByMemory a d result
 tells_found (Ok row) a b c d fault first next is of_read = (let e : good_count d.blocks.table ≡ good_count c.blocks.table = ap (λ (r : Ram). good_count r.blocks.table) is in omega arith)
 tells_found (Err ReadOnly) a b c d fault first next is of_read = absurd of_read
 tells_found (Err SequenceSpent) a b c d fault first next is of_read = absurd of_read
@@ -76,10 +76,10 @@ module _ (c d : Ram) (fault : Option EngineFault) (is : d ≡ record c { fault =
 
   pub found_after : (result : Result (Option ℕ) EngineFault) (n : ℕ) (g : Geometry) (x : Image) (t u : Flash) → KeepsArray g x c t.image → (result ≢ Err Bus → u ≡ t)
       → MatchResult result (λ row. row ≡ newest_row t.image (Sector n)) (λ f. f ≡ Bus)
-      → MatchResult result (λ row. IsFound n row g x d u.image) (λ f. CallRefused g x d u.image (OfEngine f))
+      → MatchResult result (λ row. FindsNewestRow n row g x d u.image) (λ f. CallRefused g x d u.image (OfEngine f))
   found_after (Ok row) n g x t u keeps same row_is =
       let unread : u ≡ t = same (λ e. (let no : ⊥ = cc in no)) in
-      subst (λ (s : Flash). IsFound n row g x d s.image) (sym unread) (record { keeps = record { truth = knows_found t.image keeps.truth; array = keeps.array; versions = keeps.versions }; row_is = row_is })
+      subst (λ (s : Flash). FindsNewestRow n row g x d s.image) (sym unread) (record { keeps = record { truth = knows_found t.image keeps.truth; array = keeps.array; versions = keeps.versions }; row_is = row_is })
   found_after (Err ReadOnly) n g x t u keeps same of_bus = (let no : ⊥ = cc in absurd no)
   found_after (Err SequenceSpent) n g x t u keeps same of_bus = (let no : ⊥ = cc in absurd no)
   found_after (Err Damaged) n g x t u keeps same of_bus = (let no : ⊥ = cc in absurd no)

@@ -11,10 +11,10 @@ use Rattle.page_layout.specs.declared.geometry.Geometry.{Geometry}
 use Rattle.page_layout.specs.Page.{Image, Page}
 use Rattle.page_layout.specs.Flash.{Flash}
 use Rattle.page_layout.specs.Array.{array_of, sector_of}
-use Rattle.promises.specs.Step.{State, ReadsSector}
+use Rattle.promises.specs.Step.{ArrayState, ReadsSector}
 use Rattle.mapping_cache.specs.declared.slot.Slot.{Slot}
 use Rattle.mapping_cache.specs.declared.mapping.LoadFault.{LoadFault}
-use Rattle.mapping_cache.specs.Mapping.{MappingState, IsMapping, HasLimitsOf, CanLoad, slot_of, moved_row, pending, used, without, loaded, loaded_by, cleaned}
+use Rattle.mapping_cache.specs.Mapping.{MappingState, IsMapping, HasLimitsOf, CanLoad, slot_of, moved_row, pending, used, without_sector, loaded, loaded_by, cleaned}
 use Rattle.mapping_cache.proofs.Steps.{pending-used, pending-inserted}
 use Rattle.page_layout.specs.Geometry.{waiting_at}
 use Rattle.collection.specs.Collect.{waiting}
@@ -30,7 +30,7 @@ use Rattle.allocation.specs.State.{free_count}
 use Rattle.allocation.specs.View.{state}
 use Rattle.collection.specs.State.{Ram}
 use Rattle.collection.specs.Truth.{IsTrue}
-use Rattle.collection.specs.Safe.{IsSafe, ram, image_in, page_in}
+use Rattle.collection.specs.Safe.{IsSafe, ram, image_in, page_in_buffer}
 use Rattle.collection.specs.Looks.{IsRead, FindsRow, GivesSector}
 use Rattle.ftl_device.specs.declared.device.Device.{Device}
 use Rattle.ftl_device.specs.Calls.{array_in, state_in, HasMadeRoom}
@@ -75,12 +75,12 @@ not_moved_here m n h = at (moved_row m n) h
 
 -- ---- the moved list, where the sector is not on it
 
-without_head : (n : ℕ) (e : ℕ × ℕ) (ms : List (ℕ × ℕ)) → eqb n e.0 ≡ false → without n ms ≡ ms → without n (e ∷ ms) ≡ e ∷ ms
+without_head : (n : ℕ) (e : ℕ × ℕ) (ms : List (ℕ × ℕ)) → eqb n e.0 ≡ false → without_sector n ms ≡ ms → without_sector n (e ∷ ms) ≡ e ∷ ms
 without_head n e ms other rest =
     let apart : (e.0 == n) ≡ false = ne_eqb e.0 n (λ same. (let yes : eqb n e.0 ≡ true = ap (eqb n) same ∙ eqb_self n in let no : ⊥ = cc in no)) in
     rw apart (ap (λ l. e ∷ l) rest)
 
-without_none : (n : ℕ) (ms : List (ℕ × ℕ)) → lookup (eqb n) ms ≡ None → without n ms ≡ ms
+without_none : (n : ℕ) (ms : List (ℕ × ℕ)) → lookup (eqb n) ms ≡ None → without_sector n ms ≡ ms
 without_none n [] none = refl
 without_none n (e ∷ ms) none = by_test (eqb n e.0)
     (λ t. (let some : lookup (eqb n) (e ∷ ms) ≡ Some e.1 = cond-true _ _ _ t in let no : ⊥ = cc in absurd no))
@@ -190,8 +190,8 @@ pub finds_noted : (result : Result (Option ℕ) EngineFault) (r s : Ram) (n : �
 finds_noted (Ok row) r s n p fault is found = (let P : Ram → Type 0 = λ x. FindsRow x n p row in subst P (sym is) (record { hit = found.hit; miss = found.miss }))
 finds_noted (Err f) r s n p fault is found = tt
 
-pub is_looked_up : {N : Type 0} (old : Ram) (e f : Engine N) (n : ℕ) (row : Option ℕ) → f ≡ record e { mapping = loaded e.mapping n row } → IsPrepared old e.mapping → FindsRow (ram e) n (page_in e.scratch) row → IsLookedUp n old (ram f) (page_in f.scratch)
-is_looked_up {N} old e f n row is prepared found = (let P : Engine N → Type 0 = λ x. IsLookedUp n old (ram x) (page_in x.scratch) in subst P (sym is) (record { before = e.mapping; prepared = prepared; row = row; found = found; loaded_is = refl }))
+pub is_looked_up : {N : Type 0} (old : Ram) (e f : Engine N) (n : ℕ) (row : Option ℕ) → f ≡ record e { mapping = loaded e.mapping n row } → IsPrepared old e.mapping → FindsRow (ram e) n (page_in_buffer e.scratch) row → IsLookedUp n old (ram f) (page_in_buffer f.scratch)
+is_looked_up {N} old e f n row is prepared found = (let P : Engine N → Type 0 = λ x. IsLookedUp n old (ram x) (page_in_buffer x.scratch) in subst P (sym is) (record { before = e.mapping; prepared = prepared; row = row; found = found; loaded_is = refl }))
 
 -- a place was made by writing a translation page back
 pub wrote_back : {A : Type 0} (result : Result A EngineFault) (old new : MappingState) (page : ℕ) → OnOk result (new ≡ cleaned old page) → OnOk result (HasWrittenBack old new)
@@ -221,7 +221,7 @@ module _ {N : Type 0} (flash : N → Flash) (d : Device N) (e : Engine N) (new :
       let s : flash new.engine.nand ≡ flash d.engine.nand = ap (λ (z : Device N). flash z.engine.nand) is ∙ kept in
       let ro : new.read_only ≡ d.read_only = ap (λ (z : Device N). z.read_only) is in
       let a : array_in flash new ≡ array_in flash d = ap (λ (k : Geometry). array_of k (flash new.engine.nand).image) g ∙ ap (λ (f : Flash). array_of d.engine.geometry f.image) s in
-      let as_state : List (List ℕ) → Bool → State = λ sectors r. record { array = sectors; ro = r } in
+      let as_state : List (List ℕ) → Bool → ArrayState = λ sectors r. record { array = sectors; ro = r } in
       record {
         within = within;
         bytes_are = array_at d.engine.geometry (image_in flash d.engine) n within ∙ ap Some (sym read.sector);
@@ -230,11 +230,11 @@ module _ {N : Type 0} (flash : N → Flash) (d : Device N) (e : Engine N) (new :
 
   -- what was found and given, and what is cached
   pub read_done : ram e ≡ ram d.engine → new ≡ record d { engine = record e { mapping = new.engine.mapping } }
-      → FindsRow (ram d.engine) n (page_in e.scratch) row → GivesSector d.engine.geometry n row (page_in e.page) bytes
+      → FindsRow (ram d.engine) n (page_in_buffer e.scratch) row → GivesSector d.engine.geometry n row (page_in_buffer e.page) bytes
       → LooksUp n row e.mapping new.engine.mapping
-      → HasRead n (ram d.engine) (ram new.engine) (page_in new.engine.scratch) (page_in new.engine.page) bytes
+      → HasRead n (ram d.engine) (ram new.engine) (page_in_buffer new.engine.scratch) (page_in_buffer new.engine.page) bytes
   read_done memory is found gives looks =
-      let as_read : Device N → Type 0 = λ z. HasRead n (ram d.engine) (ram z.engine) (page_in z.engine.scratch) (page_in z.engine.page) bytes in
+      let as_read : Device N → Type 0 = λ z. HasRead n (ram d.engine) (ram z.engine) (page_in_buffer z.engine.scratch) (page_in_buffer z.engine.page) bytes in
       let whole : ram (record e { mapping = new.engine.mapping }) ≡ record (ram d.engine) { mapping = new.engine.mapping } = ap (λ (r : Ram). record r { mapping = new.engine.mapping }) memory in
       let m : e.mapping ≡ d.engine.mapping = ap (λ (r : Ram). r.mapping) memory in
       subst as_read (sym is) (record {

@@ -6,14 +6,14 @@ use Rattle.page_layout.specs.declared.geometry.Geometry.{Geometry}
 use Rattle.page_layout.specs.View.{View}
 use Rattle.page_layout.specs.Page.{Page}
 use Rattle.page_layout.specs.OnlyReads.{OnlyReads}
-use Rattle.promises.specs.Step.{State, IsPast}
+use Rattle.promises.specs.Step.{ArrayState, IsPast}
 use Rattle.allocation.specs.State.{free_count}
 use Rattle.page_layout.specs.Flash.{Flash}
 use Rattle.collection.specs.declared.engine.Engine.{Engine}
 use Rattle.collection.specs.declared.fault.EngineFault.{EngineFault}
 use Rattle.collection.specs.declared.fault.EngineFault.TheVariants as engine_fault
 use Rattle.collection.specs.State.{Ram}
-use Rattle.collection.specs.Safe.{IsSafe, ram, page_in}
+use Rattle.collection.specs.Safe.{IsSafe, ram, page_in_buffer}
 use Rattle.collection.specs.Left.{IsCalm}
 use Rattle.collection.specs.Looks.{IsReadFault}
 use Rattle.ftl_device.specs.declared.device.Device.{Device}
@@ -106,7 +106,7 @@ not_past n a b same within past = omega arith
 pub within_by : (n a b : ℕ) → a ≡ b → n < a → n < b
 within_by n a b same within = omega arith
 
-pub past_read : (g : Geometry) (s : State) (n a : ℕ) → a ≡ g.sectors → a ≤ n → IsPast g n s s
+pub past_read : (g : Geometry) (s : ArrayState) (n a : ℕ) → a ≡ g.sectors → a ≤ n → IsPast g n s s
 past_read g s n a same past = record { past = omega arith; same = refl }
 
 -- ---- a device over what a look left
@@ -160,6 +160,6 @@ module _ {N : Type 0} (d : Device N) (e : Engine N) where
     pub not_bus : {A : Type 0} (look : Result A EngineFault) (result : Result (Unit {0}) DeviceFault) → look ≡ Err fault → result ≡ Err answer → (result ≡ Err BusFault → ⊥) → look ≡ Err engine_fault.Bus → ⊥
     not_bus look result was is ne bad = (let same : fault ≡ engine_fault.Bus = cc in ne (is ∙ ap Err (bus same).0))
 
-    pub refused_memory : (n : ℕ) (bytes : List ℕ) → ram e ≡ ram d.engine → LeavesRead n (Err answer) (ram d.engine) (ram new.engine) (page_in new.engine.scratch) (page_in new.engine.page) bytes
-    refused_memory n bytes same = by_fault (λ f a z. LeavesRead n (Err a) (ram d.engine) (ram z.engine) (page_in z.engine.scratch) (page_in z.engine.page) bytes) fault answer new of_read damaged bus same
+    pub refused_memory : (n : ℕ) (bytes : List ℕ) → ram e ≡ ram d.engine → LeavesRead n (Err answer) (ram d.engine) (ram new.engine) (page_in_buffer new.engine.scratch) (page_in_buffer new.engine.page) bytes
+    refused_memory n bytes same = by_fault (λ f a z. LeavesRead n (Err a) (ram d.engine) (ram z.engine) (page_in_buffer z.engine.scratch) (page_in_buffer z.engine.page) bytes) fault answer new of_read damaged bus same
         (ap (λ (r : Ram). record r { fault = Some engine_fault.Bus }) same)

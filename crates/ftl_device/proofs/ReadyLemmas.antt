@@ -32,7 +32,7 @@ use Rattle.ftl_device.specs.declared.fault.CallFault.{CallFault}
 use Rattle.ftl_device.specs.declared.fault.CallFault.TheVariants.{Engine}
 use Rattle.collection.specs.Left.{LeavesPin}
 use Rattle.ftl_device.proofs.PinLemmas.{knows_beside}
-use Rattle.ftl_device.specs.Calls.{IsMostRecent, KeepsArray, HoldsSector}
+use Rattle.ftl_device.specs.Calls.{IsMostRecent, KeepsArray, ChangesOneSector}
 
 -- ---- an entry by its place
 
@@ -151,7 +151,7 @@ recent_kept n old new keys first = ap (λ ks. slice_get ks 0) keys ∙ first
 -- ---- a sector that was made ready and written
 
 pub written_ready : (g : Geometry) (n : ℕ) (kind : Kind) (body : List ℕ) (mid new : Ram) (before between after : Image) → mid.geometry ≡ g → IsRam mid → IsRam new → LeavesPin mid new → KeepsArray g before mid between → IsWritten kind n body mid between new after
-    → HoldsSector g n (content_of_kind g kind body) before new after
+    → ChangesOneSector g n (content_of_kind g kind body) before new after
 written_ready g n kind body mid new before between after same s t beside kept written = record {
   truth = knows_beside mid new between after s t beside kept.truth written.truth written.leaves;
   array = ap (λ h. array_of h after) (sym same) ∙ (written.array

@@ -23,7 +23,7 @@ use Rattle.collection.specs.Results.{Goes, fault_after}
 use Rattle.collection.specs.Collect.{GoesOn, KeepsKeys, Refreshes, IsUpToDate, HasRoom, RoomTells, IsRearranged, RoomRefused}
 use Rattle.collection.specs.Collect.{IsAiling, HasAiling, HasNoneAiling, RescueCosts, IsRescued}
 use Rattle.ftl_device.specs.declared.fault.CallFault.TheVariants.{Engine as OfEngine}
-use Rattle.ftl_device.specs.Calls.{Tells, CallTells, Knows, KeepsArray, CallRefused, HasMadeRoom, HasRescued, HasWorked}
+use Rattle.ftl_device.specs.Calls.{TellsByMemory, CallTells, Knows, KeepsArray, CallRefused, HasMadeRoom, HasRescued, HasWorked}
 use Rattle.ftl_device.specs.Flush.{KeepsClean}
 use Rattle.ftl_device.proofs.PinLemmas.{few_more, knows_none}
 
@@ -61,7 +61,7 @@ good_fewer a b s t goes =
 
 -- ---- room was made
 
-pub room_tells : (result : Result (Unit {0}) EngineFault) (a b : Ram) → IsRam a → IsRam b → GoesOn a b → IfErr result (RoomTells b) → Tells a b result
+pub room_tells : (result : Result (Unit {0}) EngineFault) (a b : Ram) → IsRam a → IsRam b → GoesOn a b → IfErr result (RoomTells b) → TellsByMemory a b result
 room_tells (Ok done) a b s t goes h = good_fewer a b s t goes
 room_tells (Err ReadOnly) a b s t goes h = (h, good_fewer a b s t goes)
 room_tells (Err SequenceSpent) a b s t goes h = h
@@ -207,13 +207,13 @@ rescued_by a b c x y z found s t u first then r d = record {
         let at_a : k < a.blocks.geometry.blocks = (let f : a.blocks.geometry.blocks ≡ a.geometry.blocks = ap (λ (g : Geometry). g.blocks) s.blocks_of in omega arith) in
         (k, record { within = at_a; bad = bad; some = omega (arith, one_of.2) }, omega (arith, one_of.2))
 
-pub call_tells : (fault : EngineFault) (a b : Ram) → Tells {A = Unit {0}} a b (Err fault) → CallTells {A = Unit {0}} a b (Err (OfEngine fault))
+pub call_tells : (fault : EngineFault) (a b : Ram) → TellsByMemory {A = Unit {0}} a b (Err fault) → CallTells {A = Unit {0}} a b (Err (OfEngine fault))
 call_tells ReadOnly a b h = h
 call_tells SequenceSpent a b h = h
 call_tells Damaged a b h = tt
 call_tells Bus a b h = tt
 
-pub rescue_told : (result : Result Bool EngineFault) (b c : Ram) → IsRam b → IsRam c → Goes b c → RescueCosts b c result → Tells b c result
+pub rescue_told : (result : Result Bool EngineFault) (b c : Ram) → IsRam b → IsRam c → Goes b c → RescueCosts b c result → TellsByMemory b c result
 rescue_told (Ok found) b c t u goes h = good_fewer b c t u (goes_on b c t goes)
 rescue_told (Err ReadOnly) b c t u goes h = (omega (arith, h.out.out.none.none_free), good_fewer b c t u (goes_on b c t goes))
 rescue_told (Err SequenceSpent) b c t u goes h = h.spent.spent.last

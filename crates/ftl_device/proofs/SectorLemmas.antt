@@ -13,7 +13,7 @@ use Rattle.promises.specs.Step.{Command}
 use Rattle.collection.specs.declared.engine.Engine.{Engine}
 use Rattle.collection.specs.declared.fault.EngineFault.{EngineFault}
 use Rattle.collection.specs.declared.fault.EngineFault.TheVariants.{Bus}
-use Rattle.collection.specs.Safe.{ram, image_in, page_in}
+use Rattle.collection.specs.Safe.{ram, image_in, page_in_buffer}
 use Rattle.collection.specs.Truth.{IsTrue}
 use Rattle.collection.specs.Left.{LeavesPin}
 use Rattle.collection.specs.Acts.{Stands}
@@ -23,7 +23,7 @@ use Rattle.collection.specs.Results.{Goes, IsLastPage, IsWritten, Refused}
 use Rattle.collection.specs.Stops.{Cuts, IsPutByStop, StopsSafely}
 use Rattle.collection.proofs.Beside.{beside_same}
 use Rattle.ftl_device.specs.declared.fault.CallFault.{CallFault}
-use Rattle.ftl_device.specs.Calls.{KeepsArray, HoldsSector, CallRefused, IsReady, HasCost, HasPage, HasPageOf, IsLastOf}
+use Rattle.ftl_device.specs.Calls.{KeepsArray, ChangesOneSector, CallRefused, HasMadeRoomAndPlace, HasCost, HasPage, HasPageOf, IsLastOf}
 use Rattle.ftl_device.specs.Read.{IsLookedUp}
 use Rattle.ftl_device.specs.Changes.{EndsKept, EndsChange, Readies, HasLookedUp}
 use Rattle.ftl_device.proofs.DieLemmas.{die_of}
@@ -55,7 +55,7 @@ module _ {N : Type 0} (view : View N) (kind : Kind) (n : ℕ) (body : List ℕ) 
   }
 
   -- it was, and then a page of it was programmed, or refused
-  module _ (mid new : Engine N) (made : Unit {0}) (kept : EndsKept view old (Ok made) mid) (readies : Readies view n 1 old (Ok made) mid) (ready : IsReady n (ram old) (ram mid)) (looked : IsLookedUp n (ram old) (ram mid) (page_in mid.scratch))
+  module _ (mid new : Engine N) (made : Unit {0}) (kept : EndsKept view old (Ok made) mid) (readies : Readies view n 1 old (Ok made) mid) (ready : HasMadeRoomAndPlace n (ram old) (ram mid)) (looked : IsLookedUp n (ram old) (ram mid) (page_in_buffer mid.scratch))
       (goes : Goes (ram mid) (ram new)) (pin : (ram new).pin ≡ (ram mid).pin) (keys : keys_of new.mapping.cached ≡ keys_of mid.mapping.cached) (no_more : HasNoMore mid.mapping new.mapping) (moved : new.mapping.moved ≡ mid.mapping.moved)
       (scratch : new.scratch ≡ mid.scratch) (of_kind : key_from kind n ≡ Sector n) (gives : content_of_kind old.geometry kind body ≡ body) where
     beside : LeavesPin (ram mid) (ram new)
@@ -65,14 +65,14 @@ module _ {N : Type 0} (view : View N) (kind : Kind) (n : ℕ) (body : List ℕ) 
     costs (Ok done) cost = cost_of n (ram old) (ram mid) (ram new) ready cost
     costs (Err fault) cost = tt
 
-    checks : (answer : Result (Unit {0}) EngineFault) → PageCosts Data (ram mid) (ram new) answer → OnOk answer (HasSettled n (ram mid) (ram new)) → OnOk (call_of answer) (HasLookedUp n (ram old) (ram new) (page_in new.scratch))
+    checks : (answer : Result (Unit {0}) EngineFault) → PageCosts Data (ram mid) (ram new) answer → OnOk answer (HasSettled n (ram mid) (ram new)) → OnOk (call_of answer) (HasLookedUp n (ram old) (ram new) (page_in_buffer new.scratch))
     checks (Ok done) cost settled = looked_up_before old mid new n ready looked scratch cost settled
     checks (Err fault) cost settled = tt
 
     holds : (answer : Result (Unit {0}) EngineFault) → Stands view mid new answer → KeepsArray old.geometry (image_in view.flash old) (ram mid) (image_in view.flash mid)
         → MatchResult answer (λ done. IsWritten kind n body (ram mid) (image_in view.flash mid) (ram new) (image_in view.flash new)) (Refused (ram mid) (image_in view.flash mid) (ram new) (image_in view.flash new))
-        → MatchResult (call_of answer) (λ done. HoldsSector old.geometry n body (image_in view.flash old) (ram new) (image_in view.flash new)) (CallRefused old.geometry (image_in view.flash old) (ram new) (image_in view.flash new))
-    holds (Ok done) stands before written = subst (λ bytes. HoldsSector old.geometry n bytes (image_in view.flash old) (ram new) (image_in view.flash new)) gives
+        → MatchResult (call_of answer) (λ done. ChangesOneSector old.geometry n body (image_in view.flash old) (ram new) (image_in view.flash new)) (CallRefused old.geometry (image_in view.flash old) (ram new) (image_in view.flash new))
+    holds (Ok done) stands before written = subst (λ bytes. ChangesOneSector old.geometry n bytes (image_in view.flash old) (ram new) (image_in view.flash new)) gives
         (written_ready old.geometry n kind body (ram mid) (ram new) (image_in view.flash old) (image_in view.flash mid) (image_in view.flash new) kept.ends.geometry kept.ends.safe.memory stands.safe.memory beside before written)
     holds (Err fault) stands before refused = engine_refused old.geometry (ram mid) (ram new) (image_in view.flash old) (image_in view.flash mid) (image_in view.flash new) fault kept.ends.geometry kept.ends.safe.memory stands.safe.memory beside before refused
 
@@ -82,13 +82,13 @@ module _ {N : Type 0} (view : View N) (kind : Kind) (n : ℕ) (body : List ℕ) 
     pages (Ok done) of_command written = of_command (image_in view.flash new) (page_held kind n body (ram mid) (image_in view.flash mid) (ram new) (image_in view.flash new) of_kind written)
     pages (Err fault) of_command refused = tt
 
-    pub change_page : (answer : Result (Unit {0}) EngineFault) → Stands view mid new answer → OnOk answer (HasSettled n (ram mid) (ram new)) → OnOk answer (IsLastPage kind n (ram new) (page_in new.page))
+    pub change_page : (answer : Result (Unit {0}) EngineFault) → Stands view mid new answer → OnOk answer (HasSettled n (ram mid) (ram new)) → OnOk answer (IsLastPage kind n (ram new) (page_in_buffer new.page))
         → (mid.fault ≡ None → new.page.body.items ≡ body) → (mid.fault ≡ None → PageCosts Data (ram mid) (ram new) answer)
         → (view.honest mid.nand ≡ true → mid.fault ≡ None → IsTrue None (ram mid) (image_in view.flash mid)
         → MatchResult answer (λ done. IsWritten kind n body (ram mid) (image_in view.flash mid) (ram new) (image_in view.flash new)) (Refused (ram mid) (image_in view.flash mid) (ram new) (image_in view.flash new)))
         → (view.honest mid.nand ≡ true → mid.fault ≡ None → IsTrue None (ram mid) (image_in view.flash mid) → answer ≢ Err Bus → StopsSafely view mid new)
         → (view.honest mid.nand ≡ true → mid.fault ≡ None → IsTrue None (ram mid) (image_in view.flash mid) → answer ≡ Err Bus → Cuts view (IsPutByStop kind n body (ram mid) (image_in view.flash mid)) mid new)
-        → (IsLastPage kind n (ram new) (page_in new.page) → new.page.body.items ≡ body → IsLastOf old.geometry command (ram new) (page_in new.page))
+        → (IsLastPage kind n (ram new) (page_in_buffer new.page) → new.page.body.items ≡ body → IsLastOf old.geometry command (ram new) (page_in_buffer new.page))
         → ((image : Image) → HasPage kind n body (ram new) image → HasPageOf old.geometry command (ram new) image)
         → EndsChange view kind n body command old (call_of answer) new
     change_page answer stands settled programmed written cost truth stops cut last of_command = record {

@@ -3,7 +3,7 @@ use Rattle.std.proofs.Common.{◌≡◌, inl, inr, ℕ, ◌+◌, ◌≤◌, ◌�
 use Rattle.std.proofs.lemmas.Bool.{cases_lt}
 use Rattle.page_layout.specs.declared.geometry.Geometry.{Geometry}
 use Rattle.bad_blocks.specs.Table.{good_count}
-use Rattle.budget.specs.Counts.{Fits}
+use Rattle.budget.specs.Counts.{FitsGoodBlocks}
 use Rattle.budget.specs.Spending.{Spending}
 use Rattle.budget.proofs.AccountLemmas.{no_page, few_openings, stuck}
 use Rattle.allocation.specs.State.{free_count}
@@ -18,7 +18,7 @@ use Rattle.ftl_device.specs.Shortage.{HasUsed, HasFoundNoBlock, LeavesFiveLaw, T
 
 pub used_from : (most : ℕ) (old new : Ram) → IsRam old → (u : HasUsed most old new) → Spending old.geometry.pages (counts_of old.blocks) (counts_of new.blocks) u.data_pages u.meta_pages
 used_from most old new s u =
-    let start : Fits old.geometry.pages (counts_of old.blocks) = subst (λ (g : Geometry). Fits g.pages (counts_of old.blocks)) s.blocks_of (fits (free_count old.blocks) old.blocks s.blocks) in
+    let start : FitsGoodBlocks old.geometry.pages (counts_of old.blocks) = subst (λ (g : Geometry). FitsGoodBlocks g.pages (counts_of old.blocks)) s.blocks_of (fits (free_count old.blocks) old.blocks s.blocks) in
     let all : Spending old.geometry.pages (counts_of old.blocks) (counts_of new.blocks) (0 + u.data_pages) (0 + u.meta_pages) = u.account (counts_of old.blocks) 0 0 (no_page old.geometry.pages (counts_of old.blocks) start) in
     let d : 0 + u.data_pages ≡ u.data_pages = omega arith in
     let m : 0 + u.meta_pages ≡ u.meta_pages = omega arith in

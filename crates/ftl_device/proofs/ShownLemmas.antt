@@ -21,8 +21,8 @@ use Rattle.ftl_device.specs.declared.fault.CallFault.{CallFault}
 use Rattle.ftl_device.specs.declared.fault.CallFault.TheVariants as call
 use Rattle.ftl_device.specs.declared.fault.DeviceFault.{DeviceFault}
 use Rattle.ftl_device.specs.declared.fault.DeviceFault.TheVariants.{OutOfRange, ReadOnly, SequenceSpent, OutOfMemory, Damaged, BusFault}
-use Rattle.ftl_device.specs.Calls.{stop_of, HoldsSector, CallTells, CallRefused, MayNot, answer_of}
-use Rattle.ftl_device.specs.Counts.{is_bad_by, IsShown, IsLeftReadOnly, is_flush}
+use Rattle.ftl_device.specs.Calls.{stop_of, ChangesOneSector, CallTells, CallRefused, MayNot, answer_of}
+use Rattle.ftl_device.specs.Counts.{is_bad_by, IsShownByRefusal, IsLeftReadOnly, is_flush}
 use Rattle.ftl_device.specs.Shortage.{LacksGood, CallShort, FlushShort}
 use Rattle.ftl_device.specs.Begin.{is_scarce}
 use Rattle.ftl_device.proofs.CountLemmas.{short_law, lacks_short, failed_counted}
@@ -30,7 +30,7 @@ use Rattle.ftl_device.proofs.CountLemmas.{short_law, lacks_short, failed_counted
 -- where the device was not to change a sector
 pub shown_refused : (r : Ram) (s : Flash) {told told' : Option Recording} (w : Went r s told r s told') (ro : Bool) (n : ℕ) (fault : DeviceFault)
     → IsRam r → IsTrue None r s.image → stop_of r.fault ≡ None → MayNot r ro n fault
-    → IsShown r.geometry r.mapping.share (is_bad_by r) r.next [] w.log ro s.image fault
+    → IsShownByRefusal r.geometry r.mapping.share (is_bad_by r) r.next [] w.log ro s.image fault
 shown_refused r s w ro n OutOfRange safe truth going not = tt
 shown_refused r s w ro n (ReadOnly good wanted failed) safe truth going not = (short_law r r w.log s.image good wanted failed safe safe refl refl w.follows truth not.short, inr (inr not.closed))
 shown_refused r s w ro n SequenceSpent safe truth going not = sym w.next ∙ not.last
@@ -41,8 +41,8 @@ shown_refused r s w ro n BusFault safe truth going not = (let no : ⊥ = cc in n
 -- where it was stopped short
 shown_at : (old r : Ram) (s t : Flash) {told told' : Option Recording} (w : Went old s told r t told') (g : Geometry) (n : ℕ) (bytes : List ℕ)
     (ro : Bool) (answer : Result (Unit {0}) CallFault) → IsRam old → r.mapping.share ≡ old.mapping.share → IsRam r → r.geometry ≡ old.geometry → CallTells old r answer
-    → CallShort old r answer → MatchResult answer (λ _. HoldsSector g n bytes s.image r t.image) (CallRefused g s.image r t.image)
-    → answer_of r (good_count old.blocks.table) answer ≢ Err BusFault → IfErr (answer_of r (good_count old.blocks.table) answer) (IsShown old.geometry old.mapping.share (is_bad_by old) old.next [] w.log ro t.image)
+    → CallShort old r answer → MatchResult answer (λ _. ChangesOneSector g n bytes s.image r t.image) (CallRefused g s.image r t.image)
+    → answer_of r (good_count old.blocks.table) answer ≢ Err BusFault → IfErr (answer_of r (good_count old.blocks.table) answer) (IsShownByRefusal old.geometry old.mapping.share (is_bad_by old) old.next [] w.log ro t.image)
 shown_at old r s t w g n bytes ro (Ok done) safe shared safe' same tells lacks so ne = tt
 shown_at old r s t w g n bytes ro (Err (call.Engine engine_fault.ReadOnly)) safe shared safe' same tells lacks so ne =
     (short_law old r w.log t.image _ _ _ safe safe' same shared w.follows so.truth (record { scarce = tells.0; good_is = refl; wanted_is = refl; failed_is = omega (arith, tells.1) }), lacks_short old r w.log safe safe' same w.follows ro lacks)
@@ -56,13 +56,13 @@ pub shown_after : {N : Type 0} (view : View N) (old e last : Engine N)
     (ro : Bool) (answer : Result (Unit {0}) CallFault) (result : Result (Unit {0}) DeviceFault) (good : ℕ) → last ≡ e → IsRam (ram old) → e.mapping.share ≡ old.mapping.share
     → IsRam (ram e) → e.geometry ≡ old.geometry → good ≡ good_count (ram old).blocks.table
     → result ≡ answer_of (ram last) good answer → CallTells (ram old) (ram e) answer → CallShort (ram old) (ram e) answer
-    → MatchResult answer (λ _. HoldsSector old.geometry n bytes (image_in view.flash old) (ram e) (image_in view.flash e))
+    → MatchResult answer (λ _. ChangesOneSector old.geometry n bytes (image_in view.flash old) (ram e) (image_in view.flash e))
     (CallRefused old.geometry (image_in view.flash old) (ram e) (image_in view.flash e))
-    → result ≢ Err BusFault → IfErr result (IsShown old.geometry old.mapping.share (is_bad_by (ram old)) old.next [] w.log ro (image_in view.flash last))
+    → result ≢ Err BusFault → IfErr result (IsShownByRefusal old.geometry old.mapping.share (is_bad_by (ram old)) old.next [] w.log ro (image_in view.flash last))
 shown_after {N} view old e last w n bytes ro answer result good same safe shared safe' sized many is tells lacks so ne =
     let whole : result ≡ answer_of (ram e) (good_count (ram old).blocks.table) answer = is ∙ (ap (λ x. answer_of (ram x) good answer) same ∙ ap (λ k. answer_of (ram e) k answer) many) in
-    let P : Engine N → Type 0 = λ x. (v : Went (ram old) (view.flash old.nand) (view.recorded old.nand) (ram x) (view.flash x.nand) (view.recorded x.nand)) → IfErr result (IsShown old.geometry old.mapping.share (is_bad_by (ram old)) old.next [] v.log ro (image_in view.flash x)) in
-    let here : P e = λ v. subst (λ y. IfErr y (IsShown old.geometry old.mapping.share (is_bad_by (ram old)) old.next [] v.log ro (image_in view.flash e))) (sym whole)
+    let P : Engine N → Type 0 = λ x. (v : Went (ram old) (view.flash old.nand) (view.recorded old.nand) (ram x) (view.flash x.nand) (view.recorded x.nand)) → IfErr result (IsShownByRefusal old.geometry old.mapping.share (is_bad_by (ram old)) old.next [] v.log ro (image_in view.flash x)) in
+    let here : P e = λ v. subst (λ y. IfErr y (IsShownByRefusal old.geometry old.mapping.share (is_bad_by (ram old)) old.next [] v.log ro (image_in view.flash e))) (sym whole)
     (shown_at (ram old) (ram e) (view.flash old.nand) (view.flash e.nand) v old.geometry n bytes ro answer safe shared safe' sized tells lacks so (λ bus. ne (whole ∙ bus))) in
     subst P (sym same) here w
 

@@ -5,7 +5,7 @@ use Rattle.page_layout.specs.Geometry.{need_at}
 use Rattle.bad_blocks.specs.Table.{good_count}
 use Rattle.budget.specs.declared.stream.Stream.{Stream}
 use Rattle.budget.specs.declared.stream.Stream.TheVariants.{Data, Meta}
-use Rattle.budget.specs.Counts.{Counts, Fits}
+use Rattle.budget.specs.Counts.{Counts, FitsGoodBlocks}
 use Rattle.budget.specs.Spending.{Spending, IsFunded, data_of, meta_of}
 use Rattle.std.proofs.Math.Nat.{mul-le-mul_right}
 use Rattle.budget.proofs.AccountLemmas.{one_page, few_openings, stuck}
@@ -26,7 +26,7 @@ use Rattle.ftl_device.specs.declared.fault.CallFault.{CallFault}
 use Rattle.ftl_device.specs.declared.fault.CallFault.TheVariants as call
 use Rattle.ftl_device.specs.declared.fault.CallFault.TheVariants.{Engine}
 use Rattle.ftl_device.specs.Begin.{is_scarce}
-use Rattle.ftl_device.specs.Calls.{Tells, HasMadeRoom}
+use Rattle.ftl_device.specs.Calls.{TellsByMemory, HasMadeRoom}
 use Rattle.ftl_device.specs.Shortage.{HasUsed, HasFoundNoBlock, LacksGood, AfterRoom, UsesRoom, FailsRoom, PlaceCosts, RoomCosts, CallRoomCosts, CallShort}
 use Rattle.ftl_device.specs.Shortage.{FlushFunded, FlushCounts, FlushShort}
 use Rattle.ftl_device.proofs.RoomLemmas.{good_fewer, goes_on}
@@ -107,7 +107,7 @@ module _ (known : Type 0) where
   pub after_room : (a b : Ram) → IsRam b → HasMadeRoom 9 false a b → (known → RoomCounts 9 0 a b (Ok tt)) → AfterRoom known a b
   after_room a b safe room h = record { safe = safe; room = room; nine = λ k. lacks_or_nine a b (h k).wanted }
 
-  pub room_refused : (fault : EngineFault) (a b : Ram) → Tells {A = Unit {0}} a b (Err fault) → (known → RoomCounts 9 0 a b (Err fault)) → RoomCosts {A = Option ℕ} known 1 a b (Err fault)
+  pub room_refused : (fault : EngineFault) (a b : Ram) → TellsByMemory {A = Unit {0}} a b (Err fault) → (known → RoomCounts 9 0 a b (Err fault)) → RoomCosts {A = Option ℕ} known 1 a b (Err fault)
   room_refused ReadOnly a b tells h = inl (record { scarce = tells.0; lacks = λ k. elim (h k) [ inl few ↦ inl (omega (arith, few)) | inr three ↦ inr (omega (arith, three)) ] })
   room_refused SequenceSpent a b tells h = tt
   room_refused Damaged a b tells h = tt
@@ -216,7 +216,7 @@ pub written_counts : (f : ℕ) (result : Result (Unit {0}) EngineFault) (a b c :
 written_counts f (Ok done) a b c s same room p = elim (lacks_or_nine a b room.wanted) [
   | inl few ↦ inl (omega (arith, few, p.put.good))
   | inr nine ↦
-      let here : Fits b.geometry.pages (counts_of b.blocks) = subst (λ (g : Geometry). Fits g.pages (counts_of b.blocks)) s.blocks_of (fits (free_count b.blocks) b.blocks s.blocks) in
+      let here : FitsGoodBlocks b.geometry.pages (counts_of b.blocks) = subst (λ (g : Geometry). FitsGoodBlocks g.pages (counts_of b.blocks)) s.blocks_of (fits (free_count b.blocks) b.blocks s.blocks) in
       let its : IsFunded b.geometry.pages p.failures (counts_of c.blocks) = put_funded Meta b.geometry.pages p.failures (counts_of b.blocks) (counts_of c.blocks) here p.put (omega arith) in
       inr (
         room.its_failures + p.failures,
@@ -241,7 +241,7 @@ unroomed_counts f Damaged a b h = tt
 unroomed_counts f Bus a b h = tt
 
 -- one page after another
-pub counts_then : (f : ℕ) (result : Result (Unit {0}) EngineFault) (a b c : Ram) → b.geometry ≡ a.geometry → b.mapping.share ≡ a.mapping.share → Tells b c result → FlushFunded f a b → ((g : ℕ) → IsFunded b.geometry.pages g (counts_of b.blocks) → FlushCounts g b c result) → FlushCounts f a c result
+pub counts_then : (f : ℕ) (result : Result (Unit {0}) EngineFault) (a b c : Ram) → b.geometry ≡ a.geometry → b.mapping.share ≡ a.mapping.share → TellsByMemory b c result → FlushFunded f a b → ((g : ℕ) → IsFunded b.geometry.pages g (counts_of b.blocks) → FlushCounts g b c result) → FlushCounts f a c result
 counts_then f (Ok done) a b c same share tells (inl few) h = inl (omega arith)
 counts_then f (Ok done) a b c same share tells (inr so) h =
     let needed : need_at b.geometry b.mapping.share ≡ need_at a.geometry a.mapping.share = rw (same, share) refl in
@@ -269,7 +269,7 @@ flush_first SequenceSpent a b h = tt
 flush_first Damaged a b h = tt
 flush_first Bus a b h = tt
 
-pub flush_room : (fault : EngineFault) (a b c : Ram) → b.geometry ≡ a.geometry → b.mapping.share ≡ a.mapping.share → Tells {A = Unit {0}} b c (Err fault)
+pub flush_room : (fault : EngineFault) (a b c : Ram) → b.geometry ≡ a.geometry → b.mapping.share ≡ a.mapping.share → TellsByMemory {A = Unit {0}} b c (Err fault)
     → FlushFunded 0 a b → ((g : ℕ) → IsFunded b.geometry.pages g (counts_of b.blocks) → RoomCounts 9 g b c (Err fault)) → FlushShort a c (Err (Engine fault))
 flush_room fault a b c same share tells so h = flush_first fault a c (counts_then 0 (Err fault) a b c same share tells so (λ g funded. unroomed_counts g fault b c (h g funded)))
 
@@ -285,7 +285,7 @@ table_room a b c same share fewer (inr its) h =
 abbrev engine_err : EngineFault → Result (Unit {0}) EngineFault
 engine_err fault = Err fault
 
-pub flush_tables : (fault : EngineFault) (a c d : Ram) → Tells {A = Unit {0}} c d (Err fault) → (engine_err fault ≡ engine_err ReadOnly → good_count d.blocks.table ≤ good_count c.blocks.table → LacksGood a d) → FlushShort a d (Err (Engine fault))
+pub flush_tables : (fault : EngineFault) (a c d : Ram) → TellsByMemory {A = Unit {0}} c d (Err fault) → (engine_err fault ≡ engine_err ReadOnly → good_count d.blocks.table ≤ good_count c.blocks.table → LacksGood a d) → FlushShort a d (Err (Engine fault))
 flush_tables ReadOnly a c d tells h = h refl tells.1
 flush_tables SequenceSpent a c d tells h = tt
 flush_tables Damaged a c d tells h = tt

@@ -23,13 +23,13 @@ use Rattle.collection.specs.Safe.{IsSafe, IsRam, is_shut, ram, image_in}
 use Rattle.collection.specs.Truth.{IsTrue}
 use Rattle.collection.specs.Results.{Refused}
 use Rattle.collection.specs.Collect.{waiting, GoesBut, GoesOn, FaultCosts, IsRearranged, HasAiling, HasNoneAiling}
-use Rattle.collection.specs.Left.{IsCalm, IsHalfDone, PinIsFew, PinHasPassed, StepsOn, StepSpends, HasStepped, PinsOn, left, left_in, left_of}
+use Rattle.collection.specs.Left.{IsCalm, IsHalfDone, PinIsFew, PinHasPassed, StepsOn, StepSpends, HasStepped, PinsOn, left, left_to_program, left_by_pin}
 use Rattle.collection.specs.Turns.{erases_told}
 use Rattle.collection.specs.declared.engine.room.Reserve.TheVariants as reserve
 use Rattle.collection.specs.Room.{IsMade, IsWorth, wanted}
 use Rattle.collection.specs.Acts.{RestsOrErases}
 use Rattle.ftl_device.specs.declared.fault.CallFault.TheVariants.{Engine as OfEngine}
-use Rattle.ftl_device.specs.Calls.{Tells, Knows, KeepsArray, CallRefused, HasWorked, KeepsBad, HasLess, HasFallen, IsQuiet}
+use Rattle.ftl_device.specs.Calls.{TellsByMemory, Knows, KeepsArray, CallRefused, HasWorked, KeepsBad, HasLess, HasFallen, IsQuiet}
 use Rattle.ftl_device.specs.Shortage.{StepCounts, HasUsed}
 use Rattle.ftl_device.proofs.SpentLemmas.{used_put, failed_at}
 use Rattle.collection.proofs.Lefts.{left_law, pin_law}
@@ -87,7 +87,7 @@ step_goes_on p a b half goes = record {
 
 -- ---- what it costs
 
-pub step_told : (p : Pinned) (a b : Ram) (fault : EngineFault) → good_count b.blocks.table ≤ good_count a.blocks.table → FaultCosts a b fault → Tells {A = Step} a b (Err fault)
+pub step_told : (p : Pinned) (a b : Ram) (fault : EngineFault) → good_count b.blocks.table ≤ good_count a.blocks.table → FaultCosts a b fault → TellsByMemory {A = Step} a b (Err fault)
 step_told p a b ReadOnly le h = (omega (arith, h.out.none.none_free), le)
 step_told p a b SequenceSpent le h = h.spent.last
 step_told p a b Damaged le h = tt
@@ -135,10 +135,10 @@ step_less p a b x y step n m safe k at h e s = by step refl
   where
     now : step ≢ Erased → left b y < left a x
     now ne =
-        let was : left a x ≡ min (left_in false a x p.block) (a.geometry.pages - 1) = ap (λ o. left_of o a x) at in
+        let was : left a x ≡ min (left_to_program false a x p.block) (a.geometry.pages - 1) = ap (λ o. left_by_pin o a x) at in
         let below = left_law a x p safe k.truth (k.few p at) in
         let pin = stays_pinned p a.geometry.pages b.pin.block step h.next ne in
-        let l : left b y ≡ min (left_in false b y p.block) (b.geometry.pages - 1) = ap (λ o. left_of o b y) pin.1 in
+        let l : left b y ≡ min (left_to_program false b y p.block) (b.geometry.pages - 1) = ap (λ o. left_by_pin o b y) pin.1 in
         omega (arith, l, was, below, s.left ne)
 
     by : (its : Step) → step ≡ its → HasRisen n m ⊎ (left b y < left a x)
@@ -212,10 +212,10 @@ module _ {N : Type 0} (view : View N) (e f : Engine N) (block : ℕ) (is : f ≡
   less_pinned new none safe half k (inl rose) = inl (subst (λ n. HasRisen n (view.erases new.nand)) (ap (λ (z : Engine N). view.erases z.nand) is) rose)
   less_pinned new none safe half k (inr less) =
       let at : f.pinned ≡ Some (record { block = block; first = 0 }) = ap (λ (z : Engine N). z.pinned) is in
-      let l : left (ram f) (image_in view.flash f) ≡ min (left_in false (ram f) (image_in view.flash f) block) (f.geometry.pages - 1) = ap (λ o. left_of o (ram f) (image_in view.flash f)) at in
+      let l : left (ram f) (image_in view.flash f) ≡ min (left_to_program false (ram f) (image_in view.flash f) block) (f.geometry.pages - 1) = ap (λ o. left_by_pin o (ram f) (image_in view.flash f)) at in
       let g : f.geometry ≡ e.geometry = ap (λ (z : Engine N). z.geometry) is in
       let pages : f.geometry.pages ≡ e.geometry.pages = ap (λ (h : Geometry). h.pages) g in
-      let was : left (ram e) (image_in view.flash e) ≡ e.geometry.pages - 1 = ap (λ o. left_of o (ram e) (image_in view.flash e)) none in
+      let was : left (ram e) (image_in view.flash e) ≡ e.geometry.pages - 1 = ap (λ o. left_by_pin o (ram e) (image_in view.flash e)) none in
       inr (omega (arith, less, l, pages, was))
 
   pub goes_pinned : (new : Engine N) → GoesOn (ram f) (ram new) → GoesOn (ram e) (ram new)

@@ -11,7 +11,7 @@ use Rattle.page_layout.specs.Flash.{Flash, Operation}
 use Rattle.page_layout.specs.Recording.{Recording, Records, EndsAt}
 use Rattle.page_layout.proofs.ArrayLemmas.{slice_get-set_same, slice_get-set_other}
 use Rattle.mapping_cache.specs.Mapping.{HasLimitsOf}
-use Rattle.promises.specs.Step.{State, Command, Read, Write, Flush, Turn, WriteStep, ArrayStep}
+use Rattle.promises.specs.Step.{ArrayState, Command, Read, Write, Flush, Turn, WriteStep, ArrayStep}
 use Rattle.promises.specs.Stop.{CutShort, ErasesDead, LeavesOnly, MayLeave}
 use Rattle.promises.proofs.StopLemmas.{leaves_nothing}
 use Rattle.promises.proofs.CutLemmas.{cut_join, cut_more}
@@ -152,7 +152,7 @@ module _ {N : Type 0} (view : View N) where
 
     -- one that puts a page of a sector, which gives it these bytes
     pub cut_put : (kind : Kind) (n : ℕ) (body bytes : List ℕ) → changes_sector command ≡ true → n < old.geometry.sectors → ((xs : List (List ℕ)) → array_after old.geometry kind n body xs ≡ slice_set xs n bytes)
-        → ((s : State) → WriteStep old.geometry (record { array = array_of old.geometry (image_in view.flash old); ro = false }) n bytes (reply_of (Ok tt)) s → ArrayStep old.geometry (record { array = array_of old.geometry (image_in view.flash old); ro = false }) command (reply_of (Ok tt)) s)
+        → ((s : ArrayState) → WriteStep old.geometry (record { array = array_of old.geometry (image_in view.flash old); ro = false }) n bytes (reply_of (Ok tt)) s → ArrayStep old.geometry (record { array = array_of old.geometry (image_in view.flash old); ro = false }) command (reply_of (Ok tt)) s)
         → Cuts view (IsPutByStop kind n body (ram old) (image_in view.flash old)) old new → CutShort (view.flash old.nand) (view.recorded old.nand) (view.recorded new.nand) (SurvivesCut old.geometry (room_of (ram old)) command (image_in view.flash old))
     cut_put kind n body bytes its within gives takes cut = cut_whole old.geometry (view.flash old.nand) (view.recorded old.nand) (view.recorded new.nand)
         (IsPutByStop kind n body (ram old) (image_in view.flash old)) (SurvivesCut old.geometry (room_of (ram old)) command (image_in view.flash old)) safe.geometry

@@ -11,7 +11,7 @@ use Rattle.collection.specs.declared.fault.EngineFault.TheVariants.{ReadOnly, Se
 use Rattle.collection.specs.State.{Ram}
 use Rattle.collection.specs.Safe.{IsRam, ram, image_in}
 use Rattle.collection.specs.Truth.{IsTrue}
-use Rattle.collection.specs.Left.{PinIsFew, left, left_in, left_of}
+use Rattle.collection.specs.Left.{PinIsFew, left, left_to_program, left_by_pin}
 use Rattle.collection.proofs.Lefts.{left_law}
 use Rattle.ftl_device.specs.Calls.{PinIsTrue, HasFallen, LeftBelowLaw, TurnsLaw, stop_of}
 use Rattle.ftl_device.proofs.PinLemmas.{few_more}
@@ -19,8 +19,8 @@ use Rattle.ftl_device.proofs.PinLemmas.{few_more}
 -- ---- less is left than a block has pages
 
 below_by : (o : Option Pinned) (r : Ram) (x : Image) → IsRam r → IsTrue None r x → r.pin.block ≡ o → PinIsFew 1 r → left r x < r.geometry.pages
-below_by None r x s w at few = (let l : left r x ≡ r.geometry.pages - 1 = ap (λ o. left_of o r x) at in omega (arith, l, r.geometry.limits.page_count.least))
-below_by (Some p) r x s w at few = (let l : left r x ≡ min (left_in false r x p.block) (r.geometry.pages - 1) = ap (λ o. left_of o r x) at in omega (arith, l, r.geometry.limits.page_count.least))
+below_by None r x s w at few = (let l : left r x ≡ r.geometry.pages - 1 = ap (λ o. left_by_pin o r x) at in omega (arith, l, r.geometry.limits.page_count.least))
+below_by (Some p) r x s w at few = (let l : left r x ≡ min (left_to_program false r x p.block) (r.geometry.pages - 1) = ap (λ o. left_by_pin o r x) at in omega (arith, l, r.geometry.limits.page_count.least))
 
 left_below : (r : Ram) (x : Image) → IsRam r → IsTrue None r x → PinIsTrue r.fault r x → stop_of r.fault ≡ None → r.fault ≢ Some ReadOnly → left r x < r.geometry.pages
 left_below r x s w its going ne = at r.fault refl

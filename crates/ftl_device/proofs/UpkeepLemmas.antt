@@ -10,7 +10,7 @@ use Rattle.page_layout.specs.Array.{array_of}
 use Rattle.page_layout.specs.Version.{AddsNoOld}
 use Rattle.bad_blocks.specs.Table.{good_count}
 use Rattle.allocation.specs.State.{free_count}
-use Rattle.promises.specs.Step.{State, Command, Reply, QuietStep, ArrayStep}
+use Rattle.promises.specs.Step.{ArrayState, Command, Reply, QuietStep, ArrayStep}
 use Rattle.collection.specs.declared.engine.Engine.{Engine}
 use Rattle.collection.specs.declared.fault.EngineFault.TheVariants as engine_fault
 use Rattle.collection.specs.State.{Ram}
@@ -39,10 +39,10 @@ use Rattle.ftl_device.proofs.StoppedLemmas.{cut_kept, dead_call, stopped_call, s
 -- ---- a step of the array that changes no sector
 
 module _ (g h : Geometry) (before after : Image) (old new : Ram) (ro on : Bool) (good : ℕ) (writable : ro ≡ false) (flag : on ≡ is_scarce (free_count new.blocks)) (same : h ≡ g) where
-  abbrev state_now : State
+  abbrev state_now : ArrayState
   state_now = record { array = array_of h after; ro = on }
 
-  abbrev state_was : State
+  abbrev state_was : ArrayState
   state_was = record { array = array_of g before; ro = ro }
 
   kept_now : array_of g after ≡ array_of g before → array_of h after ≡ array_of g before
@@ -108,7 +108,7 @@ module _ {N : Type 0} (view : View N) (command : Command) (old : Device N) where
         → is_flush command ≡ true → OnOk answer (IsFlushedOut (first_of (ram old.engine)) w.log (image_in view.flash e))
 
   module _ (new : Device N) (device : IsDevice view.flash old) (device' : IsDevice view.flash new) (may : MayFlush (ram old.engine) old.read_only)
-      (takes : (reply : Reply) (s : State) → QuietStep (state_in view.flash old) reply s → ArrayStep old.engine.geometry (state_in view.flash old) command reply s) where
+      (takes : (reply : Reply) (s : ArrayState) → QuietStep (state_in view.flash old) reply s → ArrayStep old.engine.geometry (state_in view.flash old) command reply s) where
     module _ (answer : Result (Unit {0}) CallFault) (k : IsUpkept answer new.engine) where
       abbrev replied : Result (Unit {0}) DeviceFault
       replied = answer_of (ram new.engine) good_then answer
@@ -216,7 +216,7 @@ module _ (r : Ram) (ro : Bool) where
   refused_otherwise Damaged not = (λ e. (let no : ⊥ = cc in no), λ e. (let no : ⊥ = cc in no))
   refused_otherwise BusFault not = (λ e. (let no : ⊥ = cc in no), λ e. (let no : ⊥ = cc in no))
 
-  quiet_refusal : (s : State) (fault : DeviceFault) → s.ro ≡ ro → MayNotFlush r ro fault → stop_of r.fault ≡ None → QuietStep s (reply_of (Err fault)) s
+  quiet_refusal : (s : ArrayState) (fault : DeviceFault) → s.ro ≡ ro → MayNotFlush r ro fault → stop_of r.fault ≡ None → QuietStep s (reply_of (Err fault)) s
   quiet_refusal s OutOfRange same not going = absurd not
   quiet_refusal s (ReadOnly good wanted lost) same not going = record { array_is = refl; read_only = same ∙ not.closed }
   quiet_refusal s SequenceSpent same not going = record { writable = same ∙ not.writable; array_is = refl }
@@ -225,7 +225,7 @@ module _ (r : Ram) (ro : Bool) where
   quiet_refusal s BusFault same not going = (let no : ⊥ = cc in absurd no)
 
 module _ {N : Type 0} (view : View N) (command : Command) (old : Device N) (device : IsDevice view.flash old)
-    (takes : (reply : Reply) (s : State) → QuietStep (state_in view.flash old) reply s → ArrayStep old.engine.geometry (state_in view.flash old) command reply s) where
+    (takes : (reply : Reply) (s : ArrayState) → QuietStep (state_in view.flash old) reply s → ArrayStep old.engine.geometry (state_in view.flash old) command reply s) where
   pub not_upkept : (fault : DeviceFault) → MayNotFlush (ram old.engine) old.read_only fault → Upkeeps view command old (Err fault) old
   not_upkept fault not = record {
     stays = stays_same view old;

@@ -5,7 +5,7 @@ use Rattle.page_layout.specs.declared.geometry.Geometry.{Geometry}
 use Rattle.page_layout.specs.Page.{Image, IsImage}
 use Rattle.bad_blocks.specs.Table.{good_count}
 use Rattle.certificate.specs.declared.block_state.BlockState.{BlockState}
-use Rattle.certificate.specs.Claim.{Claim, is_good, good_blocks}
+use Rattle.certificate.specs.Claim.{Claim, is_good_state, good_blocks}
 use Rattle.certificate.specs.Spelling.{Fits}
 use Rattle.mapping_cache.specs.declared.slot.Slot.{Slot}
 use Rattle.mapping_cache.specs.Mapping.{MappingState}
@@ -50,15 +50,15 @@ no_block = record { class = 0; pointer = 0; live = 0; wear = 0 }
 
 -- the blocks to which the certificate gives class 4 or 5
 abbrev pub is_bad_in : Claim → ℕ → Bool
-is_bad_in c block = not (is_good (get_or c.blocks block no_block))
+is_bad_in c block = not (is_good_state (get_or c.blocks block no_block))
 
 -- the erase counts that the certificate gives
-abbrev pub wear_in : Claim → ℕ → ℕ
-wear_in c block = (get_or c.blocks block no_block).wear
+abbrev pub certified_wear : Claim → ℕ → ℕ
+certified_wear c block = (get_or c.blocks block no_block).wear
 
 -- how many blocks are free: neither bad by the certificate nor with a page programmed
 abbrev pub free_in : Geometry → Claim → Image → ℕ
-free_in g c image = logs.free_count g (is_bad_in c) [] image
+free_in g c image = logs.free_count_after g (is_bad_in c) [] image
 
 -- fewer than five blocks are free
 abbrev pub is_scarce : ℕ → Bool
@@ -71,13 +71,13 @@ abbrev pub BeginLaw : Type 0
 BeginLaw = (g : Geometry) (share capacity : ℕ) (image : Image) (c : Claim) → IsImage g image → Agrees g capacity image c → IsTrue None (begun_ram g share c (stale_sectors g image)) image
 
 -- the free blocks are those that the image shows
-abbrev pub FreeLaw : Type 0
-FreeLaw = (g : Geometry) (capacity : ℕ) (image : Image) (c : Claim) → IsImage g image → Agrees g capacity image c → blocks.free_count (begun g c.blocks) ≡ free_in g c image
+abbrev pub FreeAsShownLaw : Type 0
+FreeAsShownLaw = (g : Geometry) (capacity : ℕ) (image : Image) (c : Claim) → IsImage g image → Agrees g capacity image c → blocks.free_count (begun g c.blocks) ≡ free_in g c image
 
 -- the good blocks are those to which the certificate gives no bad class
-abbrev pub GoodLaw : Type 0
-GoodLaw = (g : Geometry) (c : Claim) → Fits c → good_count (begun g c.blocks).table ≡ good_blocks c
+abbrev pub GoodByClaimLaw : Type 0
+GoodByClaimLaw = (g : Geometry) (c : Claim) → Fits c → good_count (begun g c.blocks).table ≡ good_blocks c
 
 -- a log that begins with this image has the accounts of the blocks that the memory has
-abbrev pub AccountsLaw : Type 0
-AccountsLaw = (g : Geometry) (capacity : ℕ) (image : Image) (c : Claim) → IsImage g image → Agrees g capacity image c → IsAccounted (accounts_of g image (is_bad_in c)) (begun g c.blocks)
+abbrev pub BegunAccountsLaw : Type 0
+BegunAccountsLaw = (g : Geometry) (capacity : ℕ) (image : Image) (c : Claim) → IsImage g image → Agrees g capacity image c → IsAccounted (accounts_of g image (is_bad_in c)) (begun g c.blocks)

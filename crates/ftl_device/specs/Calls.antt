@@ -20,7 +20,7 @@ use Rattle.mapping_cache.specs.Mapping.{MappingState, CanLoad, slot_of, loaded}
 use Rattle.image_check.specs.Stale.{is_stale}
 use Rattle.image_check.specs.Mountable.{IsMountable}
 use Rattle.promises.specs.Step as step
-use Rattle.promises.specs.Step.{State, Reply, Command, Read, Write, Trim, Flush, Turn}
+use Rattle.promises.specs.Step.{ArrayState, Reply, Command, Read, Write, Trim, Flush, Turn}
 use Rattle.collection.specs.declared.fault.EngineFault.{EngineFault}
 use Rattle.collection.specs.declared.fault.EngineFault.TheVariants as engine_fault
 use Rattle.collection.specs.declared.engine.Engine as engines
@@ -48,7 +48,7 @@ use Rattle.ftl_device.specs.declared.fault.DeviceFault.TheVariants.{OutOfRange, 
 abbrev pub array_in : {N : Type 0} → (N → Flash) → Device N → List (List ℕ)
 array_in flash d = array_of d.engine.geometry (image_in flash d.engine)
 
-abbrev pub state_in : {N : Type 0} → (N → Flash) → Device N → State
+abbrev pub state_in : {N : Type 0} → (N → Flash) → Device N → ArrayState
 state_in flash d = record { array = array_in flash d; ro = d.read_only }
 
 -- ---- what it answers
@@ -72,13 +72,13 @@ read_reply_of bytes (Ok done) = step.DoneWith bytes
 read_reply_of bytes (Err fault) = reply_of_fault fault
 
 -- the faults by their numbers
-abbrev pub number_of : DeviceFault → ℕ
-number_of OutOfRange = 1
-number_of (ReadOnly good wanted failed) = 2
-number_of SequenceSpent = 3
-number_of OutOfMemory = 4
-number_of Damaged = 5
-number_of BusFault = 6
+abbrev pub device_fault_number : DeviceFault → ℕ
+device_fault_number OutOfRange = 1
+device_fault_number (ReadOnly good wanted failed) = 2
+device_fault_number SequenceSpent = 3
+device_fault_number OutOfMemory = 4
+device_fault_number Damaged = 5
+device_fault_number BusFault = 6
 
 -- what a device answers ever after that was stopped: a call that changes sectors found damage, or the die gave no outcome
 abbrev pub stop_of : Option EngineFault → Option DeviceFault
@@ -151,7 +151,7 @@ pub record HasMadeRoom (many : ℕ) (flushing : Bool) (old new : Ram) : Type 0 w
   pub calm : IsCalm new
 
 -- room was made, and then a place for a sector's entry
-pub record IsReady (n : ℕ) (old new : Ram) : Type 0 where
+pub record HasMadeRoomAndPlace (n : ℕ) (old new : Ram) : Type 0 where
   pub mid : Ram
   pub room : HasMadeRoom 9 false old mid
   pub place : HasMadePlace n mid new
@@ -181,12 +181,12 @@ order_after m n = keys_of (loaded m n None).cached
 -- ---- inside a call that changes a sector
 
 -- what the engine's memory tells of each answer
-abbrev pub Tells : {A : Type 0} → Ram → Ram → Result A EngineFault → Type 0
-Tells old new (Ok answer) = good_count new.blocks.table ≤ good_count old.blocks.table
-Tells old new (Err engine_fault.ReadOnly) = (free_count new.blocks < 5) × (good_count new.blocks.table ≤ good_count old.blocks.table)
-Tells old new (Err engine_fault.SequenceSpent) = new.next ≡ 2 ^ 64 - 1
-Tells old new (Err engine_fault.Damaged) = Unit {0}
-Tells old new (Err engine_fault.Bus) = Unit {0}
+abbrev pub TellsByMemory : {A : Type 0} → Ram → Ram → Result A EngineFault → Type 0
+TellsByMemory old new (Ok answer) = good_count new.blocks.table ≤ good_count old.blocks.table
+TellsByMemory old new (Err engine_fault.ReadOnly) = (free_count new.blocks < 5) × (good_count new.blocks.table ≤ good_count old.blocks.table)
+TellsByMemory old new (Err engine_fault.SequenceSpent) = new.next ≡ 2 ^ 64 - 1
+TellsByMemory old new (Err engine_fault.Damaged) = Unit {0}
+TellsByMemory old new (Err engine_fault.Bus) = Unit {0}
 
 -- the array is as it was, what is known of the image is so and, where the die has version 2, no newest page of version 1 is added
 pub record KeepsArray (g : Geometry) (before : Image) (new : Ram) (after : Image) : Type 0 where
@@ -195,7 +195,7 @@ pub record KeepsArray (g : Geometry) (before : Image) (new : Ram) (after : Image
   pub versions : AddsNoOld g before after
 
 -- the same where a fault stands: of a pinned block nothing is known
-pub record KeepsSectors (g : Geometry) (before : Image) (new : Ram) (after : Image) : Type 0 where
+pub record KeepsArrayAtFault (g : Geometry) (before : Image) (new : Ram) (after : Image) : Type 0 where
   pub truth : IsTrue None new after
   pub array : array_of g after ≡ array_of g before
   pub versions : AddsNoOld g before after
@@ -208,7 +208,7 @@ pub record KeepsFew (g : Geometry) (before : Image) (new : Ram) (after : Image) 
   pub few : PinIsFew 1 new
 
 -- and the row is that of the sector's newest page
-pub record IsFound (n : ℕ) (row : Option ℕ) (g : Geometry) (before : Image) (new : Ram) (after : Image) : Type 0 where
+pub record FindsNewestRow (n : ℕ) (row : Option ℕ) (g : Geometry) (before : Image) (new : Ram) (after : Image) : Type 0 where
   pub keeps : KeepsArray g before new after
   pub row_is : row ≡ newest_row after (Sector n)
 
@@ -229,14 +229,14 @@ standing_after (Err call.OutOfMemory) = None
 
 -- what is true of the image where it was refused
 abbrev pub CallRefused : Geometry → Image → Ram → Image → CallFault → Type 0
-CallRefused g before new after (Engine engine_fault.ReadOnly) = KeepsSectors g before new after
+CallRefused g before new after (Engine engine_fault.ReadOnly) = KeepsArrayAtFault g before new after
 CallRefused g before new after (Engine engine_fault.SequenceSpent) = KeepsFew g before new after
 CallRefused g before new after (Engine engine_fault.Damaged) = ⊥
 CallRefused g before new after (Engine engine_fault.Bus) = Unit {0}
 CallRefused g before new after call.OutOfMemory = KeepsArray g before new after
 
 -- sector n holds these bytes, all others what they held, and no newest page of version 1 is added
-pub record HoldsSector (g : Geometry) (n : ℕ) (bytes : List ℕ) (before : Image) (new : Ram) (after : Image) : Type 0 where
+pub record ChangesOneSector (g : Geometry) (n : ℕ) (bytes : List ℕ) (before : Image) (new : Ram) (after : Image) : Type 0 where
   pub truth : Knows new after
   pub array : array_of g after ≡ slice_set (array_of g before) n bytes
   pub versions : AddsNoOld g before after

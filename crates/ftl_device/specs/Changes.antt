@@ -21,7 +21,7 @@ use Rattle.collection.specs.declared.engine.Engine.{Engine}
 use Rattle.collection.specs.declared.fault.EngineFault.{EngineFault}
 use Rattle.collection.specs.declared.fault.EngineFault.TheVariants.{Bus}
 use Rattle.collection.specs.State.{Ram}
-use Rattle.collection.specs.Safe.{IsSafe, ram, image_in, page_in}
+use Rattle.collection.specs.Safe.{IsSafe, ram, image_in, page_in_buffer}
 use Rattle.collection.specs.Left.{IsCalm}
 use Rattle.collection.specs.Collect.{GoesOn, KeepsKeys}
 use Rattle.collection.specs.Cost.{HasPut}
@@ -34,8 +34,8 @@ use Rattle.ftl_device.specs.declared.fault.CallFault.{CallFault}
 use Rattle.ftl_device.specs.declared.fault.CallFault.TheVariants as call
 use Rattle.ftl_device.specs.declared.fault.DeviceFault.{DeviceFault}
 use Rattle.ftl_device.specs.declared.fault.DeviceFault.TheVariants.{OutOfRange, ReadOnly, SequenceSpent, OutOfMemory, Damaged, BusFault}
-use Rattle.ftl_device.specs.Calls.{state_in, reply_of, stop_of, IsWell, Says, Tells, CallTells, standing_after, IsMostRecent, IsReady, HasCost, HasPageOf, IsLastOf, order_after, Knows, KeepsArray, HoldsSector, KeepsBad, CallRefused}
-use Rattle.ftl_device.specs.Counts.{is_bad_by, is_flush, IsShown, IsLeftReadOnly}
+use Rattle.ftl_device.specs.Calls.{state_in, reply_of, stop_of, IsWell, Says, TellsByMemory, CallTells, standing_after, IsMostRecent, HasMadeRoomAndPlace, HasCost, HasPageOf, IsLastOf, order_after, Knows, KeepsArray, ChangesOneSector, KeepsBad, CallRefused}
+use Rattle.ftl_device.specs.Counts.{is_bad_by, is_flush, IsShownByRefusal, IsLeftReadOnly}
 use Rattle.ftl_device.specs.Read.{IsLookedUp}
 use Rattle.ftl_device.specs.Flush.{first_of, IsFlushedOut}
 use Rattle.ftl_device.specs.Shortage.{HasFunds, CallRoomCosts, StepCounts}
@@ -72,7 +72,7 @@ pub record EngineLeaves {A N : Type 0} (view : View N) (old : Engine N)
   pub geometry : new.geometry ≡ old.geometry
   pub die : StaysDie view old.nand new.nand
   pub rose : result ≡ Err Bus → HasRisen (view.failed old.nand) (view.failed new.nand)
-  pub tells : Tells (ram old) (ram new) result
+  pub tells : TellsByMemory (ram old) (ram new) result
   pub went : view.honest old.nand ≡ true → result ≢ Err Bus → Went (ram old) (view.flash old.nand) (view.recorded old.nand) (ram new) (view.flash new.nand) (view.recorded new.nand)
   pub stops : view.honest old.nand ≡ true → Knows (ram old) (image_in view.flash old) → result ≢ Err Bus → StopsSafely view old new
   pub cut : view.honest old.nand ≡ true → Knows (ram old) (image_in view.flash old) → result ≡ Err Bus → CutsSafely view old new
@@ -107,7 +107,7 @@ PinsNone (Err call.OutOfMemory) old new = old.pinned ≡ None → new.pinned ≡
 pub record Readies {N : Type 0} (view : View N) (n pages : ℕ) (old : Engine N) (result : Result (Unit {0}) CallFault) (new : Engine N) : Type 0 where
   pub recent : OnOk result (IsMostRecent n new.mapping)
   pub keys : OnOk result (keys_of new.mapping.cached ≡ order_after old.mapping n)
-  pub unwritten : result ≡ Err call.OutOfMemory → IsReady n (ram old) (ram new)
+  pub unwritten : result ≡ Err call.OutOfMemory → HasMadeRoomAndPlace n (ram old) (ram new)
   pub same_keys : result ≡ Err call.OutOfMemory → keys_of new.mapping.cached ≡ keys_of old.mapping.cached
   pub cached : IsSome (slot_of old.mapping n) → result ≢ Err call.OutOfMemory
   pub costs : CallRoomCosts (HasFunds (view.honest old.nand) (ram old) (image_in view.flash old)) pages (ram old) (ram new) result
@@ -117,7 +117,7 @@ pub record Readies {N : Type 0} (view : View N) (n pages : ℕ) (old : Engine N)
 -- entries gives it, a sound translation page. Then its new row was set, and no other.
 pub record HasLookedUp (n : ℕ) (old new : Ram) (entries_page : Page) : Type 0 where
   pub mid : Ram
-  pub ready : IsReady n old mid
+  pub ready : HasMadeRoomAndPlace n old mid
   pub looked_up : IsLookedUp n old mid entries_page
   pub put : HasPut Data mid new
   pub settled : HasSettled n mid new
@@ -128,12 +128,12 @@ pub record EndsChange {N : Type 0} (view : View N) (kind : Kind) (n : ℕ) (body
   pub cut : view.honest old.nand ≡ true → Knows (ram old) (image_in view.flash old) → result ≡ Err (call.Engine Bus) → Cuts view (IsPutByStop kind n body (ram old) (image_in view.flash old)) old new
   pub readies : Readies view n 2 old result new
   pub cost : OnOk result (HasCost n (ram old) (ram new))
-  pub checked : OnOk result (HasLookedUp n (ram old) (ram new) (page_in new.scratch))
-  pub page : OnOk result (IsLastOf old.geometry command (ram new) (page_in new.page))
+  pub checked : OnOk result (HasLookedUp n (ram old) (ram new) (page_in_buffer new.scratch))
+  pub page : OnOk result (IsLastOf old.geometry command (ram new) (page_in_buffer new.page))
   pub newest : view.honest old.nand ≡ true → Knows (ram old) (image_in view.flash old) → OnOk result (HasPageOf old.geometry command (ram new) (image_in view.flash new))
   pub truth : view.honest old.nand ≡ true → Knows (ram old) (image_in view.flash old)
       → MatchResult result
-      (λ done. HoldsSector old.geometry n body (image_in view.flash old) (ram new) (image_in view.flash new))
+      (λ done. ChangesOneSector old.geometry n body (image_in view.flash old) (ram new) (image_in view.flash new))
       (CallRefused old.geometry (image_in view.flash old) (ram new) (image_in view.flash new))
 
 -- and of a step of a collection that a turn takes: bad blocks get no page; where the die is honest the array stays
@@ -168,7 +168,7 @@ pub record Stays {N : Type 0} (view : View N) (old new : Device N) : Type 0 wher
   pub failed_is : view.failed old.engine.nand ≤ view.failed new.engine.nand
 
 -- what a refusal tells of the memory, and what a device that was stopped or is read-only answers
-pub record Refuses {N : Type 0} (failed : N → ℕ) (old : Device N) (result : Result (Unit {0}) DeviceFault) (new : Device N) : Type 0 where
+pub record RefusesCall {N : Type 0} (failed : N → ℕ) (old : Device N) (result : Result (Unit {0}) DeviceFault) (new : Device N) : Type 0 where
   pub stopped : ForSome (stop_of old.engine.fault) (λ fault. (result ≡ Err fault) × (new ≡ old))
   pub closed : old.read_only ≡ true → new ≡ old
   pub says : IfErr result (Says (ram old.engine) (ram new.engine))
@@ -198,10 +198,10 @@ pub record ProgramsSector {N : Type 0} (view : View N) (n : ℕ) (command : Comm
   pub recent : OnOk result (IsMostRecent n new.engine.mapping)
   pub keys : OnOk result (keys_of new.engine.mapping.cached ≡ order_after old.engine.mapping n)
   pub cost : OnOk result (HasCost n (ram old.engine) (ram new.engine))
-  pub checked : OnOk result (HasLookedUp n (ram old.engine) (ram new.engine) (page_in new.engine.scratch))
-  pub page : OnOk result (IsLastOf old.engine.geometry command (ram new.engine) (page_in new.engine.page))
+  pub checked : OnOk result (HasLookedUp n (ram old.engine) (ram new.engine) (page_in_buffer new.engine.scratch))
+  pub page : OnOk result (IsLastOf old.engine.geometry command (ram new.engine) (page_in_buffer new.engine.page))
   pub newest : view.honest old.engine.nand ≡ true → IsWell view.flash old → OnOk result (HasPageOf old.engine.geometry command (ram new.engine) (image_in view.flash new.engine))
-  pub unwritten : result ≡ Err OutOfMemory → IsReady n (ram old.engine) (ram new.engine)
+  pub unwritten : result ≡ Err OutOfMemory → HasMadeRoomAndPlace n (ram old.engine) (ram new.engine)
   pub same_keys : result ≡ Err OutOfMemory → keys_of new.engine.mapping.cached ≡ keys_of old.engine.mapping.cached
 
 -- AN ANSWER AFTER WHICH A COLLECTION MAY BE LEFT HALF DONE that was not under way: one after which the device changes no sector any more
@@ -223,7 +223,7 @@ LeavesUnpinned old result new = old.engine.pinned ≡ None → IsSome new.engine
 -- THE LOG OF A CALL, and what its answer says of that log
 pub record Logs {N : Type 0} (view : View N) (command : Command) (old : Device N) (result : Result (Unit {0}) DeviceFault) (new : Device N) : Type 0 where
   pub went : Went (ram old.engine) (view.flash old.engine.nand) (view.recorded old.engine.nand) (ram new.engine) (view.flash new.engine.nand) (view.recorded new.engine.nand)
-  pub shown : IsWell view.flash old → IfErr result (IsShown old.engine.geometry old.engine.mapping.share (is_bad_by (ram old.engine)) old.engine.next [] went.log old.read_only (image_in view.flash new.engine))
+  pub shown : IsWell view.flash old → IfErr result (IsShownByRefusal old.engine.geometry old.engine.mapping.share (is_bad_by (ram old.engine)) old.engine.next [] went.log old.read_only (image_in view.flash new.engine))
   pub left : IsWell view.flash old → new.read_only ≡ true → IsLeftReadOnly command old.engine.geometry old.engine.mapping.share (is_bad_by (ram old.engine)) [] went.log old.read_only result
   pub flushed : IsWell view.flash old → is_flush command ≡ true → result ≡ Ok tt → IsFlushedOut (first_of (ram old.engine)) went.log (image_in view.flash new.engine)
   pub stopped : IsWell view.flash old
@@ -238,8 +238,8 @@ pub record Means {N : Type 0} (flash : N → Flash) (command : Command) (old : D
   pub mountable : room_of (ram old.engine) ≤ 65536 → IsMountable old.engine.geometry (room_of (ram old.engine)) (image_in flash new.engine)
 
 -- A CALL THAT A FAULT OF THE DIE ENDED, where it had not stopped before: whatever the die is left with, as its record tells, holds the array from before, or of a write or a trim the one that it would have left
-abbrev pub IsCut : {N : Type 0} → View N → Command → (old new : Device N) → Type 0
-IsCut view command old new = CutShort (view.flash old.engine.nand) (view.recorded old.engine.nand) (view.recorded new.engine.nand)
+abbrev pub IsCallCut : {N : Type 0} → View N → Command → (old new : Device N) → Type 0
+IsCallCut view command old new = CutShort (view.flash old.engine.nand) (view.recorded old.engine.nand) (view.recorded new.engine.nand)
     (SurvivesCut old.engine.geometry (room_of (ram old.engine)) command (image_in view.flash old.engine))
 
 -- ---- the whole
@@ -247,20 +247,20 @@ IsCut view command old new = CutShort (view.flash old.engine.nand) (view.recorde
 -- A CALL THAT CHANGES A SECTOR
 pub record Changes {N : Type 0} (view : View N) (n : ℕ) (command : Command) (old : Device N) (result : Result (Unit {0}) DeviceFault) (new : Device N) : Type 0 where
   pub stays : Stays view old new
-  pub refuses : Refuses view.failed old result new
+  pub refuses : RefusesCall view.failed old result new
   pub refuses_sector : RefusesSector n old result new
   pub programs : ProgramsSector view n command old result new
   pub pins : LeavesUnpinned old result new
   pub logs : view.honest old.engine.nand ≡ true → result ≢ Err BusFault → Logs view command old result new
-  pub cut : view.honest old.engine.nand ≡ true → IsWell view.flash old → stop_of old.engine.fault ≡ None → result ≡ Err BusFault → IsCut view command old new
+  pub cut : view.honest old.engine.nand ≡ true → IsWell view.flash old → stop_of old.engine.fault ≡ None → result ≡ Err BusFault → IsCallCut view command old new
   pub means : view.honest old.engine.nand ≡ true → IsWell view.flash old → result ≢ Err BusFault → Means view.flash command old result new
   pub stale : view.honest old.engine.nand ≡ true → IsWell view.flash old → old.engine.mapping.share ≡ 0 → old.engine.pinned ≡ None → is_stale old.engine.geometry (image_in view.flash old.engine) n ≡ true → result ≢ Err OutOfMemory
 
 -- A CALL THAT CHANGES NO SECTOR: a flush, or a turn
 pub record Upkeeps {N : Type 0} (view : View N) (command : Command) (old : Device N) (result : Result (Unit {0}) DeviceFault) (new : Device N) : Type 0 where
   pub stays : Stays view old new
-  pub refuses : Refuses view.failed old result new
+  pub refuses : RefusesCall view.failed old result new
   pub refuses_upkeep : RefusesUpkeep old result new
   pub logs : view.honest old.engine.nand ≡ true → result ≢ Err BusFault → Logs view command old result new
-  pub cut : view.honest old.engine.nand ≡ true → IsWell view.flash old → stop_of old.engine.fault ≡ None → result ≡ Err BusFault → IsCut view command old new
+  pub cut : view.honest old.engine.nand ≡ true → IsWell view.flash old → stop_of old.engine.fault ≡ None → result ≡ Err BusFault → IsCallCut view command old new
   pub means : view.honest old.engine.nand ≡ true → IsWell view.flash old → result ≢ Err BusFault → Means view.flash command old result new

@@ -12,7 +12,7 @@ use Rattle.promises.specs.Step.{Command, Read, Write, Trim, Flush, Turn}
 use Rattle.collection.specs.State.{Ram}
 use Rattle.collection.specs.Safe.{IsRam}
 use Rattle.collection.specs.Truth.{IsTrue}
-use Rattle.collection.specs.Log.{Follows}
+use Rattle.collection.specs.Log.{FollowsLog}
 use Rattle.ftl_device.specs.declared.fault.DeviceFault.{DeviceFault}
 use Rattle.ftl_device.specs.declared.fault.DeviceFault.TheVariants.{OutOfRange, ReadOnly, SequenceSpent, OutOfMemory, Damaged, BusFault}
 use Rattle.ftl_device.specs.Calls.{IsShortOf}
@@ -23,29 +23,29 @@ is_bad_by r block = not (is_good_at r.blocks.table block)
 
 -- how many blocks are free and how many are good, by the image and the blocks that the memory counts as bad
 abbrev pub free_by : Ram → Image → ℕ
-free_by r image = logs.free_count r.geometry (is_bad_by r) [] image
+free_by r image = logs.free_count_after r.geometry (is_bad_by r) [] image
 
 abbrev pub good_by : Ram → ℕ
-good_by r = logs.good_count r.geometry (is_bad_by r) []
+good_by r = logs.good_count_after r.geometry (is_bad_by r) []
 
 -- TOO FEW FREE BLOCKS, AS THE IMAGE AND THE LOG SHOW THEM. After the call fewer than five blocks are free in the image; `good` is the number of good
 -- blocks then, `wanted` how many the geometry asks for at this share, `failed` the number of blocks that failed in the call. `bad` are the blocks that were bad before
 -- the log, `log` leads up to the end of the call, and `call` is its last part, that the call added.
 pub record IsShortIn (g : Geometry) (share : ℕ) (bad : ℕ → Bool) (log call : List Operation) (image : Image) (good wanted failed : ℕ) : Type 0 where
-  pub scarce : logs.free_count g bad log image < 5
-  pub good_is : good ≡ logs.good_count g bad log
+  pub scarce : logs.free_count_after g bad log image < 5
+  pub good_is : good ≡ logs.good_count_after g bad log
   pub wanted_is : wanted ≡ need_at g share
   pub failed_is : failed ≡ failed_count g call
 
 -- WHAT A REFUSAL SHOWS: `ReadOnly` comes only in a shortage, and has its counts. `next` was the next sequence as the log began, `before` is the
 -- log up to the call, `call` what the call added, and `ro` whether the device was read-only before it.
-abbrev pub IsShown : Geometry → (share : ℕ) → (ℕ → Bool) → ℕ → (before call : List Operation) → Bool → Image → DeviceFault → Type 0
-IsShown g share bad next before call ro image OutOfRange = Unit {0}
-IsShown g share bad next before call ro image (ReadOnly good wanted failed) = IsShortIn g share bad (before ++ call) call image good wanted failed × IsShort g share bad before call ro
-IsShown g share bad next before call ro image SequenceSpent = next + programs_in (before ++ call) ≡ 2 ^ 64 - 1
-IsShown g share bad next before call ro image OutOfMemory = Unit {0}
-IsShown g share bad next before call ro image Damaged = ⊥
-IsShown g share bad next before call ro image BusFault = ⊥
+abbrev pub IsShownByRefusal : Geometry → (share : ℕ) → (ℕ → Bool) → ℕ → (before call : List Operation) → Bool → Image → DeviceFault → Type 0
+IsShownByRefusal g share bad next before call ro image OutOfRange = Unit {0}
+IsShownByRefusal g share bad next before call ro image (ReadOnly good wanted failed) = IsShortIn g share bad (before ++ call) call image good wanted failed × IsShort g share bad before call ro
+IsShownByRefusal g share bad next before call ro image SequenceSpent = next + programs_in (before ++ call) ≡ 2 ^ 64 - 1
+IsShownByRefusal g share bad next before call ro image OutOfMemory = Unit {0}
+IsShownByRefusal g share bad next before call ro image Damaged = ⊥
+IsShownByRefusal g share bad next before call ro image BusFault = ⊥
 
 abbrev pub is_flush : Command → Bool
 is_flush (Read sector) = false
@@ -76,11 +76,11 @@ GoodNowLaw = (r : Ram) → IsRam r → good_count r.blocks.table ≡ good_by r
 
 -- after a log the blocks are bad that were bad before it and those that failed in it
 abbrev pub BadNowLaw : Type 0
-BadNowLaw = (old new : Ram) (log : List Operation) (b : ℕ) → old.blocks.geometry ≡ old.geometry → Follows old.geometry.pages log old.blocks new.blocks
+BadNowLaw = (old new : Ram) (log : List Operation) (b : ℕ) → old.blocks.geometry ≡ old.geometry → FollowsLog old.geometry.pages log old.blocks new.blocks
     → b < old.geometry.blocks → is_bad_by new b ≡ bad_of old.geometry.pages (is_bad_by old) log b
 
 -- too few free blocks by the memory are too few by the image and the log of the call
-abbrev pub ShortLaw : Type 0
-ShortLaw = (old new : Ram) (log : List Operation) (image : Image) (good wanted failed : ℕ) → IsRam old → IsRam new → new.geometry ≡ old.geometry → new.mapping.share ≡ old.mapping.share
-    → Follows old.geometry.pages log old.blocks new.blocks → IsTrue None new image
+abbrev pub ShortOfBlocksLaw : Type 0
+ShortOfBlocksLaw = (old new : Ram) (log : List Operation) (image : Image) (good wanted failed : ℕ) → IsRam old → IsRam new → new.geometry ≡ old.geometry → new.mapping.share ≡ old.mapping.share
+    → FollowsLog old.geometry.pages log old.blocks new.blocks → IsTrue None new image
     → IsShortOf old new good wanted failed → IsShortIn old.geometry old.mapping.share (is_bad_by old) log log image good wanted failed

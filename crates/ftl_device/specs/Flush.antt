@@ -155,8 +155,8 @@ pub record IsFlushedOut (first : First) (log : List Operation) (image : Image) :
 -- ---- laws, of a memory that is true of the image and flushed
 
 -- no entry is stale
-abbrev pub FreshLaw : Type 0
-FreshLaw = (r : Ram) (image : Image) → IsTrue None r image → IsFlushed r image → stale_sectors r.geometry image ≡ []
+abbrev pub NoEntryStaleLaw : Type 0
+NoEntryStaleLaw = (r : Ram) (image : Image) → IsTrue None r image → IsFlushed r image → stale_sectors r.geometry image ≡ []
 
 -- the image has a certificate at every capacity
 abbrev pub AnywhereLaw : Type 0

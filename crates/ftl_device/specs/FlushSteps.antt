@@ -10,7 +10,7 @@ use Rattle.mapping_cache.specs.Mapping.{cleaned}
 use Rattle.allocation.specs.State.{free_count}
 use Rattle.allocation.specs.Counts.{counts_of}
 use Rattle.collection.specs.declared.engine.Engine.{Engine}
-use Rattle.collection.specs.Safe.{ram, image_in, page_in}
+use Rattle.collection.specs.Safe.{ram, image_in, page_in_buffer}
 use Rattle.collection.specs.Cost.{HasPut}
 use Rattle.collection.specs.Log.{Went}
 use Rattle.collection.specs.declared.engine.room.Reserve.TheVariants as reserve
@@ -52,7 +52,7 @@ pub record HasCleared {N : Type 0} (view : View N) (old new : Engine N) : Type 0
 pub record WritesBack {N : Type 0} (view : View N) (t : ℕ) (old new : Engine N) : Type 0 where
   pub blocks : Goes (ram old) (ram new)
   pub put : HasPut Meta (ram old) (ram new)
-  pub page : IsLastPage kind.Translation t (ram new) (page_in new.page)
+  pub page : IsLastPage kind.Translation t (ram new) (page_in_buffer new.page)
   pub mapping : new.mapping ≡ cleaned old.mapping t
   pub honest_is : view.honest new.nand ≡ view.honest old.nand
   pub goes : GoesHonestly view old new
@@ -80,7 +80,7 @@ FlushesPages {N} view (suc t) old new = (mid : Engine N) × FlushesPages view t 
 pub record WritesTable {N : Type 0} (view : View N) (u : ℕ) (old new : Engine N) : Type 0 where
   pub blocks : Goes (ram old) (ram new)
   pub put : HasPut Meta (ram old) (ram new)
-  pub page : IsLastPage kind.Table u (ram new) (page_in new.page)
+  pub page : IsLastPage kind.Table u (ram new) (page_in_buffer new.page)
   pub spelled : new.page.body.items ≡ table_bytes (entries old.geometry) (ram old).blocks.table u
   pub mapping : new.mapping ≡ old.mapping
   pub honest_is : view.honest new.nand ≡ view.honest old.nand
@@ -142,5 +142,5 @@ FailedFlushLaw {N} view = (old new : Engine N) → ((t : ℕ) → t < translatio
 abbrev pub LackingPageLaw : {N : Type 0} → View N → Type 0
 LackingPageLaw {N} view = (t : ℕ) (old new : Engine N) → (IsClean old.geometry t old.mapping → ⊥) → 9 ≤ free_count (ram old).blocks
     → FlushesPage view t old new
-    → (new.next + good_count (ram new).blocks.table ≡ old.next + good_count (ram old).blocks.table + 1) × IsLastPage kind.Translation t (ram new) (page_in new.page)
+    → (new.next + good_count (ram new).blocks.table ≡ old.next + good_count (ram old).blocks.table + 1) × IsLastPage kind.Translation t (ram new) (page_in_buffer new.page)
     × (new.mapping ≡ cleaned old.mapping t)

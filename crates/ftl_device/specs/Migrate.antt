@@ -27,14 +27,14 @@ Migrates true g before after = version_for g ≡ 2 → old_pages g after < old_p
 -- ---- where it goes on
 
 -- no row from the cursor on has a page that has to be renewed, and this is the first row of all that has one
-pub record IsBehind (cursor row : ℕ) (image : Image) : Type 0 where
+pub record IsDueBehindCursor (cursor row : ℕ) (image : Image) : Type 0 where
   pub ahead : FindsDue cursor image None
   pub first : IsNextDue 0 row image
 
 -- what a look finds that goes from the cursor to the last row and, where no page is due there, over all rows
 abbrev pub FindsFrom : ℕ → Image → Option ℕ → Type 0
 FindsFrom cursor image None = FindsDue 0 image None
-FindsFrom cursor image (Some row) = IsNextDue cursor row image ⊎ IsBehind cursor row image
+FindsFrom cursor image (Some row) = IsNextDue cursor row image ⊎ IsDueBehindCursor cursor row image
 
 -- the cursor went to the row after the one that was found
 pub record HasMovedOn (cursor : ℕ) (image : Image) (after : ℕ) : Type 0 where

@@ -6,11 +6,11 @@ use Rattle.page_layout.specs.Page.{Image}
 use Rattle.page_layout.specs.Sound.{version_for}
 use Rattle.page_layout.specs.Array.{HasOneArray}
 use Rattle.page_layout.specs.Version.{is_old, old_pages, AddsNoOld}
-use Rattle.collection.specs.Renew.{is_table}
+use Rattle.collection.specs.Renew.{is_table_key}
 
 -- no newest page is of version 1, but table pages: what `migrate_one` leaves that answers `false`
 abbrev pub HasOldTablesOnly : Image → Type 0
-HasOldTablesOnly image = (key : Key) → is_table key ≡ false → is_old image key ≡ false
+HasOldTablesOnly image = (key : Key) → is_table_key key ≡ false → is_old image key ≡ false
 
 -- no newest page at all is of version 1
 abbrev pub HasNoneOld : Image → Type 0

@@ -1,6 +1,6 @@
 //! Why a call of the device was refused.
 ghost use Rattle.std.specs.Prelude.{◌≡◌};
-ghost use Rattle.ftl_device.specs.Calls.{number_of};
+ghost use Rattle.ftl_device.specs.Calls.{device_fault_number};
 
 use collection::EngineFault;
 use image_check::Accepted;
@@ -75,7 +75,7 @@ pub enum DeviceFault {
 impl DeviceFault {
     /// The fault's number, which replies carry. (This project.)
     pub fn number(&self) -> u8
-        ensures { result ≡ number_of self.now }
+        ensures { result ≡ device_fault_number self.now }
     {
         match self {
             DeviceFault::OutOfRange => 1,

@@ -1,14 +1,14 @@
 //! What a device begins with, and what it leaves between two calls.
-ghost use Rattle.ftl_device.specs.Begin.{BeginLaw, FreeLaw, GoodLaw, AccountsLaw};
+ghost use Rattle.ftl_device.specs.Begin.{BeginLaw, FreeAsShownLaw, GoodByClaimLaw, BegunAccountsLaw};
 ghost use Rattle.ftl_device.specs.Calls.{OneKindLaw, WriteOrTrimLaw, StaleLaw, RestartLaw, LeftBelowLaw, TurnsLaw};
 ghost use Rattle.ftl_device.specs.FlushSteps.{CleanFlushLaw, FailedFlushLaw, LackingPageLaw};
-ghost use Rattle.ftl_device.specs.Counts.{FreeNowLaw, GoodNowLaw, BadNowLaw, ShortLaw};
+ghost use Rattle.ftl_device.specs.Counts.{FreeNowLaw, GoodNowLaw, BadNowLaw, ShortOfBlocksLaw};
 ghost use Rattle.ftl_device.specs.Shortage.{LeavesFiveLaw, TablesLeaveLaw};
 ghost use Rattle.ftl_device.specs.Renewed.{NoneOldLaw, StaysNewLaw, BroughtForwardLaw};
 ghost use Rattle.ftl_device.specs.Stopped.{QuietStopLaw, RefusedStopLaw, MountsStopLaw, AnsweredStaysLaw, QuietCutLaw, OtherSectorCutLaw};
 ghost use Rattle.ftl_device.specs.Migrate.{OneFoundLaw, GoesOnLaw};
 ghost use Rattle.ftl_device.specs.Brings.{CountedLaw, LowestRowLaw};
-ghost use Rattle.ftl_device.specs.Flush.{FreshLaw, AnywhereLaw, ShownBadLaw, ShownWearLaw};
+ghost use Rattle.ftl_device.specs.Flush.{NoEntryStaleLaw, AnywhereLaw, ShownBadLaw, ShownWearLaw};
 
 use onfi_cycles::Nand;
 
@@ -16,9 +16,9 @@ use onfi_cycles::Nand;
 /// that the image shows, and the accounts with which a log begins. (This project.)
 pub fn begin_laws()
     ensures truth { BeginLaw }
-    ensures free { FreeLaw }
-    ensures good { GoodLaw }
-    ensures accounts { AccountsLaw }
+    ensures free { FreeAsShownLaw }
+    ensures good { GoodByClaimLaw }
+    ensures accounts { BegunAccountsLaw }
 {}
 
 /// A sector that is stale in the image is cached, where none is moved, so caching it takes no memory;
@@ -45,14 +45,14 @@ pub fn count_laws()
     ensures free { FreeNowLaw }
     ensures good { GoodNowLaw }
     ensures bad { BadNowLaw }
-    ensures short { ShortLaw }
+    ensures short { ShortOfBlocksLaw }
 {}
 
 /// What an image is worth where no sector waits for its translation page and each newest table page
 /// spells the table in memory: no entry is stale, it has a certificate at every capacity, it shows
 /// just the blocks as bad that the memory counts as bad, and their erase counts. (This project.)
 pub fn flushed_laws()
-    ensures fresh { FreshLaw }
+    ensures fresh { NoEntryStaleLaw }
     ensures anywhere { AnywhereLaw }
     ensures bad { ShownBadLaw }
     ensures wear { ShownWearLaw }

@@ -11,7 +11,7 @@ ghost use Rattle.page_layout.specs.DieCalls.{AsksOnly};
 ghost use Rattle.promises.specs.Step.{ArrayStep, Read};
 ghost use Rattle.image_check.specs.Mountable.{IsMountable};
 ghost use Rattle.mapping_cache.specs.Mapping.{HasLimitsOf, known};
-ghost use Rattle.collection.specs.Safe.{ram, image_in, page_in};
+ghost use Rattle.collection.specs.Safe.{ram, image_in, page_in_buffer};
 ghost use Rattle.collection.specs.Truth.{IsTrue};
 ghost use Rattle.collection.specs.Pages.{newest_row};
 ghost use Rattle.collection.specs.Looks.{IsReadFault};
@@ -112,7 +112,7 @@ impl<N: Nand> Device<N> {
 
         // Whatever the die does: the row that was found, the pages in the buffers that give it and the sector, and the row that is cached.
         ensures memory { LeavesRead sector result (ram self.old.engine) (ram self.new.engine)
-            (page_in self.new.engine.scratch) (page_in self.new.engine.page) out.new }
+            (page_in_buffer self.new.engine.scratch) (page_in_buffer self.new.engine.page) out.new }
 
         // The truth of it, for a die that keeps its promises.
         ensures same { N.view.honest self.old.engine.nand ≡ true → result ≢ Err DeviceFault.BusFault →

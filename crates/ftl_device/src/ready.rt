@@ -11,7 +11,7 @@ ghost use Rattle.page_layout.specs.declared.record.Kind.TheVariants as kind;
 ghost use Rattle.page_layout.specs.Array.{zeros};
 ghost use Rattle.mapping_cache.specs.Mapping.{CanLoad, HasLimitsOf, slot_of};
 ghost use Rattle.collection.specs.Pages.{newest_row};
-ghost use Rattle.collection.specs.Safe.{IsSafe, ram, image_in, page_in};
+ghost use Rattle.collection.specs.Safe.{IsSafe, ram, image_in, page_in_buffer};
 ghost use Rattle.collection.specs.Left.{IsCalm, LeavesPin, PinIsFew};
 ghost use Rattle.collection.specs.Acts.{RestsOrErases};
 ghost use Rattle.collection.specs.Truth.{IsTrue};
@@ -20,8 +20,8 @@ ghost use Rattle.collection.specs.Looks.{FindsRow, IsReadFault};
 ghost use Rattle.collection.specs.Results.{IsSame, Refused, fault_after};
 ghost use Rattle.collection.specs.Collect.{KeepsKeys, IsRearranged, RoomRefused, RoomCounts};
 ghost use Rattle.collection.specs.Room.{wanted};
-ghost use Rattle.ftl_device.specs.Calls.{Knows, IsFound, CallRefused, HasMadeRoom};
-ghost use Rattle.ftl_device.specs.Calls.{HasMadePlace, IsReady};
+ghost use Rattle.ftl_device.specs.Calls.{Knows, FindsNewestRow, CallRefused, HasMadeRoom};
+ghost use Rattle.ftl_device.specs.Calls.{HasMadePlace, HasMadeRoomAndPlace};
 ghost use Rattle.promises.specs.Step.{Write, Trim};
 ghost use Rattle.budget.specs.Spending.{IsFunded};
 ghost use Rattle.allocation.specs.State.{free_count};
@@ -110,7 +110,7 @@ fn find_row<N: Nand>(engine: &mut Engine<N>, sector: u32) -> Result<Option<u32>,
     ensures failed { N.view.failed engine.old.nand ≤ N.view.failed engine.new.nand }
     ensures rose { result ≡ Err EngineFault.Bus → HasRisen (N.view.failed engine.old.nand) (N.view.failed engine.new.nand) }
     ensures faults { IfErr result IsReadFault }
-    ensures checked { IfOk result (FindsRow (ram engine.old) sector (page_in engine.new.scratch)) }
+    ensures checked { IfOk result (FindsRow (ram engine.old) sector (page_in_buffer engine.new.scratch)) }
     ensures row { IfOk result (λ row. ForSome row (λ r. r < row_count engine.old.geometry)) }
     ensures same { N.view.honest engine.old.nand ≡ true → result ≢ Err EngineFault.Bus → N.view.flash engine.new.nand ≡ N.view.flash engine.old.nand }
     ensures told { N.view.honest engine.old.nand ≡ true → result ≢ Err EngineFault.Bus → N.view.recorded engine.new.nand ≡ N.view.recorded engine.old.nand }
@@ -139,18 +139,18 @@ fn prepare<N: Nand>(engine: &mut Engine<N>, sector: u32) -> Result<Option<u32>, 
     ensures leaves { EngineLeaves N.view engine.old result engine.new }
     ensures place { OnOk result (CanLoad engine.new.mapping sector) }
     ensures row { IfOk result (λ row. ForSome row (λ r. r < row_count engine.old.geometry)) }
-    ensures checked { IfOk result (FindsRow (ram engine.new) sector (page_in engine.new.scratch)) }
+    ensures checked { IfOk result (FindsRow (ram engine.new) sector (page_in_buffer engine.new.scratch)) }
     ensures prepared { OnOk result (IsPrepared (ram engine.old) engine.new.mapping) }
     ensures keys { keys_of engine.new.mapping.cached ≡ keys_of engine.old.mapping.cached }
     ensures limits { HasLimitsOf engine.old.mapping engine.new.mapping }
     ensures calm { OnOk result (IsCalm (ram engine.new)) }
     ensures pins { OnOk result (engine.old.pinned ≡ None → engine.new.pinned ≡ None) }
-    ensures cost { OnOk result (IsReady sector (ram engine.old) (ram engine.new)) }
+    ensures cost { OnOk result (HasMadeRoomAndPlace sector (ram engine.old) (ram engine.new)) }
     ensures costs { RoomCosts (HasFunds (N.view.honest engine.old.nand) (ram engine.old) (image_in N.view.flash engine.old)) 1
         (ram engine.old) (ram engine.new) result }
     ensures truth { N.view.honest engine.old.nand ≡ true → Knows (ram engine.old) (image_in N.view.flash engine.old) →
         MatchResult result
-        (λ row. IsFound sector row engine.old.geometry (image_in N.view.flash engine.old) (ram engine.new) (image_in N.view.flash engine.new))
+        (λ row. FindsNewestRow sector row engine.old.geometry (image_in N.view.flash engine.old) (ram engine.new) (image_in N.view.flash engine.new))
         (λ fault. CallRefused engine.old.geometry (image_in N.view.flash engine.old) (ram engine.new) (image_in N.view.flash engine.new) (CallFault.Engine fault)) }
 {
     make_room(engine, Reserve::Call, false)?;
@@ -167,8 +167,8 @@ fn make_ready<N: Nand>(engine: &mut Engine<N>, sector: u32) -> Result<(), CallFa
     ensures kept { EndsKept N.view engine.old result engine.new }
     ensures readies { Readies N.view sector 1 engine.old result engine.new }
     ensures holds { OnOk result (IsSome (slot_of engine.new.mapping sector)) }
-    ensures checked { OnOk result (IsLookedUp sector (ram engine.old) (ram engine.new) (page_in engine.new.scratch)) }
-    ensures cost { OnOk result (IsReady sector (ram engine.old) (ram engine.new)) }
+    ensures checked { OnOk result (IsLookedUp sector (ram engine.old) (ram engine.new) (page_in_buffer engine.new.scratch)) }
+    ensures cost { OnOk result (HasMadeRoomAndPlace sector (ram engine.old) (ram engine.new)) }
 {
     let row = prepare(engine, sector)?;
     engine.cache_sector(sector, row)?;

@@ -16,7 +16,7 @@ use Rattle.device_slot.specs.Power.{IsBrought, IsCertificateUnaccepted, IsUnsett
 use Rattle.device_slot.specs.Slot.{SlotState}
 use Rattle.ftl_disk.specs.declared.descriptors.Descriptors.{Descriptors}
 use Rattle.ftl_disk.specs.declared.plan.Plan.{Plan}
-use Rattle.ftl_disk.specs.Dies.{CertifiesBy, IsCertifiedBy, IsPut, StartsBy, StartsByClaim}
+use Rattle.ftl_disk.specs.Dies.{CertifiesBy, IsCertifiedBy, IsPutInSlot, StartsBy, StartsByClaim}
 use Rattle.ftl_disk.specs.Die.{Die, ReachesDie, stays, way_of}
 use Rattle.ftl_disk.specs.Either.{LeadsTo, Reaches}
 use Rattle.ftl_disk.specs.Measures.{certificate_length}
@@ -59,14 +59,14 @@ filled view g cache die given out bytes number its same other = elim (cases_eq (
 ]
 
 module _ {N : Type 0} (view : View N) (g : Geometry) (cache : ℕ) (die : N) (was : SlotState N) (number : ℕ) (is : SlotState N) where
-  pub starts : (r : Result (Device N) (PowerFault N)) → IfOk r (IsBrought view die g cache) → IfErr r (IsUnsettled view die g cache) → IsPut r was number is
+  pub starts : (r : Result (Device N) (PowerFault N)) → IfOk r (IsBrought view die g cache) → IfErr r (IsUnsettled view die g cache) → IsPutInSlot r was number is
       → StartsBy view g cache die was number is
   starts (Ok device) brings fault put = inl (put.0, record { device = device; stands = put.1; brings = brings })
   starts (Err why) brings fault put = inr (put.1, record { fault = why; number_is = put.0; unsettled = fault })
 
   pub starts_by : (c : Claim) (r : Result (Device N) (PowerFault N)) → IfOk r (IsDeviceBegun view) → IfOk r (λ d. d.engine.geometry ≡ g) → IfOk r (λ d. d.engine.mapping.capacity ≡ cache)
       → IfOk r (λ d. view.honest die ≡ true → array_in view.flash d ≡ array_of g (view.flash die).image) → IfOk r (λ d. view.honest die ≡ true → view.flash d.engine.nand ≡ view.flash die)
-      → IfErr r (IsCertificateUnaccepted view die g cache c) → IsPut r was number is → StartsByClaim view g cache c die was number is
+      → IfErr r (IsCertificateUnaccepted view die g cache c) → IsPutInSlot r was number is → StartsByClaim view g cache c die was number is
   starts_by c (Ok device) begun sized capacity array pages fault put =
       inl (put.0, record { device = device; stands = put.1; brings = record { begun = begun; sized = sized; cache_is = capacity; array = array; pages = pages } })
   starts_by c (Err why) begun sized capacity array pages fault put = inr (put.1, record { fault = why; number_is = put.0; unaccepted = fault })

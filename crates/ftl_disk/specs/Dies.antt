@@ -37,9 +37,9 @@ pub record IsFormattedBy {N : Type 0} (view : View N) (g : Geometry) (die : N) (
   pub formats : FormatsBy view g die number after
 
 -- the device that was brought stands in the slot; or the number is that of why there is none, and the slot is as it was
-abbrev pub IsPut : {N : Type 0} → Result (Device N) (PowerFault N) → (was : SlotState N) → (number : ℕ) → (is : SlotState N) → Type 0
-IsPut (Ok device) was number is = (number ≡ 0) × (is ≡ record { device = Some device; shortage = None })
-IsPut (Err fault) was number is = (number ≡ of_power fault) × (is ≡ was)
+abbrev pub IsPutInSlot : {N : Type 0} → Result (Device N) (PowerFault N) → (was : SlotState N) → (number : ℕ) → (is : SlotState N) → Type 0
+IsPutInSlot (Ok device) was number is = (number ≡ 0) × (is ≡ record { device = Some device; shortage = None })
+IsPutInSlot (Err fault) was number is = (number ≡ of_power fault) × (is ≡ was)
 
 -- A DEVICE STANDS IN THE SLOT, which power brought over the die
 pub record IsPutBy {N : Type 0} (view : View N) (g : Geometry) (cache : ℕ) (die : N) (slot : SlotState N) : Type 0 where

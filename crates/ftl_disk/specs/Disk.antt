@@ -4,7 +4,7 @@ use Rattle.promises.specs.Step as step
 use Rattle.certificate.specs.Claim.{Claim}
 use Rattle.certificate.specs.Spelling as spelling
 use Rattle.certificate.specs.declared.fault.CertFault.{CertFault}
-use Rattle.certificate.specs.Faults.{IsFirstFault}
+use Rattle.certificate.specs.Faults.{IsFirstCertificateFault}
 use Rattle.device_slot.specs.declared.slot.CallFault.{CallFault}
 use Rattle.device_slot.specs.Calls.{IsSlotCall, ToldCommand, ToldSized}
 use Rattle.ftl_disk.specs.Die.{Die, ReachesDie, die_view}
@@ -20,7 +20,7 @@ abbrev pub is_started : FtlDisk → Bool
 is_started d = is_some d.slot.device
 
 -- it is made for the same, with the same way to its die
-pub record IsSame (was is : FtlDisk) : Type 0 where
+pub record KeepsPlanAndLink (was is : FtlDisk) : Type 0 where
   pub plan : is.plan ≡ was.plan
   pub link : is.link ≡ was.link
 
@@ -48,7 +48,7 @@ FormatsDisk was number is = IsForStopped was number is (IsFormatting was number 
 
 -- A START: 0 with a device that power brought over the die, of the disk's geometry and with at least its cache; or the number of what kept it from one, and the slot as it was
 pub record IsStarting (was : FtlDisk) (number : ℕ) (is : FtlDisk) : Type 0 where
-  pub same : IsSame was is
+  pub same : KeepsPlanAndLink was is
   pub starts : ReachesDie was.plan was.link number (is.slot ≡ was.slot) (λ die. StartsBy die_view was.plan.geometry was.plan.cache die was.slot number is.slot)
 
 abbrev pub Starts : FtlDisk → ℕ → FtlDisk → Type 0
@@ -56,14 +56,14 @@ Starts was number is = IsForStopped was number is (IsStarting was number is)
 
 -- the same by this certificate
 pub record IsStartingBy (was : FtlDisk) (c : Claim) (number : ℕ) (is : FtlDisk) : Type 0 where
-  pub same : IsSame was is
+  pub same : KeepsPlanAndLink was is
   pub starts : ReachesDie was.plan was.link number (is.slot ≡ was.slot) (λ die. StartsByClaim die_view was.plan.geometry was.plan.cache c die was.slot number is.slot)
 
 -- the bytes are none of a certificate: the first fault that stands in them
-pub record IsNoCertificate (was : FtlDisk) (bytes : List ℕ) (number : ℕ) (is : FtlDisk) : Type 0 where
+pub record FindsNoCertificate (was : FtlDisk) (bytes : List ℕ) (number : ℕ) (is : FtlDisk) : Type 0 where
   pub same : is ≡ was
   pub fault : CertFault
-  pub first : IsFirstFault bytes fault
+  pub first : IsFirstCertificateFault bytes fault
   pub number_is : number ≡ of_certificate fault
 
 -- they are those of a certificate, by which it starts
@@ -76,7 +76,7 @@ pub record StartsByOne (was : FtlDisk) (bytes : List ℕ) (number : ℕ) (is : F
 -- A START BY A CERTIFICATE, which is held against the die: 18 just where the bytes are not as many as one of this disk has
 pub record StartsByBytes (was : FtlDisk) (bytes : List ℕ) (number : ℕ) (is : FtlDisk) : Type 0 where
   pub sized : length bytes ≢ certificate_length was.plan.geometry → (number ≡ 18) × (is ≡ was)
-  pub starts : length bytes ≡ certificate_length was.plan.geometry → IsNoCertificate was bytes number is ⊎ StartsByOne was bytes number is
+  pub starts : length bytes ≡ certificate_length was.plan.geometry → FindsNoCertificate was bytes number is ⊎ StartsByOne was bytes number is
 
 abbrev pub StartsCertified : FtlDisk → List ℕ → ℕ → FtlDisk → Type 0
 StartsCertified was bytes number is = IsForStopped was number is (StartsByBytes was bytes number is)
@@ -99,7 +99,7 @@ Certifies was given number out is =
 -- A STOP: no device stands there afterwards
 pub record StopsDisk (was : FtlDisk) (number : ℕ) (is : FtlDisk) : Type 0 where
   pub done : number ≡ 0
-  pub same : IsSame was is
+  pub same : KeepsPlanAndLink was is
   pub empty : is.slot ≡ record { device = None; shortage = None }
 
 -- ---- calls
@@ -109,11 +109,11 @@ pub record AnswersByNumber (was : FtlDisk) (number : ℕ) (is : FtlDisk) (Comes 
   pub answer : Result (Unit {0}) CallFault
   pub calls : Comes answer
   pub number_is : number ≡ of_call answer
-  pub same : IsSame was is
+  pub same : KeepsPlanAndLink was is
 
 -- the device was told a command without bytes
-abbrev pub Tells : FtlDisk → step.Command → ℕ → FtlDisk → Type 0
-Tells was command number is = AnswersByNumber was number is (λ answer.
+abbrev pub TellsWithoutBytes : FtlDisk → step.Command → ℕ → FtlDisk → Type 0
+TellsWithoutBytes was command number is = AnswersByNumber was number is (λ answer.
     IsSlotCall was.slot (λ d now. ToldCommand die_view d command [] answer [] now is.slot.shortage) [] answer [] is.slot)
 
 abbrev pub ReadsDiskSector : FtlDisk → (sector : ℕ) → (given : List ℕ) → ℕ → (out : List ℕ) → FtlDisk → Type 0
@@ -125,10 +125,10 @@ WritesDiskSector was sector body number is = AnswersByNumber was number is (λ a
     IsSlotCall was.slot (λ d now. ToldSized die_view d was.slot.shortage (step.Write sector body) (length body) [] answer [] now is.slot.shortage) [] answer [] is.slot)
 
 abbrev pub Trims : FtlDisk → (sector : ℕ) → ℕ → FtlDisk → Type 0
-Trims was sector number is = Tells was (step.Trim sector) number is
+Trims was sector number is = TellsWithoutBytes was (step.Trim sector) number is
 
 abbrev pub Flushes : FtlDisk → ℕ → FtlDisk → Type 0
-Flushes was number is = Tells was step.Flush number is
+Flushes was number is = TellsWithoutBytes was step.Flush number is
 
 abbrev pub Turns : FtlDisk → ℕ → FtlDisk → Type 0
-Turns was number is = Tells was step.Turn number is
+Turns was number is = TellsWithoutBytes was step.Turn number is

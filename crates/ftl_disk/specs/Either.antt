@@ -30,49 +30,49 @@ of_either plain coded (Plain die) = plain die
 of_either plain coded (Coded die) = coded die
 
 -- what stands in it, by the die at the other end of the link, or by the chip there without the codes
-abbrev pub flash_of : {L : Type 0} → (L → DieState) → (L → Flash) → EitherDie L → Flash
-flash_of die chip d = of_either (λ p. flash_by (λ b. die b.link) p) (λ c. clean_flash (seen c.nand.geometry (chip c.nand.driver.bus.link))) d
+abbrev pub flash_of_either : {L : Type 0} → (L → DieState) → (L → Flash) → EitherDie L → Flash
+flash_of_either die chip d = of_either (λ p. flash_by (λ b. die b.link) p) (λ c. clean_flash (seen c.nand.geometry (chip c.nand.driver.bus.link))) d
 
 -- whether it is honest, by the link's honesty, or by whether that keeps the law of such a chip
-abbrev pub honest_of : {L : Type 0} → (L → Bool) → (L → Bool) → EitherDie L → Bool
-honest_of honest keeps d = of_either (λ p. honest p.bus.link) (λ c. keeps c.nand.driver.bus.link) d
+abbrev pub honest_of_either : {L : Type 0} → (L → Bool) → (L → Bool) → EitherDie L → Bool
+honest_of_either honest keeps d = of_either (λ p. honest p.bus.link) (λ c. keeps c.nand.driver.bus.link) d
 
 -- the record of what its driver did; of a chip with codes that of the pages without them
-abbrev pub recorded_of : {L : Type 0} → EitherDie L → Option Recording
-recorded_of d = of_either (λ p. Some p.told) (λ c. clean_told c.geometry (Some c.nand.told)) d
+abbrev pub recorded_of_either : {L : Type 0} → EitherDie L → Option Recording
+recorded_of_either d = of_either (λ p. Some p.told) (λ c. clean_told c.geometry (Some c.nand.told)) d
 
 -- what it counts
-abbrev pub reads_of : {L : Type 0} → EitherDie L → ℕ
-reads_of d = of_either (λ p. p.reads) (λ c. c.reads) d
+abbrev pub reads_of_either : {L : Type 0} → EitherDie L → ℕ
+reads_of_either d = of_either (λ p. p.reads) (λ c. c.reads) d
 
-abbrev pub programs_of : {L : Type 0} → EitherDie L → ℕ
-programs_of d = of_either (λ p. p.programs) (λ c. c.programs) d
+abbrev pub programs_of_either : {L : Type 0} → EitherDie L → ℕ
+programs_of_either d = of_either (λ p. p.programs) (λ c. c.programs) d
 
-abbrev pub erases_of : {L : Type 0} → EitherDie L → ℕ
-erases_of d = of_either (λ p. p.erases) (λ c. c.erases) d
+abbrev pub erases_of_either : {L : Type 0} → EitherDie L → ℕ
+erases_of_either d = of_either (λ p. p.erases) (λ c. c.erases) d
 
-abbrev pub failed_of : {L : Type 0} → EitherDie L → ℕ
-failed_of d = of_either (λ p. p.failures) (λ c. c.failures) d
+abbrev pub failed_of_either : {L : Type 0} → EitherDie L → ℕ
+failed_of_either d = of_either (λ p. p.failures) (λ c. c.failures) d
 
 -- what contracts say of it
 abbrev pub either_view : {L : Type 0} → (L → DieState) → (chip : L → Flash) → (honest keeps : L → Bool) → View (EitherDie L)
 either_view die chip honest keeps = record {
-  flash = flash_of die chip;
-  recorded = recorded_of;
-  honest = honest_of honest keeps;
+  flash = flash_of_either die chip;
+  recorded = recorded_of_either;
+  honest = honest_of_either honest keeps;
   calm = λ _. false;
-  reads = reads_of;
-  programs = programs_of;
-  erases = erases_of;
-  failed = failed_of;
+  reads = reads_of_either;
+  programs = programs_of_either;
+  erases = erases_of_either;
+  failed = failed_of_either;
   called = λ _ _ _. ⊤;
 }
 
 -- ---- a Reset over a link
 
 -- what a link says of one exchange
-abbrev pub Asked : Type 0 → Type 1
-Asked L = L → List ℕ → List ℕ → ℕ → List ℕ → L → Type 0
+abbrev pub AskedOfLink : Type 0 → Type 1
+AskedOfLink L = L → List ℕ → List ℕ → ℕ → List ℕ → L → Type 0
 
 -- a link to a die of this plan: to one of its geometry, or to a chip of that with codes
 pub record LeadsTo {L : Type 0} (die : L → DieState) (chip : L → Flash) (honest keeps : L → Bool) (p : Plan) (link : L) : Type 0 where
@@ -81,14 +81,14 @@ pub record LeadsTo {L : Type 0} (die : L → DieState) (chip : L → Flash) (hon
   pub clean : (c : ChipGeometry) → p.chip ≡ Some c → keeps link ≡ true → (chip link).geometry ≡ p.geometry
 
 -- a die whose pages read back as they were programmed: its link took Reset, and it has counted nothing
-pub record IsPlainFor {L : Type 0} (called : Asked L) (p : Plan) (link : L) (die : PlainDie L) : Type 0 where
+pub record IsPlainFor {L : Type 0} (called : AskedOfLink L) (p : Plan) (link : L) (die : PlainDie L) : Type 0 where
   pub none : p.chip ≡ None
   pub reset : SentAsFrame called link (Command 0xFF) done [] die.bus.link
   pub geometry : die.geometry ≡ p.geometry
   pub fresh : die.failures ≡ 0
 
 -- one over a chip of this geometry: the same
-pub record IsCodedFor {L : Type 0} (called : Asked L) (p : Plan) (link : L) (die : CodedDie L) : Type 0 where
+pub record IsCodedFor {L : Type 0} (called : AskedOfLink L) (p : Plan) (link : L) (die : CodedDie L) : Type 0 where
   pub chip : p.chip ≡ Some (record { raw = die.nand.driver.geometry })
   pub reset : SentAsFrame called link (Command 0xFF) done [] die.nand.driver.bus.link
   pub geometry : die.nand.geometry ≡ p.geometry
@@ -96,27 +96,27 @@ pub record IsCodedFor {L : Type 0} (called : Asked L) (p : Plan) (link : L) (die
   pub errors : die.errors ≡ no_errors p.geometry.blocks
 
 -- A DIE FOR A PLAN, after Reset: with codes or without, as the plan says
-abbrev pub IsDieFor : {L : Type 0} → Asked L → Plan → L → EitherDie L → Type 0
+abbrev pub IsDieFor : {L : Type 0} → AskedOfLink L → Plan → L → EitherDie L → Type 0
 IsDieFor called p link (Plain die) = IsPlainFor called p link die
 IsDieFor called p link (Coded die) = IsCodedFor called p link die
 
 -- THE LINK FAILED: Reset was asked of it and refused, by a device's failure only where that was counted
-pub record IsLinkLost {L : Type 0} (called : Asked L) (link : L) : Type 0 where
+pub record IsLinkLost {L : Type 0} (called : AskedOfLink L) (link : L) : Type 0 where
   pub fault : BusFault
   pub after : Behind L
   pub reset : SentAsFrame called link (Command 0xFF) (refused fault) [] after.link
   pub counted : IsCounted 0 after.failures fault
 
 -- why there is none: 6, where the link failed; or 4, where of a chip with codes memory was refused
-abbrev pub IsUnreset : {L : Type 0} → Asked L → Plan → L → (number : ℕ) → Type 0
+abbrev pub IsUnreset : {L : Type 0} → AskedOfLink L → Plan → L → (number : ℕ) → Type 0
 IsUnreset called p link number = ((number ≡ 6) × IsLinkLost called link) ⊎ ((number ≡ 4) × IsSome p.chip)
 
 -- a die took Reset, and this comes of it
-pub record IsReached {L : Type 0} (called : Asked L) (p : Plan) (link : L) (Comes : EitherDie L → Type 0) : Type 0 where
+pub record IsDieReached {L : Type 0} (called : AskedOfLink L) (p : Plan) (link : L) (Comes : EitherDie L → Type 0) : Type 0 where
   pub die : EitherDie L
   pub its : IsDieFor called p link die
   pub comes : Comes die
 
 -- A CALL OF THE DIE BEHIND A LINK: what comes of it once it took Reset; or the number of why there is none, and nothing else changes
-abbrev pub Reaches : {L : Type 0} → Asked L → Plan → L → (number : ℕ) → (Stays : Type 0) → (Comes : EitherDie L → Type 0) → Type 0
-Reaches called p link number Stays Comes = IsReached called p link Comes ⊎ (Stays × IsUnreset called p link number)
+abbrev pub Reaches : {L : Type 0} → AskedOfLink L → Plan → L → (number : ℕ) → (Stays : Type 0) → (Comes : EitherDie L → Type 0) → Type 0
+Reaches called p link number Stays Comes = IsDieReached called p link Comes ⊎ (Stays × IsUnreset called p link number)

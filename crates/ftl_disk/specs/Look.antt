@@ -2,7 +2,7 @@
 use Rattle.std.specs.Prelude.{◌≡◌, ◌⊎◌, ℕ, Bool, List, Option, Some, None, is_some, slice_index, if◌then◌else◌}
 use Rattle.ftl_device.specs.declared.device.Device.{Device}
 use Rattle.ftl_device.specs.declared.fault.DeviceFault.{DeviceFault}
-use Rattle.ftl_device.specs.Calls.{number_of}
+use Rattle.ftl_device.specs.Calls.{device_fault_number}
 use Rattle.corrected_nand.specs.Errors as counted
 use Rattle.device_slot.specs.declared.slot.Shortage.{Shortage}
 use Rattle.device_slot.specs.declared.report.Report.{Report}
@@ -34,12 +34,12 @@ shape_of p = record {
 
 abbrev pub stop_number : Option DeviceFault → ℕ
 stop_number None = 0
-stop_number (Some fault) = number_of fault
+stop_number (Some fault) = device_fault_number fault
 
 -- how its device stands
-abbrev pub state_of : Option Report → State
-state_of None = record { free_blocks = 0; good_blocks = 0; bad_blocks = 0; most_erases = 0; read_only = 0; stopped = 0 }
-state_of (Some r) = record { free_blocks = r.free; good_blocks = r.good; bad_blocks = r.bad; most_erases = r.most_erases; read_only = bit r.read_only; stopped = stop_number r.stopped }
+abbrev pub reported_state : Option Report → State
+reported_state None = record { free_blocks = 0; good_blocks = 0; bad_blocks = 0; most_erases = 0; read_only = 0; stopped = 0 }
+reported_state (Some r) = record { free_blocks = r.free; good_blocks = r.good; bad_blocks = r.bad; most_erases = r.most_erases; read_only = bit r.read_only; stopped = stop_number r.stopped }
 
 -- the counts of the last refusal for want of blocks
 abbrev pub lack_of : Option Shortage → Lack
@@ -80,7 +80,7 @@ pub record IsViewOf (d : FtlDisk) (v : View) : Type 0 where
   pub report : Option Report
   pub reports : Reports d.slot.device report
   pub started : v.is_started ≡ bit (is_some report)
-  pub state : v.state ≡ state_of report
+  pub state : v.state ≡ reported_state report
   pub short : v.is_short ≡ bit (is_some d.slot.shortage)
   pub lack : v.lack ≡ lack_of d.slot.shortage
 

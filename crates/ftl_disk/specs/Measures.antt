@@ -56,5 +56,5 @@ pub record IsMeasured (shape : Shape) (s : Sizes) : Type 0 where
   pub its : IsPlanOf shape plan
   pub measures : Measures plan s
 
-abbrev pub Tells : Shape → ℕ → (before after : Sizes) → Type 0
-Tells shape number before after = ((number ≡ 0) × IsMeasured shape after) ⊎ (IsUnplanned shape number × (after ≡ before))
+abbrev pub TellsSizes : Shape → ℕ → (before after : Sizes) → Type 0
+TellsSizes shape number before after = ((number ≡ 0) × IsMeasured shape after) ⊎ (IsUnplanned shape number × (after ≡ before))

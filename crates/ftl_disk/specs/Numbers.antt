@@ -8,7 +8,7 @@ use Rattle.image_check.specs.declared.refusal.Refusal.{Refusal}
 use Rattle.image_check.specs.declared.refusal.Refusal.TheVariants as refusal
 use Rattle.mount.specs.declared.format_fault.FormatFault.{FormatFault}
 use Rattle.mount.specs.declared.format_fault.FormatFault.TheVariants as format
-use Rattle.ftl_device.specs.Calls.{number_of}
+use Rattle.ftl_device.specs.Calls.{device_fault_number}
 use Rattle.device_slot.specs.declared.power.PowerFault.{PowerFault}
 use Rattle.device_slot.specs.declared.power.PowerFault.TheVariants as power
 use Rattle.device_slot.specs.declared.slot.CallFault.{CallFault}
@@ -18,7 +18,7 @@ abbrev pub of_call : Result (Unit {0}) CallFault → ℕ
 of_call (Ok done) = 0
 of_call (Err call.NotStarted) = 16
 of_call (Err call.WrongSize) = 18
-of_call (Err (call.Device fault)) = number_of fault
+of_call (Err (call.Device fault)) = device_fault_number fault
 
 abbrev pub of_geometry : GeometryFault → ℕ
 of_geometry geometry.DataSize = 32
@@ -60,7 +60,7 @@ of_refusal refusal.WrongLength = 78
 abbrev pub of_power : {N : Type 0} → PowerFault N → ℕ
 of_power (power.Refused why nand) = of_refusal why
 of_power (power.Start nand) = 4
-of_power (power.Flush fault nand) = number_of fault
+of_power (power.Flush fault nand) = device_fault_number fault
 
 abbrev pub of_certificate : CertFault → ℕ
 of_certificate certificate.Magic = 80

@@ -1,7 +1,7 @@
 //! What the calls of a disk come to, over any die.
 ghost use Rattle.std.specs.Prelude.{◌≡◌, ◌≢◌, length, IfOk, IfErr};
 ghost use Rattle.device_slot.specs.Begun.{IsDeviceKept};
-ghost use Rattle.ftl_disk.specs.Dies.{CertifiesBy, IsCertifiedBy, IsFormattedBy, IsPut, IsUncertifiedBy, StartsBy, StartsByClaim};
+ghost use Rattle.ftl_disk.specs.Dies.{CertifiesBy, IsCertifiedBy, IsFormattedBy, IsPutInSlot, IsUncertifiedBy, StartsBy, StartsByClaim};
 
 use crate::number::{DONE, WRONG_SIZE, of_certificate, of_format, of_power, of_refusal};
 use crate::plan::Plan;
@@ -27,7 +27,7 @@ pub(crate) fn format_over<N: Nand + Drop>(alloc: Global, mut die: N, geometry: &
 // The device that power brought stands in the slot; or the number of why there is none comes.
 fn put<N: Nand + Drop>(brought: Result<Device<N>, PowerFault<N>>, slot: &mut DeviceSlot<N>) -> u32
     requires { IfOk brought (IsDeviceKept N.view) }
-    ensures { IsPut brought slot.old result slot.new }
+    ensures { IsPutInSlot brought slot.old result slot.new }
 {
     match brought {
         Ok(device) => {

@@ -1,6 +1,6 @@
 //! How a disk stands, all at once.
 ghost use Rattle.std.specs.Prelude.{◌≡◌, option_copied};
-ghost use Rattle.ftl_disk.specs.Look.{IsViewOf, IsWorst, Looks, TellsErrors, errors_in, errors_of, lack_of, shape_of, state_of, stop_number};
+ghost use Rattle.ftl_disk.specs.Look.{IsViewOf, IsWorst, Looks, TellsErrors, errors_in, errors_of, lack_of, shape_of, reported_state, stop_number};
 
 use crate::disk::{Die, FtlDisk};
 use crate::either::EitherDie;
@@ -104,7 +104,7 @@ fn stop_number(stopped: Option<DeviceFault>) -> u32
 
 // How a device stands.
 fn state_of(report: Option<Report>) -> State
-    ensures { result ≡ state_of report }
+    ensures { result ≡ reported_state report }
 {
     match report {
         Some(report) => State {

@@ -1,7 +1,7 @@
 //! What follows from a shape: how large a disk is, and how much memory it takes.
 ghost use Rattle.std.specs.Prelude.{◌≡◌, ◌≤◌, min};
 ghost use Rattle.page_layout.specs.Geometry.{key_count};
-ghost use Rattle.ftl_disk.specs.Measures.{Measures, Tells, certificate_length, chip_spare, device_bytes, error_bytes, memory_bytes, scan_bytes};
+ghost use Rattle.ftl_disk.specs.Measures.{Measures, TellsSizes, certificate_length, chip_spare, device_bytes, error_bytes, memory_bytes, scan_bytes};
 
 use crate::number::DONE;
 use crate::plan::Plan;
@@ -132,7 +132,7 @@ fn measure(plan: &Plan) -> Sizes
 
 /// Sets `sizes` to what follows from a shape. Else its number comes, and `sizes` stays.
 pub fn tell(shape: &Shape, sizes: &mut Sizes) -> u32
-    ensures { Tells shape.now result sizes.old sizes.new }
+    ensures { TellsSizes shape.now result sizes.old sizes.new }
 {
     match shape.plan() {
         Ok(plan) => {

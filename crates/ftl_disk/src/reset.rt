@@ -1,7 +1,7 @@
 //! The die behind a link, once it took Reset.
 ghost use Rattle.std.specs.Prelude.{◌≡◌, None, Some, IfOk, IfErr};
 ghost use Rattle.page_code.specs.Chip.{IsChipOf};
-ghost use Rattle.ftl_disk.specs.Either.{IsDieFor, IsUnreset, LeadsTo, flash_of};
+ghost use Rattle.ftl_disk.specs.Either.{IsDieFor, IsUnreset, LeadsTo, flash_of_either};
 
 use crate::either::EitherDie;
 use crate::number::{BUS_FAULT, OUT_OF_MEMORY};
@@ -17,7 +17,7 @@ fn plain_die<L: ChipLink + Drop>(link: L, plan: &Plan) -> Result<EitherDie<L>, u
     requires leads { LeadsTo L.die L.chip L.honest L.keeps plan.now link }
     requires none { plan.now.chip ≡ None }
     ensures die { IfOk result (IsDieFor L.called plan.now link) }
-    ensures geometry { IfOk result (λ die. (flash_of L.die L.chip die).geometry ≡ plan.now.geometry) }
+    ensures geometry { IfOk result (λ die. (flash_of_either L.die L.chip die).geometry ≡ plan.now.geometry) }
     ensures fault { IfErr result (IsUnreset L.called plan.now link) }
 {
     match Driver::new(StreamBus::new(link), plan.geometry) {
@@ -37,7 +37,7 @@ fn coded_die<L: ChipLink + Drop>(
     requires some { plan.now.chip ≡ Some chip.now }
     requires pages { IsChipOf plan.now.geometry chip.now.raw }
     ensures die { IfOk result (IsDieFor L.called plan.now link) }
-    ensures geometry { IfOk result (λ die. (flash_of L.die L.chip die).geometry ≡ plan.now.geometry) }
+    ensures geometry { IfOk result (λ die. (flash_of_either L.die L.chip die).geometry ≡ plan.now.geometry) }
     ensures fault { IfErr result (IsUnreset L.called plan.now link) }
 {
     let errors = match ReadErrors::new(alloc, plan.geometry.blocks()) {
@@ -58,7 +58,7 @@ pub(crate) fn reset<L: ChipLink + Drop>(
 ) -> Result<EitherDie<L>, u32>
     requires { LeadsTo L.die L.chip L.honest L.keeps plan.now link }
     ensures die { IfOk result (IsDieFor L.called plan.now link) }
-    ensures geometry { IfOk result (λ die. (flash_of L.die L.chip die).geometry ≡ plan.now.geometry) }
+    ensures geometry { IfOk result (λ die. (flash_of_either L.die L.chip die).geometry ≡ plan.now.geometry) }
     ensures fault { IfErr result (IsUnreset L.called plan.now link) }
 {
     match &plan.chip {

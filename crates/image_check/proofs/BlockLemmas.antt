@@ -12,7 +12,7 @@ use Rattle.image_check.specs.declared.blocks.Aspect.TheVariants as aspect
 use Rattle.image_check.specs.Blocks.{AreStates, block_state}
 use Rattle.image_check.specs.Agrees.{EachState}
 use Rattle.image_check.specs.Refused.{Holds, IsWrong, IsWrongBlock}
-use Rattle.image_check.specs.Aspects.{IsSame, part_for, refusal_for, AreSame}
+use Rattle.image_check.specs.Aspects.{IsSameInAspect, part_for, refusal_for, AreSame}
 
 pub same_start : (compared : Aspect) (claims reals : List BlockState) → AreSame 0 compared claims reals
 same_start compared claims reals = record { each = λ b s t l. absurd (omega arith) }
@@ -20,20 +20,20 @@ same_start compared claims reals = record { each = λ b s t l. absurd (omega ari
 some_eq : (s t : BlockState) → Some s ≡ Some t → s ≡ t
 some_eq s t e = cc
 
-pub same_more : (n : ℕ) (compared : Aspect) (claims reals : List BlockState) (s t : BlockState) → AreSame n compared claims reals → slice_get claims n ≡ Some s → slice_get reals n ≡ Some t → IsSame compared s t → AreSame (n + 1) compared claims reals
+pub same_more : (n : ℕ) (compared : Aspect) (claims reals : List BlockState) (s t : BlockState) → AreSame n compared claims reals → slice_get claims n ≡ Some s → slice_get reals n ≡ Some t → IsSameInAspect compared s t → AreSame (n + 1) compared claims reals
 same_more n compared claims reals s t h at_s at_t same = record {
   each = λ b x y l ex ey. elim (cases_order b n) [
     | inl e ↦
         let sx : s ≡ x = some_eq s x (sym at_s ∙ (ap (slice_get claims) (sym e) ∙ ex)) in
         let ty : t ≡ y = some_eq t y (sym at_t ∙ (ap (slice_get reals) (sym e) ∙ ey)) in
-        subst (λ z. IsSame compared z y) sx (subst (λ z. IsSame compared s z) ty same)
+        subst (λ z. IsSameInAspect compared z y) sx (subst (λ z. IsSameInAspect compared s z) ty same)
     | inr (inl below) ↦ h.each b x y below ex ey
     | inr (inr above) ↦ absurd (omega arith)
   ];
 }
 
 -- the certificate's states of the first n blocks pass
-all_same : (n : ℕ) (g : Geometry) (image : Image) (compared : Aspect) (claims reals : List BlockState) → AreSame n compared claims reals → n ≤ length claims → n ≤ g.blocks → AreStates g image reals → EachState n claims (λ b s. IsSame compared s (block_state g image b))
+all_same : (n : ℕ) (g : Geometry) (image : Image) (compared : Aspect) (claims reals : List BlockState) → AreSame n compared claims reals → n ≤ length claims → n ≤ g.blocks → AreStates g image reals → EachState n claims (λ b s. IsSameInAspect compared s (block_state g image b))
 all_same n g image compared claims reals h within few states = record {
   state = λ b l.
       let d : BlockState = block_state g image b in
@@ -49,13 +49,13 @@ blocks_hold g capacity image c n aspect.State reals h whole size states = let e 
 blocks_hold g capacity image c n aspect.Live reals h whole size states = let e = states.size in all_same g.blocks g image aspect.Live c.blocks reals (subst (λ k. AreSame k aspect.Live c.blocks reals) (whole ∙ e) h) (omega arith) (omega arith) states
 blocks_hold g capacity image c n aspect.Wear reals h whole size states = let e = states.size in all_same g.blocks g image aspect.Wear c.blocks reals (subst (λ k. AreSame k aspect.Wear c.blocks reals) (whole ∙ e) h) (omega arith) (omega arith) states
 
-fails_at : (g : Geometry) (image : Image) (compared : Aspect) (claims : List BlockState) (b : ℕ) → IsWrongBlock g claims b (λ n s. IsSame compared s (block_state g image n)) → EachState g.blocks claims (λ n s. IsSame compared s (block_state g image n)) → ⊥
+fails_at : (g : Geometry) (image : Image) (compared : Aspect) (claims : List BlockState) (b : ℕ) → IsWrongBlock g claims b (λ n s. IsSameInAspect compared s (block_state g image n)) → EachState g.blocks claims (λ n s. IsSameInAspect compared s (block_state g image n)) → ⊥
 fails_at g image compared claims b w all =
     let one = all.state b w.within in
     let same : one.0 ≡ w.state = some_eq one.0 w.state (sym one.1 ∙ w.at) in
-    w.wrong (subst (λ s. IsSame compared s (block_state g image b)) same one.2)
+    w.wrong (subst (λ s. IsSameInAspect compared s (block_state g image b)) same one.2)
 
-wrong_at : (g : Geometry) (capacity : ℕ) (image : Image) (c : Claim) (compared : Aspect) (b : ℕ) → IsWrongBlock g c.blocks b (λ n s. IsSame compared s (block_state g image n)) → IsWrong g capacity image c (part_for compared) (refusal_for compared b)
+wrong_at : (g : Geometry) (capacity : ℕ) (image : Image) (c : Claim) (compared : Aspect) (b : ℕ) → IsWrongBlock g c.blocks b (λ n s. IsSameInAspect compared s (block_state g image n)) → IsWrong g capacity image c (part_for compared) (refusal_for compared b)
 wrong_at g capacity image c aspect.BadSet b w = record { part_is = refl; fails = fails_at g image aspect.BadSet c.blocks b w; says = w }
 wrong_at g capacity image c aspect.State b w = record { part_is = refl; fails = fails_at g image aspect.State c.blocks b w; says = w }
 wrong_at g capacity image c aspect.Live b w = record { part_is = refl; fails = fails_at g image aspect.Live c.blocks b w; says = w }
@@ -63,7 +63,7 @@ wrong_at g capacity image c aspect.Wear b w = record { part_is = refl; fails = f
 
 pub block_wrong : (g : Geometry) (capacity : ℕ) (image : Image) (c : Claim) (b : ℕ) (compared : Aspect) (reals : List BlockState) (s t : BlockState)
     → AreSame b compared c.blocks reals → b < length reals → length c.blocks ≡ length reals → slice_get c.blocks b ≡ Some s
-    → slice_get reals b ≡ Some t → (IsSame compared s t → ⊥) → AreStates g image reals
+    → slice_get reals b ≡ Some t → (IsSameInAspect compared s t → ⊥) → AreStates g image reals
     → IsWrong g capacity image c (part_for compared) (refusal_for compared b)
 block_wrong g capacity image c b compared reals s t h within size at_s at_t differ states =
     let e = states.size in
@@ -72,6 +72,6 @@ block_wrong g capacity image c b compared reals s t h within size at_s at_t diff
       within = omega arith;
       state = s;
       at = at_s;
-      wrong = λ x. differ (subst (λ z. IsSame compared s z) (sym real) x);
+      wrong = λ x. differ (subst (λ z. IsSameInAspect compared s z) (sym real) x);
       before = all_same b g image compared c.blocks reals h (omega arith) (omega arith) states;
     })

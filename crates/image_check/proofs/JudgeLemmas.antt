@@ -11,7 +11,7 @@ use Rattle.bad_blocks.specs.declared.table.TableRow.{TableRow}
 use Rattle.certificate.specs.declared.block_state.BlockState.{BlockState}
 use Rattle.certificate.specs.Claim.{Claim, sizes_of}
 use Rattle.image_check.specs.declared.refusal.Refusal.{Refusal}
-use Rattle.image_check.specs.declared.look.Look.{Look}
+use Rattle.image_check.specs.declared.look.BlockLook.{BlockLook}
 use Rattle.image_check.specs.declared.survey.Survey.{Survey}
 use Rattle.image_check.specs.Agrees.{IsAsked, AreInRange}
 use Rattle.image_check.specs.Blocks.{AreStates, IsTableOf}
@@ -52,7 +52,7 @@ rows_fail g k capacity image items c passed r e keys passes distinct h =
     (subst (λ x. (capacity : ℕ) (image : Image) → SurveysKeys x image items → HasPassed (marks image) (row_count x) c.sectors passed → AreDistinct (marks image) → FailsFrom x capacity image c 4 r) e h) capacity image keys passes distinct
 
 -- the states that were made are those of the blocks
-pub states_known : (g k : Geometry) (image : Image) (s : Survey) (newest : List Newest) (looks : List Look) (counts given : List ℕ)
+pub states_known : (g k : Geometry) (image : Image) (s : Survey) (newest : List Newest) (looks : List BlockLook) (counts given : List ℕ)
     (rows : List TableRow) (states : List BlockState) → k ≡ g → IsSorted g image s → AreInRange g (marks image) → IsTableOf g image rows
     → newest ≡ s.newest.items → looks ≡ s.looks.items → given ≡ counts
     → ((image : Image) → SurveysKeys k image newest → AreLiveCounts k image counts)

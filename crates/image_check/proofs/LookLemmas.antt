@@ -18,8 +18,8 @@ use Rattle.page_layout.specs.Page.{Page, Image}
 use Rattle.page_layout.specs.Sound.{record_of, is_erased_page}
 use Rattle.page_layout.specs.Block.{block_pages, is_programmed, is_broken, has_gap, written, wear_in, has_data_kind, begins_data, sequence_in}
 use Rattle.page_layout.proofs.CountLemmas.{count_by-append}
-use Rattle.image_check.specs.declared.look.Look.{Look}
-use Rattle.image_check.specs.Survey.{look_of, look_step, HasLooks}
+use Rattle.image_check.specs.declared.look.BlockLook.{BlockLook}
+use Rattle.image_check.specs.Survey.{block_look_of, look_step, HasLooks}
 
 any-append : {X : Type 0} (p : X → Bool) (xs : List X) (x : X) → list_any p (xs ++ x ∷ []) ≡ (list_any p xs || p x)
 any-append p [] x = or-false (p x)
@@ -54,8 +54,8 @@ one_page p = elim (is_erased_page p) as (λ b. count_by (λ (q : Page). not b) (
 written-append : (ps : List Page) (p : Page) → written (ps ++ p ∷ []) ≡ written ps + cond (is_erased_page p) 0 1
 written-append ps p = count_by-append is_programmed ps (p ∷ []) ∙ ap (λ k. written ps + k) (one_page p)
 
-pub look_step-look_of : (ps : List Page) (p : Page) (first : Bool) → IsFirst first ps → look_step (look_of ps) first (is_erased_page p) (record_of p) ≡ look_of (ps ++ p ∷ [])
-unfolding look_step look_of
+pub look_step-look_of : (ps : List Page) (p : Page) (first : Bool) → IsFirst first ps → look_step (block_look_of ps) first (is_erased_page p) (record_of p) ≡ block_look_of (ps ++ p ∷ [])
+unfolding look_step block_look_of
 look_step-look_of ps p first e =
     let e1 = written-append ps p in
     let e2 = any-append is_erased_page ps p in
@@ -130,27 +130,27 @@ cases_block c b = elim (cases_order c b) [
   | inr (inr above) ↦ inr (λ e. absurd (omega arith))
 ]
 
-pub looks_more : (g : Geometry) (image : Image) (row b i : ℕ) (items : List Look) (p : Page) (first : Bool) (d : Look) → HasLooks g image row items → row ≡ b * g.pages + i → i < g.pages → b < g.blocks → first ≡ eqb i 0 → slice_get image row ≡ Some p
+pub looks_more : (g : Geometry) (image : Image) (row b i : ℕ) (items : List BlockLook) (p : Page) (first : Bool) (d : BlockLook) → HasLooks g image row items → row ≡ b * g.pages + i → i < g.pages → b < g.blocks → first ≡ eqb i 0 → slice_get image row ≡ Some p
     → HasLooks g image (row + 1) (set items b (look_step (get_or items b d) first (is_erased_page p) (record_of p)))
 looks_more g image row b i items p first d h at within in_blocks e is =
     let ps = take (row - b * g.pages) (block_pages g image b) in
-    let old : get_or items b d ≡ look_of ps = get_or_from_slice_get items b (look_of ps) d (h.at b in_blocks) in
+    let old : get_or items b d ≡ block_look_of ps = get_or_from_slice_get items b (block_look_of ps) d (h.at b in_blocks) in
     let page : slice_get (block_pages g image b) i ≡ Some p = block_page g image b i row at within ∙ is in
     let long = slice_get_within (block_pages g image b) i p page in
     let size : length ps ≡ i = omega (arith, length-take (row - b * g.pages) (block_pages g image b)) in
     let is_first : IsFirst first ps = record { yes = λ t. rw size (eqb-true i 0 (sym e ∙ t)); no = λ f. not_zero i (length ps) size (sym e ∙ f) } in
     let new = look_step (get_or items b d) first (is_erased_page p) (record_of p) in
-    let step : new ≡ look_of (ps ++ p ∷ []) = ap (λ l. look_step l first (is_erased_page p) (record_of p)) old ∙ look_step-look_of ps p first is_first in
+    let step : new ≡ block_look_of (ps ++ p ∷ []) = ap (λ l. look_step l first (is_erased_page p) (record_of p)) old ∙ look_step-look_of ps p first is_first in
     let in_items : b < length items = omega (arith, h.size) in
     record {
       size = length-set items b new ∙ h.size;
       at = λ c k. elim (cases_block c b) [
         | inl same ↦ rw (same, slice_get-set_same items b new in_items, step, same_block g image b i row p at within is) refl
-        | inr ne ↦ slice_get-set_other items b c new ne ∙ (h.at c k ∙ ap (λ l. Some (look_of l)) (sym (other_block g image b c i row at within ne)))
+        | inr ne ↦ slice_get-set_other items b c new ne ∙ (h.at c k ∙ ap (λ l. Some (block_look_of l)) (sym (other_block g image b c i row at within ne)))
       ];
     }
 
-pub bounded_set : (items : List Look) (b row : ℕ) (new d : Look) → b < length items → new.written ≤ (get_or items b d).written + 1 → All (λ l. l.written ≤ row) items → All (λ l. l.written ≤ row + 1) (set items b new)
+pub bounded_set : (items : List BlockLook) (b row : ℕ) (new d : BlockLook) → b < length items → new.written ≤ (get_or items b d).written + 1 → All (λ l. l.written ≤ row) items → All (λ l. l.written ≤ row + 1) (set items b new)
 bounded_set items b row new d l h all =
     let here = all b d l in
     let more : All (λ l. l.written ≤ row + 1) items = λ k e m. let x = all k e m in omega arith in
@@ -161,12 +161,12 @@ slice_get-replicate zero i x l = absurd (omega arith)
 slice_get-replicate (suc n) zero x l = refl
 slice_get-replicate (suc n) (suc i) x l = slice_get-replicate n i x (omega arith)
 
-pub looks_start : (g : Geometry) (image : Image) (items : List Look) (look : Look) → look ≡ look_of [] → items ≡ replicate g.blocks look → HasLooks g image 0 items
+pub looks_start : (g : Geometry) (image : Image) (items : List BlockLook) (look : BlockLook) → look ≡ block_look_of [] → items ≡ replicate g.blocks look → HasLooks g image 0 items
 looks_start g image items look unseen e = record {
   size = ap length e ∙ length-replicate g.blocks look;
   at = λ b k. let none : 0 - b * g.pages ≡ 0 = omega arith in ap (λ xs. slice_get xs b) e ∙ (slice_get-replicate g.blocks b look k ∙ rw none (ap Some unseen));
 }
 
-pub bounded_start : (n : ℕ) (look : Look) → look ≡ look_of [] → All (λ l. l.written ≤ 0) (replicate n look)
-unfolding look_of
+pub bounded_start : (n : ℕ) (look : BlockLook) → look ≡ block_look_of [] → All (λ l. l.written ≤ 0) (replicate n look)
+unfolding block_look_of
 bounded_start n look e k d l = rw (get_or-replicate n k look d (omega (arith, length-replicate n look)), e) (omega arith)

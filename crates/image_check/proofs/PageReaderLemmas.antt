@@ -14,7 +14,7 @@ use Rattle.page_layout.specs.Raw.{raw_image, page_from}
 use Rattle.page_layout.proofs.RawLemmas.{raw_image-at}
 use Rattle.image_check.specs.declared.page_reader.Cut.{Cut}
 use Rattle.image_check.specs.declared.page_reader.Cut.TheVariants.{Ended, Failed}
-use Rattle.image_check.specs.PageReader.{image_bytes, ReadsUpTo, HasMore, IsCut, IsReadTo, IsTaken}
+use Rattle.image_check.specs.PageReader.{image_bytes, ReadsUpTo, HasMore, ReadsFewer, IsReadTo, IsTaken}
 
 -- ---- known bytes
 
@@ -34,7 +34,7 @@ one_beyond n = omega arith
 
 -- ---- a cut
 
-pub cut_ended : (size n : ℕ) (a b d : Option (List ℕ)) (xs ys : List ℕ) → Consumes a b xs → length xs < size → n ≡ 0 → Consumes b d (take n ys) → IsAtEnd d → IsCut size a d Ended
+pub cut_ended : (size n : ℕ) (a b d : Option (List ℕ)) (xs ys : List ℕ) → Consumes a b xs → length xs < size → n ≡ 0 → Consumes b d (take n ys) → IsAtEnd d → ReadsFewer size a d Ended
 cut_ended size n a b d xs ys first few none second ends = record {
   bytes = xs ++ [];
   few = omega (arith, length-append xs []);
@@ -42,10 +42,10 @@ cut_ended size n a b d xs ys first few none second ends = record {
   ends = ends;
 }
 
-pub cut_failed : (size : ℕ) (a b d : Option (List ℕ)) (xs : List ℕ) → Consumes a b xs → length xs < size → Keeps b d → IsCut size a d Failed
+pub cut_failed : (size : ℕ) (a b d : Option (List ℕ)) (xs : List ℕ) → Consumes a b xs → length xs < size → Keeps b d → ReadsFewer size a d Failed
 cut_failed size a b d xs first few keeps = record { bytes = xs; few = few; read = Consumes-kept a b d xs first keeps; ends = tt }
 
-pub cut_after : (size more : ℕ) (a b d : Option (List ℕ)) (xs : List ℕ) (cut : Cut) → Consumes a b xs → length xs + size ≤ more → IsCut size b d cut → IsCut more a d cut
+pub cut_after : (size more : ℕ) (a b d : Option (List ℕ)) (xs : List ℕ) (cut : Cut) → Consumes a b xs → length xs + size ≤ more → ReadsFewer size b d cut → ReadsFewer more a d cut
 cut_after size more a b d xs cut first le h = record {
   bytes = xs ++ h.bytes;
   few = (let few = h.few in omega (arith, length-append xs h.bytes));
@@ -94,7 +94,7 @@ pub page_size : (g : Geometry) (n m k l : ℕ) → n ≡ k → k ≡ g.data_byte
 page_size g n m k l body body_whole spare spare_whole = omega arith
 
 -- a page that wasn't read whole
-pub read_cut : (g : Geometry) (rows size : ℕ) (a b d : Option (List ℕ)) (shows : Image → Type 0) (cut : Cut) → IsReadTo g rows a b shows → size ≡ page_bytes g → rows < row_count g → IsCut size b d cut → IsCut (image_bytes g) a d cut
+pub read_cut : (g : Geometry) (rows size : ℕ) (a b d : Option (List ℕ)) (shows : Image → Type 0) (cut : Cut) → IsReadTo g rows a b shows → size ≡ page_bytes g → rows < row_count g → ReadsFewer size b d cut → ReadsFewer (image_bytes g) a d cut
 read_cut g rows size a b d shows cut h same within short =
     let step = next_times rows (page_bytes g) in
     let room : (rows + 1) * page_bytes g ≤ row_count g * page_bytes g = mul-le-mul_right (page_bytes g) (at_most rows (row_count g) within) in
@@ -112,7 +112,7 @@ ended (Some ys) None xs read few e = absurd read
 ended (Some ys) (Some zs) [] read few e = read ∙ e
 ended (Some ys) (Some zs) (x ∷ xs) read few e = absurd (omega arith)
 
-pub end_of_cut : (b d : Option (List ℕ)) → IsCut 1 b d Ended → IsAtEnd b
+pub end_of_cut : (b d : Option (List ℕ)) → ReadsFewer 1 b d Ended → IsAtEnd b
 end_of_cut b d h = ended b d h.bytes h.read h.few h.ends
 
 pub one_more : (b d : Option (List ℕ)) (xs : List ℕ) → Consumes b d xs → length xs ≡ 1 → HasMore b
@@ -122,7 +122,7 @@ one_more (Some ys) (Some zs) xs read one = let size : length ys ≡ length (xs +
 
 -- ---- how many bytes were read
 
-pub reads_cut : (size most : ℕ) (a b : Option (List ℕ)) (cut : Cut) → size ≤ most → IsCut size a b cut → ReadsUpTo most a b
+pub reads_cut : (size most : ℕ) (a b : Option (List ℕ)) (cut : Cut) → size ≤ most → ReadsFewer size a b cut → ReadsUpTo most a b
 reads_cut size most a b cut le h = record { bytes = h.bytes; few = (let few = h.few in omega arith); read = h.read }
 
 pub reads_one : (a b : Option (List ℕ)) (xs : List ℕ) → length xs ≡ 1 → Consumes a b xs → ReadsUpTo 1 a b
@@ -151,7 +151,7 @@ short_of g (Some ys) (Some zs) xs read few e =
     let same : length ys ≡ length xs = ap length (read ∙ (ap (λ z. xs ++ z) e ∙ append-nil xs)) in
     λ whole. absurd (omega arith)
 
-pub cut_short : (g : Geometry) (a b : Option (List ℕ)) → IsCut (image_bytes g) a b Ended → IfSome a (λ bytes. ¬ (length bytes ≡ image_bytes g))
+pub cut_short : (g : Geometry) (a b : Option (List ℕ)) → ReadsFewer (image_bytes g) a b Ended → IfSome a (λ bytes. ¬ (length bytes ≡ image_bytes g))
 cut_short g a b h = short_of g a b h.bytes h.read h.few h.ends
 
 -- more bytes than an image has

@@ -9,7 +9,7 @@ use Rattle.page_layout.specs.declared.record.Record.{Record}
 use Rattle.page_layout.specs.declared.record.Key.{Key}
 use Rattle.page_layout.specs.declared.record.Key.TheVariants.{Sector, Translation, Table}
 use Rattle.image_check.specs.declared.newest.Newest.{Newest}
-use Rattle.image_check.specs.Newest.{place_in, blank}
+use Rattle.image_check.specs.Newest.{place_in, no_newest}
 use Rattle.page_layout.specs.Geometry.{row_count, translation_pages, table_pages}
 use Rattle.page_layout.specs.Greatest.{place_of}
 use Rattle.page_layout.specs.Page.{Image}
@@ -24,7 +24,7 @@ use Rattle.page_layout.specs.Newest.{sequence_at}
 use Rattle.page_layout.proofs.GreatestLemmas.{IsInjective, some_greatest}
 use Rattle.page_layout.proofs.NewestLemmas.{newest-is, IsOf, sequence_at-is, sequence_at_past, newest_from}
 use Rattle.image_check.specs.declared.refusal.Refusal.TheVariants as refusals
-use Rattle.image_check.specs.Survey.{index_of, HasNewest, HasOutside, IsFirstOutside, pair_of, pairs_below, HasPassed, IsPageOf, AreClaimed}
+use Rattle.image_check.specs.Survey.{index_of, HasNewest, HasOutside, IsFirstOutside, pair_of, pairs_below, HasPassed, HoldsSectorPage, AreClaimed}
 use Rattle.image_check.specs.Agrees.{AreInRange, AreNewest, IsDirectory}
 use Rattle.image_check.specs.Refused.{IsDirectoryWrong, IsWrong, Numbers, Directory, Sectors}
 use Rattle.image_check.proofs.TellLemmas.{tells_place}
@@ -99,18 +99,18 @@ surveyed_row g image items i key d whole h within at =
 
 -- each sector's row is that of the survey
 pub sectors_hold : (g : Geometry) (image : Image) (items : List Newest) (rows : List (Option ℕ)) → length image ≡ row_count g
-    → HasNewest g (marks image) (row_count g) items → ((n : ℕ) → n < g.sectors → slice_get rows n ≡ Some (place_in (get_or items n blank)))
+    → HasNewest g (marks image) (row_count g) items → ((n : ℕ) → n < g.sectors → slice_get rows n ≡ Some (place_in (get_or items n no_newest)))
     → AreNewest g image rows
 sectors_hold g image items rows whole h same = record {
-  newest_is = λ n k. same n k ∙ ap Some (surveyed_row g image items n (Sector n) blank whole h k refl);
+  newest_is = λ n k. same n k ∙ ap Some (surveyed_row g image items n (Sector n) no_newest whole h k refl);
 }
 
 -- the directory's rows are those of the survey
 pub directory_holds : (g : Geometry) (image : Image) (items : List Newest) (rows : List (Option ℕ)) → length image ≡ row_count g → HasNewest g (marks image) (row_count g) items
-    → ((i : ℕ) → i < translation_pages g + table_pages g → slice_get rows i ≡ Some (place_in (get_or items (g.sectors + i) blank))) → IsDirectory g image rows
+    → ((i : ℕ) → i < translation_pages g + table_pages g → slice_get rows i ≡ Some (place_in (get_or items (g.sectors + i) no_newest))) → IsDirectory g image rows
 directory_holds g image items rows whole h same = record {
-  translation = λ t k. same t (omega arith) ∙ ap Some (surveyed_row g image items (g.sectors + t) (Translation t) blank whole h k refl);
-  table = λ u k. same (translation_pages g + u) (omega arith) ∙ ap Some (surveyed_row g image items (g.sectors + (translation_pages g + u)) (Table u) blank whole h k refl);
+  translation = λ t k. same t (omega arith) ∙ ap Some (surveyed_row g image items (g.sectors + t) (Translation t) no_newest whole h k refl);
+  table = λ u k. same (translation_pages g + u) (omega arith) ∙ ap Some (surveyed_row g image items (g.sectors + (translation_pages g + u)) (Table u) no_newest whole h k refl);
 }
 
 some_same : (a b : Option ℕ) → Some a ≡ Some b → a ≡ b
@@ -152,9 +152,9 @@ numbers_wrong g capacity image claim outside row h is =
     }
 
 -- a row of the directory that is the survey's isn't wrong
-directory_right : (g : Geometry) (image : Image) (items : List Newest) (rows : List (Option ℕ)) (place : ℕ) → Surveyed g image items → slice_get rows place ≡ Some (place_in (get_or items (g.sectors + place) blank)) → IsDirectoryWrong g image rows place → ⊥
-directory_right g image items rows place h same (inl w) = w.1 (same ∙ ap Some (surveyed_row g image items (g.sectors + place) (Translation place) blank h.whole h.noted w.0 refl))
-directory_right g image items rows place h same (inr w) = w.3 (same ∙ ap Some (surveyed_row g image items (g.sectors + place) (Table w.0) blank h.whole h.noted w.1 (ap (λ k. g.sectors + k) w.2)))
+directory_right : (g : Geometry) (image : Image) (items : List Newest) (rows : List (Option ℕ)) (place : ℕ) → Surveyed g image items → slice_get rows place ≡ Some (place_in (get_or items (g.sectors + place) no_newest)) → IsDirectoryWrong g image rows place → ⊥
+directory_right g image items rows place h same (inl w) = w.1 (same ∙ ap Some (surveyed_row g image items (g.sectors + place) (Translation place) no_newest h.whole h.noted w.0 refl))
+directory_right g image items rows place h same (inr w) = w.3 (same ∙ ap Some (surveyed_row g image items (g.sectors + place) (Table w.0) no_newest h.whole h.noted w.1 (ap (λ k. g.sectors + k) w.2)))
 
 directory_fails : (g : Geometry) (image : Image) (rows : List (Option ℕ)) (place : ℕ) → IsDirectoryWrong g image rows place → IsDirectory g image rows → ⊥
 directory_fails g image rows place (inl w) all = w.1 (all.translation place w.0)
@@ -163,7 +163,7 @@ directory_fails g image rows place (inr w) all = w.3 (ap (λ k. slice_get rows k
 pub directory_wrong : (g : Geometry) (capacity : ℕ) (image : Image) (items : List Newest) (c : Claim) (place i : ℕ) (d : Newest) (claimed : Option ℕ)
     → Surveyed g image items → place < translation_pages g + table_pages g → i ≡ g.sectors + place → slice_get c.directory place ≡ Some claimed
     → place_in (get_or items i d) ≢ claimed
-    → ((j : ℕ) → j < place → slice_get c.directory j ≡ Some (place_in (get_or items (g.sectors + j) blank))) → IsWrong g capacity image c Directory (refusals.DirectoryWrong place)
+    → ((j : ℕ) → j < place → slice_get c.directory j ≡ Some (place_in (get_or items (g.sectors + j) no_newest))) → IsWrong g capacity image c Directory (refusals.DirectoryWrong place)
 directory_wrong g capacity image items c place i d claimed h within at is ne earlier =
     let w = directory_differs g image items c.directory place i d claimed h within at is ne in
     record {
@@ -215,7 +215,7 @@ no_such_record g capacity image c n row passed whole size passes h within at not
     }
 
 -- under distinct sequences a sector of which there is a sound page has a newest one
-has_newest : (marks : List (Option Record)) (n row : ℕ) → AreDistinct marks → IsPageOf marks n row → newest marks (Sector n) ≡ None → ⊥
+has_newest : (marks : List (Option Record)) (n row : ℕ) → AreDistinct marks → HoldsSectorPage marks n row → newest marks (Sector n) ≡ None → ⊥
 has_newest marks n row distinct h none =
     let injective : IsInjective (sequence_at marks (Sector n)) = record {
       apart = λ a b s x y.
@@ -230,7 +230,7 @@ has_newest marks n row distinct h none =
 pub not_newest : (g : Geometry) (capacity : ℕ) (image : Image) (items : List Newest) (c : Claim) (n : ℕ) (d : Newest) (seen claimed : Option ℕ)
     → Surveyed g image items → AreDistinct (marks image) → AreClaimed (length c.sectors) (marks image) c.sectors → length c.sectors ≡ g.sectors
     → n < g.sectors → slice_get c.sectors n ≡ Some claimed → seen ≡ place_in (get_or items n d) → seen ≢ claimed
-    → ((m : ℕ) → m < n → slice_get c.sectors m ≡ Some (place_in (get_or items m blank))) → IsWrong g capacity image c Sectors (refusals.NotNewest n (unwrap_or seen 0))
+    → ((m : ℕ) → m < n → slice_get c.sectors m ≡ Some (place_in (get_or items m no_newest))) → IsWrong g capacity image c Sectors (refusals.NotNewest n (unwrap_or seen 0))
 not_newest g capacity image items c n d seen claimed h distinct claims size within at is ne earlier =
     by_newest (newest (marks image) (Sector n)) seen refl (is ∙ surveyed_row g image items n (Sector n) d h.whole h.noted within refl) claimed ne at
   where
@@ -242,7 +242,7 @@ not_newest g capacity image items c n d seen claimed h distinct claims size with
         within = within;
         newest_is = is;
         claimed = λ e. ne' (let both : Some claim ≡ Some (Some row) = sym at' ∙ e in cc);
-        before = λ m l. earlier m l ∙ ap Some (surveyed_row g image items m (Sector m) blank h.whole h.noted (omega arith) refl);
+        before = λ m l. earlier m l ∙ ap Some (surveyed_row g image items m (Sector m) no_newest h.whole h.noted (omega arith) refl);
         there = claims;
       };
     }

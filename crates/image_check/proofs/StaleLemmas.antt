@@ -15,7 +15,7 @@ use Rattle.page_layout.specs.declared.geometry.Geometry.{Geometry}
 use Rattle.page_layout.specs.declared.record.Key.TheVariants.{Sector, Translation}
 use Rattle.image_check.specs.declared.newest.Newest.{Newest}
 use Rattle.page_layout.specs.Geometry.{entries, translation_pages}
-use Rattle.image_check.specs.Newest.{place_in, blank}
+use Rattle.image_check.specs.Newest.{place_in, no_newest}
 use Rattle.page_layout.specs.Page.{Image}
 use Rattle.page_layout.specs.Flash.{Flash}
 use Rattle.page_layout.specs.Newest.{newest}
@@ -181,14 +181,14 @@ entries_read g first now items t i latest d body keys within at is same h =
 
 -- the test of a sector by its page is that by the image
 stale_test : (g : Geometry) (image : Image) (items : List Newest) (t n : ℕ) (body : List ℕ) → SurveysKeys g image items → AreEntries g image t body → t * entries g ≤ n → n < t * entries g + entries g → n < g.sectors
-    → not (same_row (entry_at body (n - t * entries g)) (place_in (get_or items n blank))) ≡ is_stale g image n
+    → not (same_row (entry_at body (n - t * entries g)) (place_in (get_or items n no_newest))) ≡ is_stale g image n
 unfolding is_stale entry_of
 stale_test g image items t n body keys h low high within =
     let place = place_of_sector (entries g) t n low high in
-    let row : place_in (get_or items n blank) ≡ newest (marks image) (Sector n) = surveyed_row g image items n (Sector n) blank keys.whole keys.noted within refl in
+    let row : place_in (get_or items n no_newest) ≡ newest (marks image) (Sector n) = surveyed_row g image items n (Sector n) no_newest keys.whole keys.noted within refl in
     let entry : entry_at body (n - t * entries g) ≡ entry_in image (n % entries g) (newest (marks image) (Translation (n / entries g))) =
     h.entry (n - t * entries g) (omega arith) ∙ (ap (λ i. entry_in image i (newest (marks image) (Translation t))) (sym place.entry) ∙ ap (λ k. entry_in image (n % entries g) (newest (marks image) (Translation k))) (sym place.page)) in
-    ap (λ e. not (same_row e (place_in (get_or items n blank)))) entry ∙ ap (λ r. not (same_row (entry_in image (n % entries g) (newest (marks image) (Translation (n / entries g)))) r)) row
+    ap (λ e. not (same_row e (place_in (get_or items n no_newest)))) entry ∙ ap (λ r. not (same_row (entry_in image (n % entries g) (newest (marks image) (Translation (n / entries g)))) r)) row
 
 -- ---- all of them
 
@@ -202,12 +202,12 @@ stale_start g image stale e = record { is = e }
 pub stale_more : (g : Geometry) (image : Image) (items : List Newest) (t first end : ℕ) (body old new : List ℕ) → SurveysKeys g image items
     → AreEntries g image t body → first ≡ t * entries g → first ≤ end → end ≤ g.sectors → end ≤ first + entries g
     → AreStaleBelow g image first old
-    → new ≡ old ++ filter (λ n. not (same_row (entry_at body (n - first)) (place_in (get_or items n blank)))) (range_with_len first (end - first)) → AreStaleBelow g image end new
+    → new ≡ old ++ filter (λ n. not (same_row (entry_at body (n - first)) (place_in (get_or items n no_newest)))) (range_with_len first (end - first)) → AreStaleBelow g image end new
 stale_more g image items t first end body old new keys h at order within short before is =
-    let p : ℕ → Bool = λ n. not (same_row (entry_at body (n - first)) (place_in (get_or items n blank))) in
+    let p : ℕ → Bool = λ n. not (same_row (entry_at body (n - first)) (place_in (get_or items n no_newest))) in
     let same : filter p (range_with_len first (end - first)) ≡ filter (is_stale g image) (range_with_len first (end - first)) =
     filter_same p (is_stale g image) first (end - first) (λ k low high.
-    ap (λ (f : ℕ). not (same_row (entry_at body (k - f)) (place_in (get_or items k blank)))) at ∙ stale_test g image items t k body keys h (omega arith) (omega arith) (omega arith)) in
+    ap (λ (f : ℕ). not (same_row (entry_at body (k - f)) (place_in (get_or items k no_newest)))) at ∙ stale_test g image items t k body keys h (omega arith) (omega arith) (omega arith)) in
     let start : first ≡ 0 + first = omega arith in
     let size : first + (end - first) ≡ end = omega arith in
     let joined : filter (is_stale g image) (range_with_len 0 first) ++ filter (is_stale g image) (range_with_len first (end - first)) ≡ filter (is_stale g image) (range_with_len 0 end) =

@@ -14,7 +14,7 @@ use Rattle.image_check.specs.declared.pass.Pass.{Pass}
 use Rattle.image_check.specs.declared.refusal.Refusal.{Refusal}
 use Rattle.image_check.specs.declared.refusal.Refusal.TheVariants as refusals
 use Rattle.image_check.specs.Accepted.{Acceptance, IsAcceptance}
-use Rattle.image_check.specs.PageReader.{image_bytes, ReadsUpTo, HasMore, IsCut, IsReadTo, IsTaken}
+use Rattle.image_check.specs.PageReader.{image_bytes, ReadsUpTo, HasMore, ReadsFewer, IsReadTo, IsTaken}
 use Rattle.image_check.specs.Passed.{IsBegun, Shows}
 use Rattle.image_check.specs.Refused.{IsFirstWrong, IsJudgement}
 use Rattle.image_check.specs.Streamed.{IsUntaken, IsStreamRefusal, refusal_of}
@@ -27,7 +27,7 @@ shows_all g p image = Shows image (row_count g) p
 
 -- ---- why an image was not taken
 
-pub cut_untaken : (g : Geometry) (a b : Option (List ℕ)) (cut : Cut) (r : Refusal) → IsCut (image_bytes g) a b cut → r ≡ refusal_of cut → IfSome a (λ bytes. IsUntaken g bytes r)
+pub cut_untaken : (g : Geometry) (a b : Option (List ℕ)) (cut : Cut) (r : Refusal) → ReadsFewer (image_bytes g) a b cut → r ≡ refusal_of cut → IfSome a (λ bytes. IsUntaken g bytes r)
 cut_untaken g a b Ended r h e = if_more a (λ bytes. ¬ (length bytes ≡ image_bytes g)) (λ bytes. IsUntaken g bytes r) (cut_short g a b h) (λ bytes short. inr (e, short))
 cut_untaken g a b Failed r h e = if_all a (λ bytes. IsUntaken g bytes r) (λ bytes. inl e)
 

@@ -21,7 +21,7 @@ use Rattle.page_layout.proofs.KeyLemmas.{cases_key}
 use Rattle.std.proofs.Common.{All}
 use Rattle.certificate.specs.Spelling.{IsRowOf}
 use Rattle.image_check.specs.declared.newest.Newest.{Newest}
-use Rattle.image_check.specs.Newest.{Tells, place_in, blank}
+use Rattle.image_check.specs.Newest.{TellsNewest, place_in, no_newest}
 use Rattle.image_check.proofs.TellLemmas.{IsNext, tells_place}
 use Rattle.image_check.specs.Survey.{index_of, HasNewest, HasOutside, pair_of, pairs_below, HasPassed}
 
@@ -54,9 +54,9 @@ index_within g (Table u) h = omega arith
 
 -- what is said of a key stays with a page that is not of it
 still : (g : Geometry) (marks : List (Option Record)) (row : ℕ) (key : Key) (items : List Newest)
-    → Tells (get_or items (index_of g key) blank) (latest_below marks key row) → sequence_at marks key row ≡ None
-    → Tells (get_or items (index_of g key) blank) (latest_below marks key (row + 1))
-still g marks row key items h none = subst (λ l. Tells (get_or items (index_of g key) blank) l) (sym (latest_other marks key row none)) h
+    → TellsNewest (get_or items (index_of g key) no_newest) (latest_below marks key row) → sequence_at marks key row ≡ None
+    → TellsNewest (get_or items (index_of g key) no_newest) (latest_below marks key (row + 1))
+still g marks row key items h none = subst (λ l. TellsNewest (get_or items (index_of g key) no_newest) l) (sym (latest_other marks key row none)) h
 
 pub newest_none : (g : Geometry) (marks : List (Option Record)) (row : ℕ) (items : List Newest) → HasNewest g marks row items → get_or marks row None ≡ None → HasNewest g marks (row + 1) items
 newest_none g marks row items h e = record {
@@ -76,14 +76,14 @@ newest_outside g marks row items r h e outside = record {
 newest_of_key : (g : Geometry) (marks : List (Option Record)) (row i : ℕ) (items : List Newest) (r : Record) (d new : Newest)
     → HasNewest g marks row items → get_or marks row None ≡ Some r → IsKeyOf g (key_of r) → i ≡ index_of g (key_of r) → i < length items
     → IsNext (get_or items i d) row r.sequence new
-    → Tells (get_or (set items i new) (index_of g (key_of r)) blank) (latest_below marks (key_of r) (row + 1))
+    → TellsNewest (get_or (set items i new) (index_of g (key_of r)) no_newest) (latest_below marks (key_of r) (row + 1))
 newest_of_key g marks row i items r d new h e within at in_items next =
     let old : Latest = latest_below marks (key_of r) row in
-    let read : get_or items i d ≡ get_or items (index_of g (key_of r)) blank = get_or_default items i d blank in_items ∙ ap (λ j. get_or items j blank) at in
-    let told : Tells new (step old row (Some r.sequence)) = next old (subst (λ x. Tells x old) (sym read) (h.at (key_of r) within)) in
-    let here : get_or (set items i new) (index_of g (key_of r)) blank ≡ new = ap (λ j. get_or (set items i new) j blank) (sym at) ∙ get_or-set_same items i new blank in_items in
+    let read : get_or items i d ≡ get_or items (index_of g (key_of r)) no_newest = get_or_default items i d no_newest in_items ∙ ap (λ j. get_or items j no_newest) at in
+    let told : TellsNewest new (step old row (Some r.sequence)) = next old (subst (λ x. TellsNewest x old) (sym read) (h.at (key_of r) within)) in
+    let here : get_or (set items i new) (index_of g (key_of r)) no_newest ≡ new = ap (λ j. get_or (set items i new) j no_newest) (sym at) ∙ get_or-set_same items i new no_newest in_items in
     let more : step old row (Some r.sequence) ≡ latest_below marks (key_of r) (row + 1) = sym (latest_more marks (key_of r) row ∙ ap (step old row) (sequence_at-key marks row r e)) in
-    subst (λ l. Tells (get_or (set items i new) (index_of g (key_of r)) blank) l) more (subst (λ x. Tells x (step old row (Some r.sequence))) (sym here) told)
+    subst (λ l. TellsNewest (get_or (set items i new) (index_of g (key_of r)) no_newest) l) more (subst (λ x. TellsNewest x (step old row (Some r.sequence))) (sym here) told)
 
 pub newest_set : (g : Geometry) (marks : List (Option Record)) (row i : ℕ) (items : List Newest) (r : Record) (d new : Newest)
     → HasNewest g marks row items → get_or marks row None ≡ Some r → IsKeyOf g (key_of r) → i ≡ index_of g (key_of r)
@@ -94,10 +94,10 @@ newest_set g marks row i items r d new h e within at next =
       size = length-set items i new ∙ h.size;
       at = λ key k.
           elim (cases_key (key_of r) key) [
-            | inl same ↦ subst (λ (x : Key). Tells (get_or (set items i new) (index_of g x) blank) (latest_below marks x (row + 1))) same (newest_of_key g marks row i items r d new h e within at in_items next)
+            | inl same ↦ subst (λ (x : Key). TellsNewest (get_or (set items i new) (index_of g x) no_newest) (latest_below marks x (row + 1))) same (newest_of_key g marks row i items r d new h e within at in_items next)
             | inr ne ↦
                 let apart : index_of g key ≢ i = λ eq. index_apart g (key_of r) key within k ne (sym at ∙ sym eq) in
-                still g marks row key (set items i new) (subst (λ x. Tells x (latest_below marks key row)) (sym (get_or-set_other items i (index_of g key) new blank apart)) (h.at key k)) (sequence_at-other marks key row r e ne)
+                still g marks row key (set items i new) (subst (λ x. TellsNewest x (latest_below marks key row)) (sym (get_or-set_other items i (index_of g key) new no_newest apart)) (h.at key k)) (sequence_at-other marks key row r e ne)
           ];
     }
 
@@ -121,10 +121,10 @@ pub outside_found : (g : Geometry) (marks : List (Option Record)) (row : ℕ) (x
 outside_found g marks row x h e outside = record { at = record { found = x; here = e; outside = outside }; before = h }
 
 -- what the item of a key says
-pub newest_at : (g : Geometry) (marks : List (Option Record)) (rows i : ℕ) (items : List Newest) (key : Key) (d : Newest) → HasNewest g marks rows items → IsKeyOf g key → i ≡ index_of g key → Tells (get_or items i d) (latest_below marks key rows)
+pub newest_at : (g : Geometry) (marks : List (Option Record)) (rows i : ℕ) (items : List Newest) (key : Key) (d : Newest) → HasNewest g marks rows items → IsKeyOf g key → i ≡ index_of g key → TellsNewest (get_or items i d) (latest_below marks key rows)
 newest_at g marks rows i items key d h within at =
     let in_items : i < length items = omega (arith, index_within g key within, h.size, at) in
-    subst (λ x. Tells x (latest_below marks key rows)) (sym (get_or_default items i d blank in_items ∙ ap (λ j. get_or items j blank) at)) (h.at key within)
+    subst (λ x. TellsNewest x (latest_below marks key rows)) (sym (get_or_default items i d no_newest in_items ∙ ap (λ j. get_or items j no_newest) at)) (h.at key within)
 
 -- ---- sequences
 
@@ -142,12 +142,12 @@ pub latest_start : (ms : List (Option Record)) (key : Key) → latest_below ms k
 unfolding latest_below best
 latest_start ms key = refl
 
-pub newest_start : (g : Geometry) (ms : List (Option Record)) (items : List Newest) (x : Newest) → Tells x Never → items ≡ replicate (key_count g) x → HasNewest g ms 0 items
+pub newest_start : (g : Geometry) (ms : List (Option Record)) (items : List Newest) (x : Newest) → TellsNewest x Never → items ≡ replicate (key_count g) x → HasNewest g ms 0 items
 newest_start g ms items x none e = record {
   size = ap length e ∙ length-replicate (key_count g) x;
   at = λ key within.
-      let here : get_or items (index_of g key) blank ≡ x = ap (λ xs. get_or xs (index_of g key) blank) e ∙ get_or-replicate (key_count g) (index_of g key) x blank (index_within g key within) in
-      subst (λ l. Tells (get_or items (index_of g key) blank) l) (sym (latest_start ms key)) (subst (λ y. Tells y Never) (sym here) none);
+      let here : get_or items (index_of g key) no_newest ≡ x = ap (λ xs. get_or xs (index_of g key) no_newest) e ∙ get_or-replicate (key_count g) (index_of g key) x no_newest (index_within g key within) in
+      subst (λ l. TellsNewest (get_or items (index_of g key) no_newest) l) (sym (latest_start ms key)) (subst (λ y. TellsNewest y Never) (sym here) none);
 }
 
 pub outside_start : (g : Geometry) (ms : List (Option Record)) → HasOutside g ms 0 None
@@ -232,7 +232,7 @@ none_claimed ms row sector claims r claim e of_key claimed ne n at =
 
 -- ---- rows
 
-pub below_start : (n : ℕ) (x : Newest) → Tells x Never → All (λ y. IsRowOf 0 (place_in y)) (replicate n x)
+pub below_start : (n : ℕ) (x : Newest) → TellsNewest x Never → All (λ y. IsRowOf 0 (place_in y)) (replicate n x)
 below_start n x none k d l =
     let e : get_or (replicate n x) k d ≡ x = get_or-replicate n k x d (omega (arith, length-replicate n x)) in
     subst (λ y. IsRowOf 0 (place_in y)) (sym e) (subst (λ o. IsRowOf 0 o) (sym (tells_place x Never none)) tt)

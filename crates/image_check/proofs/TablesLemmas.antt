@@ -7,7 +7,7 @@ use Rattle.std.proofs.lemmas.Bool.{cases_order, cases_lt, lt-ltb, le-ltb}
 use Rattle.std.proofs.Common.{All, replicate, take, drop, length-take, length-drop}
 use Rattle.std.proofs.lemmas.Option.{slice_get-get_or, slice_get_past}
 use Rattle.std.proofs.lemmas.List.{places, length-replicate, get_or-replicate, get_or_default}
-use Rattle.bad_blocks.specs.Table.{IsCounted, no_table_row}
+use Rattle.bad_blocks.specs.Table.{HasFittingWear, no_table_row}
 use Rattle.std.proofs.Math.Nat.{mul-le-mul_right, div-mul-le_self, mul_comm}
 use Rattle.std.proofs.lemmas.Grind.{div_ceil_times}
 use Rattle.page_layout.specs.declared.geometry.Geometry.{Geometry}
@@ -15,7 +15,7 @@ use Rattle.page_layout.specs.declared.record.Key.{Key}
 use Rattle.page_layout.specs.declared.record.Key.TheVariants.{Table}
 use Rattle.page_layout.specs.declared.record.Record.{Record}
 use Rattle.image_check.specs.declared.newest.Newest.{Newest}
-use Rattle.image_check.specs.Newest.{place_in, blank}
+use Rattle.image_check.specs.Newest.{place_in, no_newest}
 use Rattle.page_layout.specs.Geometry.{entries, translation_pages, table_pages, row_count}
 use Rattle.page_layout.specs.Greatest.{place_of}
 use Rattle.page_layout.specs.Limits.{IsDataSize}
@@ -33,7 +33,7 @@ use Rattle.bad_blocks.specs.declared.table.page.TableFault.{TableFault}
 use Rattle.bad_blocks.specs.TablePage as table
 use Rattle.certificate.specs.Claim.{Claim}
 use Rattle.image_check.specs.declared.refusal.Refusal.TheVariants as refusals
-use Rattle.image_check.specs.Blocks.{body_in, table_body, word_of_block, IsBodyOf, IsTableOf}
+use Rattle.image_check.specs.Blocks.{body_in, table_body, word_of_block, IsTableBody, IsTableOf}
 use Rattle.image_check.specs.Surveyed.{SurveysKeys, SurveysTables}
 use Rattle.image_check.specs.Agrees.{HasNewestTable, HasTables}
 use Rattle.image_check.specs.Refused.{IsUnformatted, IsWrong, Tables}
@@ -43,7 +43,7 @@ use Rattle.image_check.proofs.PartLemmas.{surveyed_row}
 
 -- the first n table pages have newest pages
 pub record AreThere (g : Geometry) (items : List Newest) (n : ℕ) : Type 0 where
-  pub each : (u : ℕ) → u < n → (row : ℕ) × (place_in (get_or items (g.sectors + (translation_pages g + u)) blank) ≡ Some row)
+  pub each : (u : ℕ) → u < n → (row : ℕ) × (place_in (get_or items (g.sectors + (translation_pages g + u)) no_newest) ≡ Some row)
 
 pub there_start : (g : Geometry) (items : List Newest) → AreThere g items 0
 there_start g items = record { each = λ u l. absurd (omega arith) }
@@ -58,7 +58,7 @@ there_more g items n i d h at within some = record {
     | inl same ↦
         let here = some_of (place_in (get_or items i d)) some in
         let place : i ≡ g.sectors + (translation_pages g + u) = at ∙ ap (λ k. g.sectors + (translation_pages g + k)) (sym same) in
-        (here.0, ap place_in (ap (λ j. get_or items j blank) (sym place) ∙ get_or_default items i blank d within) ∙ here.1)
+        (here.0, ap place_in (ap (λ j. get_or items j no_newest) (sym place) ∙ get_or_default items i no_newest d within) ∙ here.1)
     | inr (inl below) ↦ h.each u below
     | inr (inr above) ↦ absurd (omega arith)
   ];
@@ -67,7 +67,7 @@ there_more g items n i d h at within some = record {
 pub formatted_of : (g : Geometry) (image : Image) (items : List Newest) (u : ℕ) → AreThere g items (table_pages g) → SurveysKeys g image items → u < table_pages g → HasNewestTable image u
 formatted_of g image items u h keys within =
     let e = h.each u within in
-    record { row = e.0; newest_is = sym (surveyed_row g image items (g.sectors + (translation_pages g + u)) (Table u) blank keys.whole keys.noted within refl) ∙ e.1 }
+    record { row = e.0; newest_is = sym (surveyed_row g image items (g.sectors + (translation_pages g + u)) (Table u) no_newest keys.whole keys.noted within refl) ∙ e.1 }
 
 -- under distinct sequences a key with no newest page has no sound page
 none_newest : (marks : List (Option Record)) (key : Key) → AreDistinct marks → newest marks key ≡ None → (row : ℕ) → sequence_at marks key row ≡ None
@@ -104,7 +104,7 @@ table_is image u row e = ap (body_in image) e
 -- what the survey keeps of a table page is the page
 pub body_kept : (g : Geometry) (image : Image) (items : List Newest) (bytes : List ℕ) (u at size : ℕ) (body : List ℕ)
     → SurveysTables g image items bytes → HasNewestTable image u → u < table_pages g → at ≡ u * g.data_bytes → size ≡ g.data_bytes
-    → body ≡ slice_range bytes at (at + size) → at + size ≤ length bytes → IsBodyOf g image u body
+    → body ≡ slice_range bytes at (at + size) → at + size ≤ length bytes → IsTableBody g image u body
 unfolding table_body
 body_kept g image items bytes u at size body h formatted within place is_size is room = record {
   same = λ i l.
@@ -118,15 +118,15 @@ body_kept g image items bytes u at size body h formatted within place is_size is
     read_in : (xs : List ℕ) (at size i j : ℕ) → j ≡ at + i → i < size → slice_index (slice_range xs at (at + size)) i ≡ get_or xs j 0
     read_in xs at size i j e l = grind (arith, places)
 
-word_kept : (g : Geometry) (image : Image) (u i : ℕ) (body : List ℕ) → IsBodyOf g image u body → i < entries g → word_at body (4 * i) ≡ word_at (table_body image u) (4 * i)
+word_kept : (g : Geometry) (image : Image) (u i : ℕ) (body : List ℕ) → IsTableBody g image u body → i < entries g → word_at body (4 * i) ≡ word_at (table_body image u) (4 * i)
 word_kept g image u i body h l = word_same body (table_body image u) (4 * entries g) (4 * i) h.same (omega arith)
 
-pub formed_of : (g : Geometry) (image : Image) (u : ℕ) (body : List ℕ) → IsBodyOf g image u body → table.IsWellFormed (entries g) g.blocks u body → table.IsWellFormed (entries g) g.blocks u (table_body image u)
+pub formed_of : (g : Geometry) (image : Image) (u : ℕ) (body : List ℕ) → IsTableBody g image u body → table.IsWellFormed (entries g) g.blocks u body → table.IsWellFormed (entries g) g.blocks u (table_body image u)
 formed_of g image u body h formed = record {
   right = λ i l. rw (← word_kept g image u i body h l) (formed.right i l);
 }
 
-damaged_of : (g : Geometry) (image : Image) (u : ℕ) (body : List ℕ) (fault : TableFault) → IsBodyOf g image u body → table.IsFirstWrong (entries g) g.blocks u body fault → table.IsWellFormed (entries g) g.blocks u (table_body image u) → ⊥
+damaged_of : (g : Geometry) (image : Image) (u : ℕ) (body : List ℕ) (fault : TableFault) → IsTableBody g image u body → table.IsFirstWrongWord (entries g) g.blocks u body fault → table.IsWellFormed (entries g) g.blocks u (table_body image u) → ⊥
 damaged_of g image u body fault h wrong formed =
     let t = formed.right wrong.place wrong.within in
     let f = rw (word_kept g image u wrong.place body h wrong.within) at wrong.wrong in
@@ -143,7 +143,7 @@ pub record AreTaken (g : Geometry) (image : Image) (n : ℕ) (rows : List TableR
 pub taken_start : (g : Geometry) (image : Image) (rows : List TableRow) → AreTaken g image 0 rows
 taken_start g image rows = record { formed = λ u l. absurd (omega arith); taken = λ u i l m. absurd (omega arith) }
 
-code_low : (class : Class) → table.code_of class < 3
+code_low : (class : Class) → table.code_of_class class < 3
 code_low Good = omega arith
 code_low Factory = omega arith
 code_low Grown = omega arith
@@ -158,7 +158,7 @@ word_right rows b = elim (cases_lt b (length rows)) [
       let row : TableRow = get_or rows b (record { class = Good; wear = 0 }) in
       let at : slice_get rows b ≡ Some row = slice_get-get_or rows b (record { class = Good; wear = 0 }) within in
       let word : table.table_word rows b ≡ table.word_of row = ap table.word_or_padding at in
-      let low = low_left (table.code_of row.class) row.wear (code_low row.class) in
+      let low = low_left (table.code_of_class row.class) row.wear (code_low row.class) in
       rw (word, lt-ltb b (length rows) within) (lt-ltb (table.word_of row % 256) 3 low)
   | inr past ↦
       let word : table.table_word rows b ≡ table.padding = ap table.word_or_padding (slice_get_past rows b past) in
@@ -170,7 +170,7 @@ page_formed : (n : ℕ) (rows : List TableRow) (u : ℕ) (bytes : List ℕ) → 
 page_formed n rows u bytes h = record { right = λ i l. rw (h.words i l) (word_right rows (u * n + i)) }
 
 pub taken_more : (g : Geometry) (image : Image) (u : ℕ) (old new : List TableRow) (body : List ℕ) → length old ≡ g.blocks → AreTaken g image u old
-    → IsBodyOf g image u body → table.IsTablePage (entries g) new u body → table.KeepsOthers (entries g) u old new → AreTaken g image (u + 1) new
+    → IsTableBody g image u body → table.IsTablePage (entries g) new u body → table.KeepsOthers (entries g) u old new → AreTaken g image (u + 1) new
 taken_more g image u old new body size h kept page others = record {
   formed = λ v l. elim (cases_order v u) [
     | inl same ↦ subst (λ k. table.IsWellFormed (entries g) g.blocks k (table_body image k)) (sym same) (formed_of g image u body kept (subst (λ k. table.IsWellFormed (entries g) k u body) (others.length_same ∙ size) (page_formed (entries g) new u body page)))
@@ -218,8 +218,8 @@ table_of g image rows size h = record {
 }
 
 pub tables_damaged : (g : Geometry) (capacity : ℕ) (image : Image) (claim : Claim) (u : ℕ) (rows : List TableRow) (body : List ℕ) (fault : TableFault)
-    → ((v : ℕ) → v < table_pages g → HasNewestTable image v) → AreTaken g image u rows → u < table_pages g → IsBodyOf g image u body
-    → table.IsFirstWrong (entries g) g.blocks u body fault → IsWrong g capacity image claim Tables (refusals.TableDamaged u)
+    → ((v : ℕ) → v < table_pages g → HasNewestTable image v) → AreTaken g image u rows → u < table_pages g → IsTableBody g image u body
+    → table.IsFirstWrongWord (entries g) g.blocks u body fault → IsWrong g capacity image claim Tables (refusals.TableDamaged u)
 tables_damaged g capacity image claim u rows body fault formatted taken within kept wrong = record {
   part_is = refl;
   fails = λ (all : HasTables g image). damaged_of g image u body fault kept wrong (all.formed u within);
@@ -262,12 +262,12 @@ room_of u pages at size each total l e s t =
     let one : suc u * each ≡ u * each + each = omega arith in
     omega arith
 
-pub damage_of : (n m blocks rows u : ℕ) (bytes : List ℕ) (fault : TableFault) → n ≡ m → rows ≡ blocks → table.IsFirstWrong n rows u bytes fault → table.IsFirstWrong m blocks u bytes fault
-damage_of n m blocks rows u bytes fault e f h = subst (λ k. table.IsFirstWrong k blocks u bytes fault) e (subst (λ b. table.IsFirstWrong n b u bytes fault) f h)
+pub damage_of : (n m blocks rows u : ℕ) (bytes : List ℕ) (fault : TableFault) → n ≡ m → rows ≡ blocks → table.IsFirstWrongWord n rows u bytes fault → table.IsFirstWrongWord m blocks u bytes fault
+damage_of n m blocks rows u bytes fault e f h = subst (λ k. table.IsFirstWrongWord k blocks u bytes fault) e (subst (λ b. table.IsFirstWrongWord n b u bytes fault) f h)
 
 -- rows of blocks that were never erased
-pub blank_counted : (n : ℕ) → All IsCounted (replicate n no_table_row)
-blank_counted n k d l = let e : get_or (replicate n no_table_row) k d ≡ no_table_row = get_or-replicate n k no_table_row d (omega (arith, length-replicate n no_table_row)) in subst IsCounted (sym e) (record { most = omega arith })
+pub blank_counted : (n : ℕ) → All HasFittingWear (replicate n no_table_row)
+blank_counted n k d l = let e : get_or (replicate n no_table_row) k d ≡ no_table_row = get_or-replicate n k no_table_row d (omega (arith, length-replicate n no_table_row)) in subst HasFittingWear (sym e) (record { most = omega arith })
 
 pub sliced : (xs : List ℕ) (at size : ℕ) → at + size ≤ length xs → length (take (at + size - at) (drop at xs)) ≡ size
 sliced xs at size l = omega (arith, length-take (at + size - at) (drop at xs), length-drop at xs)

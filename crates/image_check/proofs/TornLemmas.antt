@@ -27,7 +27,7 @@ use Rattle.image_check.specs.Blocks.{body_in, table_body}
 use Rattle.image_check.specs.Agrees.{HasTables}
 use Rattle.image_check.specs.Stale.{same_row, is_stale, stale_sectors, stale_count}
 use Rattle.image_check.specs.Mountable.{IsMountable, IsOrderly}
-use Rattle.image_check.specs.Torn.{OtherKeysLaw, NoSectorLaw, OneSectorLaw, StillOneLaw, KeptLaw, TornProgramLaw, TornEraseLaw, OneMoreStaleLaw}
+use Rattle.image_check.specs.Torn.{OtherKeysLaw, NoSectorLaw, OneSectorLaw, StillOneLaw, KeepsStandsForLaw, TornProgramLaw, TornEraseLaw, OneMoreStaleLaw}
 use Rattle.image_check.proofs.MountableLemmas.{mountable}
 use Rattle.image_check.proofs.StaleLemmas.{filter_same}
 
@@ -180,7 +180,7 @@ mountable_as g capacity more old new whole size most orderly m =
     (mountable g (capacity + more) new (size ∙ whole.rows) (omega arith) most).1
     (orderly ((mountable g capacity old whole.rows (omega arith) high).0 m))
 
-pub kept : KeptLaw
+pub kept : KeepsStandsForLaw
 kept g old new whole k = record {
   array = array_kept g old new k;
   stale = all_stale_kept g old new k;

@@ -11,11 +11,11 @@ use Rattle.image_check.specs.Refused.{Part, BadSet, States, Live, Wear}
 abbrev pub IsSameBad : ℕ → ℕ → Type 0
 IsSameBad a b = ((a ≡ 4) ↔ (b ≡ 4)) × ((a ≡ 5) ↔ (b ≡ 5))
 
-abbrev pub IsSame : Aspect → BlockState → BlockState → Type 0
-IsSame aspect.BadSet s t = IsSameBad s.class t.class
-IsSame aspect.State s t = (s.class ≡ t.class) × (s.pointer ≡ t.pointer)
-IsSame aspect.Live s t = s.live ≡ t.live
-IsSame aspect.Wear s t = s.wear ≡ t.wear
+abbrev pub IsSameInAspect : Aspect → BlockState → BlockState → Type 0
+IsSameInAspect aspect.BadSet s t = IsSameBad s.class t.class
+IsSameInAspect aspect.State s t = (s.class ≡ t.class) × (s.pointer ≡ t.pointer)
+IsSameInAspect aspect.Live s t = s.live ≡ t.live
+IsSameInAspect aspect.Wear s t = s.wear ≡ t.wear
 
 -- the part of the agreement that compares this
 abbrev pub part_for : Aspect → Part
@@ -32,4 +32,4 @@ refusal_for aspect.Wear block = refusals.WearWrong block
 
 -- the first n states are the same as these
 pub record AreSame (n : ℕ) (compared : Aspect) (claims reals : List BlockState) : Type 0 where
-  pub each : (b : ℕ) (s t : BlockState) → b < n → slice_get claims b ≡ Some s → slice_get reals b ≡ Some t → IsSame compared s t
+  pub each : (b : ℕ) (s t : BlockState) → b < n → slice_get claims b ≡ Some s → slice_get reals b ≡ Some t → IsSameInAspect compared s t

@@ -47,16 +47,16 @@ abbrev pub is_grown : Geometry → Image → ℕ → Bool
 is_grown g image block =
     not (is_factory g image block) && (table_class g image block == 2 || list_any is_broken (block_pages g image block) || has_gap (block_pages g image block))
 
-unfoldable pub is_good : Geometry → Image → ℕ → Bool
-is_good g image block = not (is_factory g image block) && not (is_grown g image block)
+unfoldable pub is_good_block : Geometry → Image → ℕ → Bool
+is_good_block g image block = not (is_factory g image block) && not (is_grown g image block)
 
-unfoldable pub is_free : Geometry → Image → ℕ → Bool
-is_free g image block = is_good g image block && list_all is_erased_page (block_pages g image block)
+unfoldable pub is_shown_free : Geometry → Image → ℕ → Bool
+is_shown_free g image block = is_good_block g image block && list_all is_erased_page (block_pages g image block)
 
 -- a good block with some pages erased and some not
 unfoldable pub is_partial : Geometry → Image → ℕ → Bool
 is_partial g image block =
-    is_good g image block && list_any is_erased_page (block_pages g image block) && list_any is_programmed (block_pages g image block)
+    is_good_block g image block && list_any is_erased_page (block_pages g image block) && list_any is_programmed (block_pages g image block)
 
 -- page 0 says that the block is of the data stream, else it is of the meta stream
 abbrev pub is_of_data : Geometry → Image → ℕ → Bool
@@ -75,22 +75,22 @@ is_no_rival g image b c =
     not (is_partial g image c && same_test (is_of_data g image c) (is_of_data g image b)) || nat_le (sequence_of_last g image c) (sequence_of_last g image b)
 
 -- a partial block whose last programmed page has the greatest sequence among the partial blocks of its stream
-unfoldable pub is_open : Geometry → Image → ℕ → Bool
-is_open g image block = is_partial g image block && list_all (is_no_rival g image block) (range_with_len 0 g.blocks)
+unfoldable pub is_shown_open : Geometry → Image → ℕ → Bool
+is_shown_open g image block = is_partial g image block && list_all (is_no_rival g image block) (range_with_len 0 g.blocks)
 
 -- 0 free, 1 open data, 2 open meta, 3 closed, 4 factory, 5 grown
 unfoldable pub class : Geometry → Image → ℕ → ℕ
 class g image block =
     if is_factory g image block then 4 else (
     if is_grown g image block then 5 else (
-    if is_free g image block then 0 else (
-    if is_open g image block then (if is_of_data g image block then 1 else 2) else 3)))
+    if is_shown_free g image block then 0 else (
+    if is_shown_open g image block then (if is_of_data g image block then 1 else 2) else 3)))
 
 -- ---- the numbers of a block
 
 -- the pages that aren't erased, of a block that isn't bad
 unfoldable pub pointer : Geometry → Image → ℕ → ℕ
-pointer g image block = if is_good g image block then written (block_pages g image block) else 0
+pointer g image block = if is_good_block g image block then written (block_pages g image block) else 0
 
 -- the greatest of the newest table's count and the wear of the block's sound pages, at most 16777215
 unfoldable pub erase_count : Geometry → Image → ℕ → ℕ
@@ -111,7 +111,7 @@ pub record AreStates (g : Geometry) (image : Image) (states : List BlockState) :
   pub state : (b : ℕ) → b < g.blocks → slice_get states b ≡ Some (block_state g image b)
 
 -- these bytes are the words of newest table page u
-pub record IsBodyOf (g : Geometry) (image : Image) (u : ℕ) (bytes : List ℕ) : Type 0 where
+pub record IsTableBody (g : Geometry) (image : Image) (u : ℕ) (bytes : List ℕ) : Type 0 where
   pub same : (i : ℕ) → i < 4 * entries g → slice_index bytes i ≡ slice_index (table_body image u) i
 
 -- a table whose rows are what the newest table pages say of the blocks

@@ -15,11 +15,11 @@ abbrev pub place_in : Newest → Option ℕ
 place_in x = if nat_lt x.row tied then Some x.row else None
 
 -- it says as much, but for the rows of a tie
-abbrev pub Tells : Newest → Latest → Type 0
-Tells x Never = x.row ≡ no_row
-Tells x (Once row s) = (x.row ≡ row) × (row < tied) × (from_le_bytes w64 x.sequence ≡ s)
-Tells x (Tied a b s) = (x.row ≡ tied) × (from_le_bytes w64 x.sequence ≡ s)
+abbrev pub TellsNewest : Newest → Latest → Type 0
+TellsNewest x Never = x.row ≡ no_row
+TellsNewest x (Once row s) = (x.row ≡ row) × (row < tied) × (from_le_bytes w64 x.sequence ≡ s)
+TellsNewest x (Tied a b s) = (x.row ≡ tied) × (from_le_bytes w64 x.sequence ≡ s)
 
 -- what stands past the end of a list of these
-abbrev pub blank : Newest
-blank = record { row = no_row; sequence = [] }
+abbrev pub no_newest : Newest
+no_newest = record { row = no_row; sequence = [] }

@@ -28,7 +28,7 @@ abbrev pub HasMore : Option (List ℕ) → Type 0
 HasMore known = IfSome known (λ bytes. 0 < length bytes)
 
 -- fewer than so many bytes were read
-pub record IsCut (size : ℕ) (before after : Option (List ℕ)) (cut : Cut) : Type 0 where
+pub record ReadsFewer (size : ℕ) (before after : Option (List ℕ)) (cut : Cut) : Type 0 where
   pub bytes : List ℕ
   pub few : length bytes < size
   pub read : Consumes before after bytes

@@ -132,24 +132,24 @@ pub record IsWrongBlock (g : Geometry) (states : List BlockState) (b : ℕ) (P :
 -- ---- the refusals
 
 -- what a refusal says of the image and of the certificate
-abbrev pub Says : Geometry → ℕ → Image → Claim → Refusal → Type 0
-Says g capacity image c refusals.GeometryDiffers = Unit {0}
-Says g capacity image c (refusals.NumberRange row) = IsFirstOutside g (marks image) row
-Says g capacity image c (refusals.SequenceRepeated a b) = IsFirstRepeated (marks image) a b
-Says g capacity image c refusals.NotFormatted = IsUnformatted g image
-Says g capacity image c (refusals.TableDamaged u) = IsTableDamaged g image u
-Says g capacity image c (refusals.DirectoryWrong i) = IsFirstDirectoryWrong g image c.directory i
-Says g capacity image c (refusals.NoSuchRecord n row) = IsNoSuchRecord g image c.sectors n row
-Says g capacity image c (refusals.NotNewest n row) = IsNotNewest g image c.sectors n row
-Says g capacity image c (refusals.BadSetWrong b) = IsWrongBlock g c.blocks b (IsBadSet g image)
-Says g capacity image c (refusals.BlockState b) = IsWrongBlock g c.blocks b (IsState g image)
-Says g capacity image c (refusals.LiveWrong b) = IsWrongBlock g c.blocks b (IsLive g image)
-Says g capacity image c (refusals.WearWrong b) = IsWrongBlock g c.blocks b (IsWear g image)
-Says g capacity image c refusals.NextSequence = Unit {0}
-Says g capacity image c (refusals.TooStale stale most) = (stale ≡ stale_count g image) × (most ≡ capacity)
-Says g capacity image c refusals.Source = Unit {0}
-Says g capacity image c refusals.OutOfMemory = Unit {0}
-Says g capacity image c refusals.WrongLength = Unit {0}
+abbrev pub RefusalSays : Geometry → ℕ → Image → Claim → Refusal → Type 0
+RefusalSays g capacity image c refusals.GeometryDiffers = Unit {0}
+RefusalSays g capacity image c (refusals.NumberRange row) = IsFirstOutside g (marks image) row
+RefusalSays g capacity image c (refusals.SequenceRepeated a b) = IsFirstRepeated (marks image) a b
+RefusalSays g capacity image c refusals.NotFormatted = IsUnformatted g image
+RefusalSays g capacity image c (refusals.TableDamaged u) = IsTableDamaged g image u
+RefusalSays g capacity image c (refusals.DirectoryWrong i) = IsFirstDirectoryWrong g image c.directory i
+RefusalSays g capacity image c (refusals.NoSuchRecord n row) = IsNoSuchRecord g image c.sectors n row
+RefusalSays g capacity image c (refusals.NotNewest n row) = IsNotNewest g image c.sectors n row
+RefusalSays g capacity image c (refusals.BadSetWrong b) = IsWrongBlock g c.blocks b (IsBadSet g image)
+RefusalSays g capacity image c (refusals.BlockState b) = IsWrongBlock g c.blocks b (IsState g image)
+RefusalSays g capacity image c (refusals.LiveWrong b) = IsWrongBlock g c.blocks b (IsLive g image)
+RefusalSays g capacity image c (refusals.WearWrong b) = IsWrongBlock g c.blocks b (IsWear g image)
+RefusalSays g capacity image c refusals.NextSequence = Unit {0}
+RefusalSays g capacity image c (refusals.TooStale stale most) = (stale ≡ stale_count g image) × (most ≡ capacity)
+RefusalSays g capacity image c refusals.Source = Unit {0}
+RefusalSays g capacity image c refusals.OutOfMemory = Unit {0}
+RefusalSays g capacity image c refusals.WrongLength = Unit {0}
 
 -- the part that a refusal names. Want of memory, a page read that failed and an image of another length name none
 abbrev pub part_of : Refusal → Option Part
@@ -175,7 +175,7 @@ part_of refusals.WrongLength = None
 pub record IsWrong (g : Geometry) (capacity : ℕ) (image : Image) (c : Claim) (part : Part) (r : Refusal) : Type 0 where
   pub part_is : part_of r ≡ Some part
   pub fails : ¬ Holds g capacity image c part
-  pub says : Says g capacity image c r
+  pub says : RefusalSays g capacity image c r
 
 -- the same, and it is the first part that fails
 pub record IsFirstWrong (g : Geometry) (capacity : ℕ) (image : Image) (c : Claim) (r : Refusal) : Type 0 where
@@ -228,12 +228,12 @@ abbrev pub IsMemory : Refusal → Type 0
 IsMemory r = r ≡ refusals.OutOfMemory
 
 -- a page read failed, or a growth was refused
-abbrev pub IsStop : Refusal → Type 0
-IsStop r = (r ≡ refusals.Source) ⊎ (r ≡ refusals.OutOfMemory)
+abbrev pub StopsCheck : Refusal → Type 0
+StopsCheck r = (r ≡ refusals.Source) ⊎ (r ≡ refusals.OutOfMemory)
 
 -- what a refusal says: memory or a page read failed, or it names the first part that fails
 abbrev pub IsRefusal : Geometry → ℕ → Image → Claim → Refusal → Type 0
-IsRefusal g capacity image c r = IsStop r ⊎ IsFirstWrong g capacity image c r
+IsRefusal g capacity image c r = StopsCheck r ⊎ IsFirstWrong g capacity image c r
 
 -- ---- parts one after another
 

@@ -8,7 +8,7 @@ use Rattle.image_check.specs.declared.page_reader.Cut.TheVariants.{Ended, Failed
 use Rattle.image_check.specs.declared.refusal.Refusal.{Refusal}
 use Rattle.image_check.specs.declared.refusal.Refusal.TheVariants as refusals
 use Rattle.image_check.specs.PageReader.{image_bytes}
-use Rattle.image_check.specs.Refused.{IsStop, IsFirstWrong}
+use Rattle.image_check.specs.Refused.{StopsCheck, IsFirstWrong}
 
 -- the refusal for a cut
 abbrev pub refusal_of : Cut → Refusal
@@ -26,4 +26,4 @@ IsUntaken g bytes r = (r ≡ refusals.Source) ⊎ IsWrongLength g bytes r
 -- what a refusal says of the image that these bytes are: a read failed or a growth was refused, or they are not as many as an image has, or
 -- it names the first part that fails
 abbrev pub IsStreamRefusal : Geometry → ℕ → List ℕ → Claim → Refusal → Type 0
-IsStreamRefusal g capacity bytes c r = IsStop r ⊎ (IsWrongLength g bytes r ⊎ IsFirstWrong g capacity (raw_image g bytes) c r)
+IsStreamRefusal g capacity bytes c r = StopsCheck r ⊎ (IsWrongLength g bytes r ⊎ IsFirstWrong g capacity (raw_image g bytes) c r)

@@ -15,9 +15,9 @@ use Rattle.page_layout.specs.Newest.{latest_below, sequence_at}
 use Rattle.page_layout.specs.Live.{IsKeyOf, live}
 use Rattle.page_layout.specs.Array.{marks}
 use Rattle.page_layout.specs.Block.{block_pages, is_broken, has_gap, written, wear_in, top_wear, has_data_kind, begins_data, sequence_in, last_sequence}
-use Rattle.image_check.specs.declared.look.Look.{Look}
+use Rattle.image_check.specs.declared.look.BlockLook.{BlockLook}
 use Rattle.image_check.specs.declared.newest.Newest.{Newest}
-use Rattle.image_check.specs.Newest.{Tells, blank}
+use Rattle.image_check.specs.Newest.{TellsNewest, no_newest}
 
 -- ---- by key
 
@@ -30,7 +30,7 @@ index_of g (Table u) = g.sectors + (translation_pages g + u)
 -- what the first rows say of the newest page of each key
 pub record HasNewest (g : Geometry) (marks : List (Option Record)) (rows : ℕ) (items : List Newest) : Type 0 where
   pub size : length items ≡ key_count g
-  pub at : (key : Key) → IsKeyOf g key → Tells (get_or items (index_of g key) blank) (latest_below marks key rows)
+  pub at : (key : Key) → IsKeyOf g key → TellsNewest (get_or items (index_of g key) no_newest) (latest_below marks key rows)
 
 -- ---- numbers
 
@@ -63,19 +63,19 @@ pairs_below marks zero = []
 pairs_below marks (suc row) = pairs_below marks row ++ pair_of row (get_or marks row None)
 
 -- the row holds a sound page of sector n
-pub record IsPageOf (marks : List (Option Record)) (n row : ℕ) : Type 0 where
+pub record HoldsSectorPage (marks : List (Option Record)) (n row : ℕ) : Type 0 where
   pub sequence : ℕ
   pub here : sequence_at marks (Sector n) row ≡ Some sequence
 
 -- each row that is claimed for one of the first n sectors holds a sound page of it
 pub record AreClaimed (n : ℕ) (marks : List (Option Record)) (claims : List (Option ℕ)) : Type 0 where
-  pub page : (m row : ℕ) → m < n → slice_get claims m ≡ Some (Some row) → IsPageOf marks m row
+  pub page : (m row : ℕ) → m < n → slice_get claims m ≡ Some (Some row) → HoldsSectorPage marks m row
 
 -- ---- by block
 
 -- what the pages of a block show
-unfoldable pub look_of : List Page → Look
-look_of ps = record {
+unfoldable pub block_look_of : List Page → BlockLook
+block_look_of ps = record {
   written = written ps;
   erased = list_any is_erased_page ps;
   broken = list_any is_broken ps;
@@ -86,7 +86,7 @@ look_of ps = record {
 }
 
 -- what one page more shows. It is the first of its block, or not
-unfoldable pub look_step : Look → Bool → Bool → Option Record → Look
+unfoldable pub look_step : BlockLook → Bool → Bool → Option Record → BlockLook
 look_step look first erased found = record {
   written = look.written + (if erased then 0 else 1);
   erased = look.erased || erased;
@@ -98,9 +98,9 @@ look_step look first erased found = record {
 }
 
 -- of each block's pages, those among the first rows
-pub record HasLooks (g : Geometry) (image : Image) (rows : ℕ) (items : List Look) : Type 0 where
+pub record HasLooks (g : Geometry) (image : Image) (rows : ℕ) (items : List BlockLook) : Type 0 where
   pub size : length items ≡ g.blocks
-  pub at : (b : ℕ) → b < g.blocks → slice_get items b ≡ Some (look_of (take (rows - b * g.pages) (block_pages g image b)))
+  pub at : (b : ℕ) → b < g.blocks → slice_get items b ≡ Some (block_look_of (take (rows - b * g.pages) (block_pages g image b)))
 
 -- ---- tables
 
@@ -114,7 +114,7 @@ pub record HasTableBytes (g : Geometry) (image : Image) (rows : ℕ) (bytes : Li
 
 -- of each sector whether the row that a certificate claims for it is among the first rows and holds a sound page of it
 pub record HasPassed (marks : List (Option Record)) (rows : ℕ) (claims : List (Option ℕ)) (passed : List Bool) : Type 0 where
-  pub yes : (n row : ℕ) → slice_get claims n ≡ Some (Some row) → get_or passed n false ≡ true → IsPageOf marks n row
+  pub yes : (n row : ℕ) → slice_get claims n ≡ Some (Some row) → get_or passed n false ≡ true → HoldsSectorPage marks n row
   pub no : (n row : ℕ) → slice_get claims n ≡ Some (Some row) → row < rows → get_or passed n false ≡ false → sequence_at marks (Sector n) row ≡ None
 
 -- how many keys have their newest page in each block

@@ -43,8 +43,8 @@ pub record StandsFor (g : Geometry) (old new : Image) : Type 0 where
   pub mountable : (capacity : ℕ) → IsMountable g capacity old → IsMountable g capacity new
 
 -- where nothing that counts has changed
-abbrev pub KeptLaw : Type 0
-KeptLaw = (g : Geometry) (old new : Image) → IsImage g old → Keeps g old new → StandsFor g old new
+abbrev pub KeepsStandsForLaw : Type 0
+KeepsStandsForLaw = (g : Geometry) (old new : Image) → IsImage g old → Keeps g old new → StandsFor g old new
 
 -- a program of an erased page, failed or cut short
 abbrev pub TornProgramLaw : Type 0

@@ -4,7 +4,7 @@ ghost use Rattle.page_layout.specs.declared.geometry.Geometry.{Geometry};
 ghost use Rattle.page_layout.specs.Page.{Image};
 ghost use Rattle.image_check.specs.Blocks.{AreStates};
 ghost use Rattle.image_check.specs.Refused.{Holds, IsWrong, IsJudgement};
-ghost use Rattle.image_check.specs.Aspects.{IsSameBad, IsSame, part_for, refusal_for};
+ghost use Rattle.image_check.specs.Aspects.{IsSameBad, IsSameInAspect, part_for, refusal_for};
 
 use crate::refusal::Refusal;
 use certificate::{BlockState, Certificate};
@@ -32,7 +32,7 @@ fn is_same_bad(a: u8, b: u8) -> bool
 
 impl Aspect {
     fn is_same(self, claimed: &BlockState, real: &BlockState) -> bool
-        ensures { IsTrue result ↔ IsSame self claimed.now real.now }
+        ensures { IsTrue result ↔ IsSameInAspect self claimed.now real.now }
     {
         match self {
             Aspect::BadSet => is_same_bad(claimed.class, real.class),

@@ -1,6 +1,6 @@
 //! What the checker's definitions come to, each as one statement.
 ghost use Rattle.image_check.specs.Mountable.{MountableLaw};
-ghost use Rattle.image_check.specs.Torn.{OtherKeysLaw, NoSectorLaw, OneSectorLaw, StillOneLaw, KeptLaw, TornProgramLaw, TornEraseLaw, OneMoreStaleLaw};
+ghost use Rattle.image_check.specs.Torn.{OtherKeysLaw, NoSectorLaw, OneSectorLaw, StillOneLaw, KeepsStandsForLaw, TornProgramLaw, TornEraseLaw, OneMoreStaleLaw};
 
 /// An image has a certificate just where its records' numbers are in range, no two sound pages share a sequence, each
 /// table page has a newest page and it is well formed, every sequence is below 2^64 - 1, and at most as many sectors
@@ -17,7 +17,7 @@ pub fn torn_image_laws()
     ensures no_sector { NoSectorLaw }
     ensures one_sector { OneSectorLaw }
     ensures still_one { StillOneLaw }
-    ensures kept { KeptLaw }
+    ensures kept { KeepsStandsForLaw }
     ensures torn_program { TornProgramLaw }
     ensures torn_erase { TornEraseLaw }
     ensures one_more_stale { OneMoreStaleLaw }

@@ -7,7 +7,7 @@ use page_layout::record::{Kind, Record};
 
 /// What the pages of a block show, as far as they were seen.
 #[derive(Clone, Copy)]
-pub(crate) struct Look {
+pub(crate) struct BlockLook {
     // pages that aren't erased
     pub(crate) written: u32,
     // some page is erased
@@ -36,10 +36,10 @@ fn has_data_kind(found: Option<Record>) -> bool
     )
 }
 
-impl Look {
+impl BlockLook {
     /// What is seen with one page more.
     #[tactic(auto, unfolding(crate::specs::Survey::look_step))]
-    pub(crate) fn step(self, first: bool, erased: bool, found: Option<Record>) -> Look
+    pub(crate) fn step(self, first: bool, erased: bool, found: Option<Record>) -> BlockLook
         requires { self.written < 2 ^ 32 - 1 }
         ensures is { result ≡ look_step self first erased found }
         ensures counted { result.written ≤ self.written + 1 }
@@ -48,7 +48,7 @@ impl Look {
             Some(found) => (found.sequence, found.wear),
             None => (0, 0),
         };
-        Look {
+        BlockLook {
             written: self.written + if erased { 0 } else { 1 },
             erased: self.erased || erased,
             broken: self.broken || (!erased && found.is_none()),
@@ -64,16 +64,16 @@ impl Look {
     }
 }
 
-impl Look {
+impl BlockLook {
     ghost use Rattle.std.specs.Prelude.{[]};
-    ghost use Rattle.image_check.specs.Survey.{look_of};
+    ghost use Rattle.image_check.specs.Survey.{block_look_of};
 
     /// What no page shows.
-    #[tactic(auto, unfolding(crate::specs::Survey::look_of, page_layout::specs::Block::has_gap))]
-    pub(crate) fn unseen() -> Look
-        ensures { result ≡ look_of [] }
+    #[tactic(auto, unfolding(crate::specs::Survey::block_look_of, page_layout::specs::Block::has_gap))]
+    pub(crate) fn unseen() -> BlockLook
+        ensures { result ≡ block_look_of [] }
     {
-        Look {
+        BlockLook {
             written: 0,
             erased: false,
             broken: false,

@@ -4,7 +4,7 @@ ghost use Rattle.certificate.specs.Spelling.{IsRowOf};
 ghost use Rattle.page_layout.specs.Greatest.{step};
 ghost use Rattle.page_layout.specs.declared.newest.Latest.{Latest};
 ghost use Rattle.page_layout.specs.declared.newest.Latest.TheVariants.{Never};
-ghost use Rattle.image_check.specs.Newest.{Tells, place_in, tied};
+ghost use Rattle.image_check.specs.Newest.{TellsNewest, place_in, tied};
 
 // Words that stand for no row: no page of the key was seen, and two share its greatest sequence.
 const NEVER: u32 = 0xFFFF_FFFF;
@@ -24,7 +24,7 @@ pub struct Newest {
 impl Newest {
     /// Nothing seen yet.
     pub(crate) fn never() -> Newest
-        ensures { Tells result Never }
+        ensures { TellsNewest result Never }
     {
         Newest {
             row: NEVER,
@@ -35,7 +35,7 @@ impl Newest {
     /// What is known with a sound page of the key more, whose row is greater than all so far.
     pub(crate) fn step(self, row: u32, sequence: u64) -> Newest
         requires { row < tied }
-        ensures next { (latest : Latest) → Tells self latest → Tells result (step latest row (Some sequence)) }
+        ensures next { (latest : Latest) → TellsNewest self latest → TellsNewest result (step latest row (Some sequence)) }
         ensures within { IsRowOf row (place_in self) → IsRowOf (row + 1) (place_in result) }
     {
         let greatest = u64::from_le_bytes(self.sequence);

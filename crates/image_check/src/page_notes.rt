@@ -11,7 +11,7 @@ ghost use Rattle.certificate.specs.Spelling.{IsRowOf};
 ghost use Rattle.image_check.specs.Newest.{place_in};
 ghost use Rattle.image_check.specs.Survey.{index_of, HasNewest, HasOutside, pair_of, HasPassed, HasLooks, HasTableBytes};
 
-use crate::look::Look;
+use crate::look::BlockLook;
 use crate::newest::Newest;
 use crate::parts::same_row;
 use certificate::Certificate;
@@ -111,7 +111,7 @@ pub(crate) fn note_claim(
 
 pub(crate) fn note_look(
     geometry: &Geometry,
-    looks: &mut [Look],
+    looks: &mut [BlockLook],
     row: u32,
     erased: bool,
     found: Option<Record>,

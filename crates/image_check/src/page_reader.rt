@@ -1,7 +1,7 @@
 //! The pages of a dump, as its reader gives them, and its end.
 ghost use Rattle.std.specs.Prelude.{◌≡◌, ◌+◌, ◌++◌, length, true, false, Ok, Err, OnOk, OnErr, IfErr};
 ghost use Rattle.std.specs.Io.KnownBytes.{Consumes, IsAtEnd};
-ghost use Rattle.image_check.specs.PageReader.{HasMore, IsCut, ReadsUpTo};
+ghost use Rattle.image_check.specs.PageReader.{HasMore, ReadsFewer, ReadsUpTo};
 ghost use Rattle.image_check.specs.declared.page_reader.Cut.TheVariants as cuts;
 
 use crate::dump_reader::{DumpFault, DumpReader};
@@ -23,7 +23,7 @@ pub enum Cut {
 /// anything, and the reader gave fewer bytes than the buffer has. (This project's rules.)
 pub fn fill<R: DumpReader>(reader: &mut R, buffer: &mut [u8]) -> Result<(), Cut>
     ensures whole { OnOk result (Consumes (R.remaining reader.old) (R.remaining reader.new) buffer.new) }
-    ensures cut { IfErr result (IsCut (length buffer.new) (R.remaining reader.old) (R.remaining reader.new)) }
+    ensures cut { IfErr result (ReadsFewer (length buffer.new) (R.remaining reader.old) (R.remaining reader.new)) }
     ensures failed { result ≡ Err cuts.Failed → R.failed reader.new ≡ true }
 {
     let mut count = 0;
@@ -48,7 +48,7 @@ pub fn read_page<R: DumpReader>(
     spare: &mut [u8],
 ) -> Result<(), Cut>
     ensures whole { OnOk result (Consumes (R.remaining reader.old) (R.remaining reader.new) (body.new ++ spare.new)) }
-    ensures cut { IfErr result (IsCut (length body.new + length spare.new) (R.remaining reader.old) (R.remaining reader.new)) }
+    ensures cut { IfErr result (ReadsFewer (length body.new + length spare.new) (R.remaining reader.old) (R.remaining reader.new)) }
     ensures failed { result ≡ Err cuts.Failed → R.failed reader.new ≡ true }
 {
     fill(reader, body)?;

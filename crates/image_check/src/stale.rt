@@ -6,11 +6,11 @@ ghost use Rattle.page_layout.specs.Geometry.{row_count, key_count, entries, tran
 ghost use Rattle.page_layout.specs.OnlyReads.{OnlyReads};
 ghost use Rattle.certificate.specs.Spelling.{IsRowOf};
 ghost use Rattle.translation_pages.specs.TranslationPage.{entry_at};
-ghost use Rattle.image_check.specs.Newest.{place_in, blank};
+ghost use Rattle.image_check.specs.Newest.{place_in, no_newest};
 ghost use Rattle.translation_pages.specs.Entry.{entry_in};
 ghost use Rattle.image_check.specs.Stale.{same_row, stale_sectors};
 ghost use Rattle.image_check.specs.Surveyed.{SurveysKeys};
-ghost use Rattle.image_check.specs.Refused.{IsStop};
+ghost use Rattle.image_check.specs.Refused.{StopsCheck};
 ghost use Rattle.image_check.specs.Rising.{IsRisingBelow};
 
 use crate::newest::Newest;
@@ -32,7 +32,7 @@ fn note_stale(
     requires order { first ≤ end }
     requires sectors { end ≤ length newest.now }
     requires entries { 4 * (end - first) ≤ length page.now }
-    ensures noted { OnOk result (stale.new.items ≡ stale.old.items ++ filter (λ n. not (same_row (entry_at page.now (n - first)) (place_in (get_or newest.now n blank)))) (range_with_len first (end - first))) }
+    ensures noted { OnOk result (stale.new.items ≡ stale.old.items ++ filter (λ n. not (same_row (entry_at page.now (n - first)) (place_in (get_or newest.now n no_newest)))) (range_with_len first (end - first))) }
     ensures rising { OnOk result (IsRisingBelow first stale.old.items → IsRisingBelow end stale.new.items) }
 {
     for sector in first..end {
@@ -95,7 +95,7 @@ pub fn find_stale<S: PageSource>(
         stale.new.items ≡ stale_sectors geometry.now (S.view.flash source.old).image) }
     ensures rising { OnOk result (IsRisingBelow geometry.now.sectors stale.new.items) }
     ensures same { result ≢ Err Refusal.Source → S.view.honest source.old ≡ true → S.view.flash source.new ≡ S.view.flash source.old }
-    ensures stops { IfErr result IsStop }
+    ensures stops { IfErr result StopsCheck }
     ensures only_reads { OnlyReads S.view source.old source.new }
     ensures reads { S.view.reads source.new ≤ S.view.reads source.old + translation_pages geometry.now }
     ensures rose { result ≡ Err Refusal.Source → HasRisen (S.view.failed source.old) (S.view.failed source.new) }

@@ -10,19 +10,19 @@ ghost use Rattle.image_check.specs.Blocks.{AreStates, IsTableOf};
 ghost use Rattle.image_check.specs.States.{shows_bad, is_partial_seen, class_seen, pointer_seen, state_seen, IsTop};
 ghost use Rattle.image_check.specs.Survey.{HasLooks, AreLiveCounts};
 
-use crate::look::Look;
+use crate::look::BlockLook;
 use bad_blocks::{Class, Table};
 use certificate::BlockState;
 
 const MOST_WEAR: u32 = 16_777_215;
 
-fn shows_bad(look: Look) -> bool
+fn shows_bad(look: BlockLook) -> bool
     ensures { result ≡ shows_bad look }
 {
     look.broken || look.gap
 }
 
-fn is_partial(class: Class, look: Look) -> bool
+fn is_partial(class: Class, look: BlockLook) -> bool
     ensures { result ≡ is_partial_seen class look }
 {
     match class {
@@ -31,7 +31,7 @@ fn is_partial(class: Class, look: Look) -> bool
     }
 }
 
-fn class_of(class: Class, look: Look, top: u64) -> u8
+fn class_of(class: Class, look: BlockLook, top: u64) -> u8
     ensures { result ≡ class_seen class look top }
 {
     match class {
@@ -44,7 +44,7 @@ fn class_of(class: Class, look: Look, top: u64) -> u8
     }
 }
 
-fn pointer_of(class: Class, look: Look) -> u16
+fn pointer_of(class: Class, look: BlockLook) -> u16
     ensures { result ≡ pointer_seen class look }
 {
     match class {
@@ -53,7 +53,7 @@ fn pointer_of(class: Class, look: Look) -> u16
     }
 }
 
-fn state_of(class: Class, wear: u32, look: Look, top: u64, live: u32) -> BlockState
+fn state_of(class: Class, wear: u32, look: BlockLook, top: u64, live: u32) -> BlockState
     ensures { result ≡ state_seen class wear look top live }
 {
     BlockState {
@@ -80,7 +80,7 @@ impl Tops {
     }
 
     // With one partial block more.
-    fn raised(self, look: Look) -> Tops
+    fn raised(self, look: BlockLook) -> Tops
         ensures of_data { result.data ≡ (if look.of_data then max self.data look.last else self.data) }
         ensures of_meta { result.meta ≡ (if look.of_data then self.meta else max self.meta look.last) }
     {
@@ -98,7 +98,7 @@ impl Tops {
     }
 }
 
-fn tops_of(looks: &[Look], table: &Table) -> Tops
+fn tops_of(looks: &[BlockLook], table: &Table) -> Tops
     requires few { length looks.now < 2 ^ 32 }
     requires size { length table.now ≡ length looks.now }
     ensures of_data { IsTop table.now looks.now (length looks.now) true result.data }
@@ -117,7 +117,7 @@ fn tops_of(looks: &[Look], table: &Table) -> Tops
 /// Puts the states of all blocks, of which `counts` holds how many newest pages lie in each, into `states`, which is empty
 /// and has room for them.
 pub(crate) fn block_states(
-    looks: &[Look],
+    looks: &[BlockLook],
     table: &Table,
     counts: &[u32],
     states: &mut Vec<BlockState>,

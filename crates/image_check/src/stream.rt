@@ -5,7 +5,7 @@ ghost use Rattle.page_layout.specs.Page.{Image};
 ghost use Rattle.page_layout.specs.Raw.{raw_image};
 ghost use Rattle.image_check.specs.Accepted.{IsAcceptance};
 ghost use Rattle.image_check.specs.Agrees.{IsAsked};
-ghost use Rattle.image_check.specs.PageReader.{image_bytes, ReadsUpTo, IsCut, IsReadTo, IsTaken};
+ghost use Rattle.image_check.specs.PageReader.{image_bytes, ReadsUpTo, ReadsFewer, IsReadTo, IsTaken};
 ghost use Rattle.image_check.specs.Passed.{IsBegun, IsPass, IsSamePass, Shows};
 ghost use Rattle.image_check.specs.Refused.{IsJudgement};
 ghost use Rattle.image_check.specs.Streamed.{IsUntaken, IsStreamRefusal};
@@ -51,7 +51,7 @@ fn stream_pages<R: DumpReader>(
     ensures pass { OnOk result (IsPass (row_count geometry.now) pass.new) }
     ensures same_pass { OnOk result (IsSamePass pass.old pass.new) }
     ensures read { OnOk result (IsReadTo geometry.now (row_count geometry.now) (R.remaining reader.old) (R.remaining reader.new) (λ image. Shows image (row_count geometry.now) pass.new)) }
-    ensures cut { IfErr result (IsCut (image_bytes geometry.now) (R.remaining reader.old) (R.remaining reader.new)) }
+    ensures cut { IfErr result (ReadsFewer (image_bytes geometry.now) (R.remaining reader.old) (R.remaining reader.new)) }
 {
     for row in 0..geometry.rows() {
         read_page(reader, body, spare)?;

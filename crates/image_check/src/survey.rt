@@ -1,5 +1,5 @@
 //! What one pass over the pages of a die shows, fed page by page.
-use crate::look::Look;
+use crate::look::BlockLook;
 use crate::newest::Newest;
 use crate::page_notes::{note_look, note_newest, note_number, note_sequence, note_table};
 use page_layout::geometry::Geometry;
@@ -18,7 +18,7 @@ pub struct Survey {
     /// The sequence and the row of each sound page.
     pub pairs: Vec<(u64, u32)>,
     // what each block shows
-    pub(crate) looks: Vec<Look>,
+    pub(crate) looks: Vec<BlockLook>,
     // the data areas of the newest table pages
     pub(crate) tables: Vec<u8>,
 }
@@ -43,7 +43,7 @@ impl Survey {
             newest: vec![in alloc; Newest::never(); keys as usize]?,
             outside: None,
             pairs: Vec::with_capacity(alloc, geometry.rows() as usize)?,
-            looks: vec![in alloc; Look::unseen(); geometry.blocks() as usize]?,
+            looks: vec![in alloc; BlockLook::unseen(); geometry.blocks() as usize]?,
             tables: vec![in alloc; 0; table_bytes]?,
         })
     }

@@ -6,7 +6,7 @@ ghost use Rattle.page_layout.specs.OneArray.{AreDistinct};
 ghost use Rattle.page_layout.specs.Geometry.{key_count, table_pages};
 ghost use Rattle.page_layout.specs.Limits.{IsDataSize};
 ghost use Rattle.certificate.specs.Claim.{Claim};
-ghost use Rattle.image_check.specs.Blocks.{IsBodyOf, IsTableOf};
+ghost use Rattle.image_check.specs.Blocks.{IsTableBody, IsTableOf};
 ghost use Rattle.image_check.specs.Agrees.{HasNewestTable, HasTables};
 ghost use Rattle.image_check.specs.Surveyed.{SurveysKeys, SurveysTables};
 ghost use Rattle.image_check.specs.Refused.{IsUnformatted, IsWrong, Tables, IsJudgement, IsOfImage};
@@ -39,7 +39,7 @@ fn bytes_of(survey: &Survey, page: u32) -> &[u8]
     ensures size { length result.now ≡ survey.now.geometry.data_bytes }
     ensures whole { IsDataSize (length result.now) }
     ensures kept { (image : Image) → SurveysTables survey.now.geometry image survey.now.newest.items survey.now.tables.items →
-        HasNewestTable image page → IsBodyOf survey.now.geometry image page result.now }
+        HasNewestTable image page → IsTableBody survey.now.geometry image page result.now }
 {
     let size = survey.geometry.data_bytes();
     let at = page as usize * size;

@@ -16,11 +16,11 @@ use Rattle.image_check.specs.declared.refusal.Refusal.{Refusal}
 use Rattle.image_check.specs.declared.refusal.Refusal.TheVariants as refusals
 use Rattle.image_check.specs.Accepted.{Acceptance}
 use Rattle.image_check.specs.Survey.{IsFirstOutside}
-use Rattle.image_check.specs.Refused.{Part, Numbers, Sequences, Tables, Next, Fresh, order, part_of, Says, Holds, IsJudgement}
+use Rattle.image_check.specs.Refused.{Part, Numbers, Sequences, Tables, Next, Fresh, order, part_of, RefusalSays, Holds, IsJudgement}
 use Rattle.image_check.specs.Refused.{IsUnformatted, IsTableDamaged, IsFirstDirectoryWrong, IsNoSuchRecord, IsNotNewest, IsWrongBlock}
-use Rattle.mount.specs.Mounted.{IsAfter, IsUnmountable, Shows}
+use Rattle.mount.specs.Mounted.{IsAfter, IsUnmountable, ShowsRefusal}
 use Rattle.mount.proofs.RefuseLemmas.{holds}
-use Rattle.image_laws.specs.Refusals.{OneRefusalLaw, OneAnswerLaw, OneReasonLaw, TooStaleLaw, LengthLaw, ReadLaw, StopLaw, NamedLaw, MountingLaw, IsNamedOf}
+use Rattle.image_laws.specs.Refusals.{OneRefusalLaw, OneAnswerLaw, OneReasonLaw, TooStaleLaw, LengthLaw, ReadsNoMoreLaw, StopLaw, RefusalNamesLaw, MountingLaw, IsNamedOf}
 use Rattle.image_laws.proofs.RefusalLemmas.{same_place, same_part, one_pair}
 
 -- ---- each first is one
@@ -107,7 +107,7 @@ pair_is_one a b c d h = let one = h.0 in let two = h.1 in cc
 -- ---- one refusal
 
 same_says : (g : Geometry) (capacity : ℕ) (image : Image) (c : Claim) (part : Part) (r s : Refusal) → part_of r ≡ Some part → part_of s ≡ Some part
-    → Says g capacity image c r → Says g capacity image c s → r ≡ s
+    → RefusalSays g capacity image c r → RefusalSays g capacity image c s → r ≡ s
 same_says g capacity image c part refusals.GeometryDiffers refusals.GeometryDiffers k l a b = refl
 same_says g capacity image c part (refusals.NumberRange x) (refusals.NumberRange y) k l a b = ap refusals.NumberRange (first_row g (marks image) x y a b)
 same_says g capacity image c part (refusals.SequenceRepeated w x) (refusals.SequenceRepeated y z) k l a b = pair_is_one w x y z (one_pair (marks image) w x y z a b)
@@ -149,7 +149,7 @@ one_answer g capacity image c a is = (
 -- ---- one reason
 
 -- a refusal of which a mount says something names a part
-named : (g : Geometry) (capacity : ℕ) (image : Image) (r : Refusal) → Shows g capacity image r → (part : Part) × (part_of r ≡ Some part)
+named : (g : Geometry) (capacity : ℕ) (image : Image) (r : Refusal) → ShowsRefusal g capacity image r → (part : Part) × (part_of r ≡ Some part)
 named g capacity image (refusals.NumberRange row) h = (Numbers, refl)
 named g capacity image (refusals.SequenceRepeated a b) h = (Sequences, refl)
 named g capacity image refusals.NotFormatted h = (Tables, refl)
@@ -160,7 +160,7 @@ named g capacity image _ h = absurd h
 
 -- two that name one part are one
 same_shows : (g : Geometry) (capacity : ℕ) (image : Image) (part : Part) (r s : Refusal) → part_of r ≡ Some part → part_of s ≡ Some part
-    → Shows g capacity image r → Shows g capacity image s → r ≡ s
+    → ShowsRefusal g capacity image r → ShowsRefusal g capacity image s → r ≡ s
 same_shows g capacity image part (refusals.NumberRange x) (refusals.NumberRange y) k l a b = ap refusals.NumberRange (first_row g (marks image) x y a b)
 same_shows g capacity image part (refusals.SequenceRepeated w x) (refusals.SequenceRepeated y z) k l a b = pair_is_one w x y z (one_pair (marks image) w x y z a b)
 same_shows g capacity image part refusals.NotFormatted refusals.NotFormatted k l a b = refl
@@ -184,7 +184,7 @@ same_shows g capacity image part _ _ k l a b = absurd cc
 
 -- where another one names a later part, it comes late itself: the part that it names would hold else
 late : (g : Geometry) (capacity : ℕ) (image : Image) (p q : Part) (r s : Refusal) → part_of r ≡ Some p → part_of s ≡ Some q → order p < order q
-    → Shows g capacity image r → IsUnmountable g capacity image s → IsAfter Tables r
+    → ShowsRefusal g capacity image r → IsUnmountable g capacity image s → IsAfter Tables r
 late g capacity image p q (refusals.NumberRange row) s k l less a v =
     let is : p ≡ Numbers = cc in
     absurd (a.at.outside ((v.numbers (q, l, subst (λ (x : Part). order x < order q) is less)).in_range row a.at.found a.at.here))
@@ -247,7 +247,7 @@ of_length g capacity bytes c size (inl (inr memory)) = cc
 of_length g capacity bytes c size (inr (inl w)) = w.1 size
 of_length g capacity bytes c size (inr (inr w)) = let part = w.wrong.part_is in cc
 
-pub read_most : ReadLaw
+pub read_most : ReadsNoMoreLaw
 read_most most before after h =
     let size : length before ≡ length h.bytes + length after = ap length h.read ∙ length-append h.bytes after in
     let few = h.few in
@@ -259,7 +259,7 @@ stops r (inr is) = (ap part_of is, λ judged. subst IsJudgement is judged)
 
 -- ---- what is named
 
-named_of : (g : Geometry) (capacity : ℕ) (image : Image) (c : Claim) (r : Refusal) → Says g capacity image c r → IsNamedOf g r
+named_of : (g : Geometry) (capacity : ℕ) (image : Image) (c : Claim) (r : Refusal) → RefusalSays g capacity image c r → IsNamedOf g r
 named_of g capacity image c (refusals.TableDamaged u) h = h.within
 named_of g capacity image c (refusals.DirectoryWrong i) h = elim h.wrong [
   | inl w ↦ let below = w.0 in omega arith
@@ -273,7 +273,7 @@ named_of g capacity image c (refusals.LiveWrong b) h = h.within
 named_of g capacity image c (refusals.WearWrong b) h = h.within
 named_of g capacity image c _ h = tt
 
-pub names : NamedLaw
+pub names : RefusalNamesLaw
 names g capacity image c r w = named_of g capacity image c r w.wrong.says
 
 pub of_mounting : MountingLaw

@@ -10,17 +10,17 @@ use Rattle.promises.proofs.LegalLemmas.{no_bad_block}
 use Rattle.bad_blocks.specs.Marks.{is_marked}
 use Rattle.std.specs.Prelude.{◌||◌}
 use Rattle.mount.specs.Log.{has_failed, failures}
-use Rattle.image_laws.specs.Formats.{UntouchedLaw, LostLaw, EnoughLaw, AloneLaw, NoFailureLaw, TablePageLaw, LowSequenceLaw}
+use Rattle.image_laws.specs.Formats.{RefusedFormatLaw, LostBlocksLaw, EnoughLaw, AloneLaw, NoFailureLaw, TablePageLaw, LowSequenceLaw}
 use Rattle.image_laws.proofs.KeptLemmas.{lowest_table}
 
-pub untouched : UntouchedLaw
+pub untouched : RefusedFormatLaw
 untouched g needed old new before after row = (
   λ h. (elim h [ inl same ↦ same | inr used ↦ used.untouched ]),
   λ h. (elim h [ inl same ↦ same | inr used ↦ used.1 ]),
   λ used. used.0,
 )
 
-pub lost : LostLaw
+pub lost : LostBlocksLaw
 lost g needed old new before after good asked = (
   λ h. (elim h [
     | inl f ↦ let few = f.at_most in let fewer = f.fewer in omega arith

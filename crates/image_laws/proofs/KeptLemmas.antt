@@ -6,9 +6,9 @@ use Rattle.std.proofs.Math.Nat.{mul-le-mul_right}
 use Rattle.page_layout.specs.Geometry.{table_pages}
 use Rattle.promises.specs.Log.{failed_in}
 use Rattle.bad_blocks.specs.Marks.{is_marked}
-use Rattle.image_laws.specs.Kept.{OtherRowsLaw, OtherPagesLaw, LowestTableLaw}
+use Rattle.image_laws.specs.Kept.{OtherTableRowsLaw, OtherPagesLaw, LowestTableLaw}
 
-pub other_rows : OtherRowsLaw
+pub other_rows : OtherTableRowsLaw
 other_rows entries u v i old new kept apart within = elim (cases_order v u) [
   | inl same ↦ absurd (apart same)
   | inr (inl below) ↦

@@ -22,8 +22,8 @@ use Rattle.image_check.specs.Blocks.{body_in, table_body}
 use Rattle.image_check.specs.Stale.{stale_count}
 use Rattle.image_check.specs.Mountable.{IsOrderly}
 use Rattle.image_check.proofs.MountableLemmas.{mountable, orderly_of}
-use Rattle.mount.specs.Mounted.{Shows}
-use Rattle.image_laws.specs.Power.{LosesPower, LosesSince, IsPageSince, FoundOneLaw, StoredLaw, SinceLaw, EitherLaw, UnwrittenLaw, AllStoredLaw, ProgramGrowsLaw, NoneLostLaw, AllLostLaw, OneMoreLostLaw}
+use Rattle.mount.specs.Mounted.{ShowsRefusal}
+use Rattle.image_laws.specs.Power.{LosesPower, LosesSince, IsPageSince, FoundOneLaw, StoredNotLostLaw, NewestSinceLaw, EitherLaw, UnwrittenLaw, AllStoredLaw, ProgramGrowsLaw, NothingMissingLaw, AllLostLaw, OneMoreLostLaw}
 use Rattle.image_laws.specs.Power.{MountedSince, StoredMountsLaw, ProgramMountsLaw, FoundMountsLaw, FoundRefusedLaw}
 use Rattle.image_laws.proofs.AnswerLemmas.{none_newest}
 
@@ -76,7 +76,7 @@ program_grows stored left row p grows none = record {
       slice_get-set_other left row q p apart ∙ grows.kept q r has;
 }
 
-pub none_lost : NoneLostLaw
+pub none_lost : NothingMissingLaw
 none_lost stored left = record { size = refl; rows = λ row. inl refl }
 
 pub all_lost : AllLostLaw
@@ -117,7 +117,7 @@ found_one g stored left found power =
       in_range = λ row r has. power.one.in_range row r (back row r has);
     }
 
-pub stored_stays : StoredLaw
+pub stored_stays : StoredNotLostLaw
 stored_stays g stored left found key q power is =
     let its = newest-record (marks stored) key q is in
     let here : get_or (marks found) q None ≡ Some its.0 = mark-same found stored q (stays g stored left found q its.0 power its.1) ∙ its.1 in
@@ -140,7 +140,7 @@ newest_then g stored left found key row r power is has =
     } in
     newest_from (marks stored) key row then
 
-pub since : SinceLaw
+pub since : NewestSinceLaw
 since g stored left found key row power is =
     let its = newest-record (marks found) key row is in (
       as_left stored left found row its.0 power.loses its.1,
@@ -291,7 +291,7 @@ found_mounts g capacity stored left found whole least most power mounted =
     (λ m. m.agrees.fresh, λ few. same.1 (found_orderly g capacity stored left found power mounted few))
 
 -- an image that lacks room alone is refused for that
-refused_stale : (g : Geometry) (capacity : ℕ) (image : Image) (r : Refusal) → IsOrderly g (stale_count g image) image → Shows g capacity image r → r ≡ refusals.TooStale (stale_count g image) capacity
+refused_stale : (g : Geometry) (capacity : ℕ) (image : Image) (r : Refusal) → IsOrderly g (stale_count g image) image → ShowsRefusal g capacity image r → r ≡ refusals.TooStale (stale_count g image) capacity
 refused_stale g capacity image (refusals.NumberRange row) o h = absurd (h.at.outside (o.numbers.in_range row h.at.found h.at.here))
 refused_stale g capacity image (refusals.SequenceRepeated a b) o h =
     let same : a ≡ b = o.sequences.apart a b h.pair.first h.pair.second h.pair.at_first h.pair.at_second h.pair.same in

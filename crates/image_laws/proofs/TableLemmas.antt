@@ -12,7 +12,7 @@ use Rattle.bad_blocks.proofs.TableLemmas.{slice_get-set_same}
 use Rattle.translation_pages.specs.TranslationPage.{entry_at}
 use Rattle.translation_pages.specs.Entry.{entry_in, entry_of}
 use Rattle.image_check.specs.Blocks.{body_in, table_body, word_of_block}
-use Rattle.image_laws.specs.Tables.{WrongWordLaw, SameLengthLaw, EraseCountLaw, WordLaw, RightLaw, TableWordLaw, EntryLaw}
+use Rattle.image_laws.specs.Tables.{WrongWordLaw, SameLengthLaw, TableEraseCountLaw, WordLaw, RightLaw, TableWordLaw, EntryLaw}
 
 pub wrong_word : WrongWordLaw
 wrong_word entries blocks u bytes fault first formed = both_ways _ first.wrong (formed.right first.place first.within)
@@ -23,7 +23,7 @@ same_length entries u old new kept = kept.length_same
 row_set : (rows : List TableRow) (block : ℕ) (row : TableRow) → block < length rows → table_row_at (slice_set rows block row) block ≡ row
 row_set rows block row within = get_or_from_slice_get (slice_set rows block row) block row no_table_row (slice_get-set_same rows block row within)
 
-pub erase_count : EraseCountLaw
+pub erase_count : TableEraseCountLaw
 erase_count rows block within =
     let erased = row_set rows block (record { class = class_at rows block; wear = min (wear_at rows block + 1) 16777215 }) within in
     let failed = row_set rows block (record { class = Grown; wear = wear_at rows block }) within in (

@@ -7,7 +7,7 @@ use Rattle.certificate.specs.declared.fault.CertFault.TheVariants.{OutOfMemory}
 use Rattle.certificate.specs.Claim.{Claim}
 use Rattle.certificate.specs.Spelling.{layout}
 use Rattle.certificate.specs.Reading.{sizes_in}
-use Rattle.certificate.specs.Faults.{IsFirstFault}
+use Rattle.certificate.specs.Faults.{IsFirstCertificateFault}
 use Rattle.image_check.specs.Agrees.{Agrees, IsCertificateOf}
 use Rattle.mount.specs.Mounted.{IsNextSequence, IsMounted}
 
@@ -27,4 +27,4 @@ OneMountLaw = (g : Geometry) (capacity : ℕ) (image : Image) (c d : Claim) → 
 
 -- MEMORY IS ASKED FOR only for bytes that are as many as their head promises
 abbrev pub WholeFirstLaw : Type 0
-WholeFirstLaw = (bytes : List ℕ) → IsFirstFault bytes OutOfMemory → length bytes ≡ layout (sizes_in bytes)
+WholeFirstLaw = (bytes : List ℕ) → IsFirstCertificateFault bytes OutOfMemory → length bytes ≡ layout (sizes_in bytes)

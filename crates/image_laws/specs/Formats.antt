@@ -16,15 +16,15 @@ use Rattle.mount.specs.Formatted.{good_after, table_record, HasTablePage, IsDone
 use Rattle.mount.specs.declared.format_fault.FormatFault.TheVariants.{TooFewGood, OutOfMemory, WriteFailed, NotFresh}
 
 -- NOTHING WAS DONE by a format that was refused for memory or for a used page, which is one of the die, and no program was counted
-abbrev pub UntouchedLaw : Type 0
-UntouchedLaw = (g : Geometry) (needed : ℕ) (old new : Flash) (before after row : ℕ)
+abbrev pub RefusedFormatLaw : Type 0
+RefusedFormatLaw = (g : Geometry) (needed : ℕ) (old new : Flash) (before after row : ℕ)
     → (Formats g needed old new (Err OutOfMemory) ⊎ Formats g needed old new (Err (NotFresh row)) → new ≡ old)
     × (Answers g needed before after (Err OutOfMemory) ⊎ Answers g needed before after (Err (NotFresh row)) → after ≡ before)
     × (Answers g needed before after (Err (NotFresh row)) → row < row_count g)
 
 -- TWO BLOCKS ARE LOST AT MOST by a format that ends well or is left with too few, and three by one that gives up, after three programs at least
-abbrev pub LostLaw : Type 0
-LostLaw = (g : Geometry) (needed : ℕ) (old new : Flash) (before after good asked : ℕ)
+abbrev pub LostBlocksLaw : Type 0
+LostBlocksLaw = (g : Geometry) (needed : ℕ) (old new : Flash) (before after good asked : ℕ)
     → (Formats g needed old new (Ok good) ⊎ Formats g needed old new (Err (TooFewGood good asked)) → good_after g old.image [] ≤ good + 2)
     × ((f : IsWriteFailed g needed old new) → (failures f.log ≡ 3) × (good_after g old.image f.log + 3 ≡ good_after g old.image []))
     × (Answers g needed before after (Err WriteFailed) → before + 3 < 2 ^ 64 → before + 3 ≤ after)

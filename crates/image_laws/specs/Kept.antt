@@ -10,8 +10,8 @@ use Rattle.bad_blocks.specs.TablePage.{KeepsOthers}
 use Rattle.mount.specs.Formatted.{HasTable, IsFormatted, is_good_after}
 
 -- OTHER PAGES' ROWS STAY: row i of table page v, where page u was read
-abbrev pub OtherRowsLaw : Type 0
-OtherRowsLaw = (entries u v i : ℕ) (old new : List TableRow) → KeepsOthers entries u old new → v ≢ u → i < entries
+abbrev pub OtherTableRowsLaw : Type 0
+OtherTableRowsLaw = (entries u v i : ℕ) (old new : List TableRow) → KeepsOthers entries u old new → v ≢ u → i < entries
     → slice_get new (v * entries + i) ≡ slice_get old (v * entries + i)
 
 -- NO OTHER PAGE OF A GOOD BLOCK is changed by a format than the table pages

@@ -21,7 +21,7 @@ use Rattle.image_check.specs.declared.refusal.Refusal.TheVariants as refusals
 use Rattle.image_check.specs.Agrees.{HasTables}
 use Rattle.image_check.specs.Stale.{is_stale, stale_count}
 use Rattle.image_check.specs.Mountable.{IsMountable}
-use Rattle.image_check.specs.Refused.{IsStop}
+use Rattle.image_check.specs.Refused.{StopsCheck}
 use Rattle.mount.specs.Mounted.{Refuses}
 
 -- SINCE IT WAS STORED pages were programmed alone: each that had a record is as it was
@@ -54,8 +54,8 @@ abbrev pub ProgramGrowsLaw : Type 0
 ProgramGrowsLaw = (stored left : Image) (row : ℕ) (p : Page) → Grows stored left → IsUnsoundAt stored row → Grows stored (slice_set left row p)
 
 -- nothing may be missing, or all that was programmed since
-abbrev pub NoneLostLaw : Type 0
-NoneLostLaw = (stored left : Image) → LosesSince stored left left
+abbrev pub NothingMissingLaw : Type 0
+NothingMissingLaw = (stored left : Image) → LosesSince stored left left
 
 abbrev pub AllLostLaw : Type 0
 AllLostLaw = (stored left : Image) → Grows stored left → LosesSince stored left stored
@@ -71,13 +71,13 @@ abbrev pub FoundOneLaw : Type 0
 FoundOneLaw = (g : Geometry) (stored left found : Image) → LosesPower g stored left found → HasOneArray g found
 
 -- NOTHING THAT WAS STORED IS LOST: a key that had a newest page has one
-abbrev pub StoredLaw : Type 0
-StoredLaw = (g : Geometry) (stored left found : Image) (key : Key) (q : ℕ) → LosesPower g stored left found → newest (marks stored) key ≡ Some q
+abbrev pub StoredNotLostLaw : Type 0
+StoredNotLostLaw = (g : Geometry) (stored left found : Image) (key : Key) (q : ℕ) → LosesPower g stored left found → newest (marks stored) key ≡ Some q
     → (row : ℕ) × (newest (marks found) key ≡ Some row)
 
 -- and its newest page is the one that it had, or one that was programmed since; it is as it was left
-abbrev pub SinceLaw : Type 0
-SinceLaw = (g : Geometry) (stored left found : Image) (key : Key) (row : ℕ) → LosesPower g stored left found → newest (marks found) key ≡ Some row
+abbrev pub NewestSinceLaw : Type 0
+NewestSinceLaw = (g : Geometry) (stored left found : Image) (key : Key) (row : ℕ) → LosesPower g stored left found → newest (marks found) key ≡ Some row
     → (slice_get found row ≡ slice_get left row) × ((newest (marks stored) key ≡ Some row) ⊎ IsUnsoundAt stored row)
 
 -- EACH SECTOR reads as when the image was stored, or as a page of it that was programmed since
@@ -121,7 +121,7 @@ FoundMountsLaw = (g : Geometry) (capacity : ℕ) (stored left found : Image) →
 -- else it is refused for that alone, with how many are stale, unless something stops the mount
 abbrev pub FoundRefusedLaw : Type 0
 FoundRefusedLaw = (g : Geometry) (capacity : ℕ) (stored left found : Image) (r : Refusal) → LosesPower g stored left found → MountedSince g stored left
-    → Refuses g capacity found r → IsStop r ⊎ (r ≡ refusals.TooStale (stale_count g found) capacity)
+    → Refuses g capacity found r → StopsCheck r ⊎ (r ≡ refusals.TooStale (stale_count g found) capacity)
 
 -- ---- how much is stale
 

@@ -11,7 +11,7 @@ use Rattle.image_check.specs.declared.refusal.Refusal.{Refusal}
 use Rattle.image_check.specs.declared.refusal.Refusal.TheVariants as refusals
 use Rattle.image_check.specs.Accepted.{Acceptance, IsAcceptance}
 use Rattle.image_check.specs.Mountable.{IsMountable}
-use Rattle.image_check.specs.Refused.{Tables, Next, Fresh, IsFirstWrong, IsFirstRepeated, IsJudgement, IsOfImage, IsStop, part_of}
+use Rattle.image_check.specs.Refused.{Tables, Next, Fresh, IsFirstWrong, IsFirstRepeated, IsJudgement, IsOfImage, StopsCheck, part_of}
 use Rattle.image_check.specs.PageReader.{ReadsUpTo, image_bytes}
 use Rattle.image_check.specs.Streamed.{IsStreamRefusal}
 use Rattle.mount.specs.Mounted.{IsAfter, IsUnmountable, IsOfMounting, Refuses}
@@ -47,12 +47,12 @@ abbrev pub LengthLaw : Type 0
 LengthLaw = (g : Geometry) (capacity : ℕ) (bytes : List ℕ) (c : Claim) → length bytes ≡ image_bytes g → ¬ IsStreamRefusal g capacity bytes c refusals.WrongLength
 
 -- NO MORE IS READ than is said: of bytes that are known as many are left
-abbrev pub ReadLaw : Type 0
-ReadLaw = (most : ℕ) (before after : List ℕ) → ReadsUpTo most (Some before) (Some after) → length before ≤ length after + most
+abbrev pub ReadsNoMoreLaw : Type 0
+ReadsNoMoreLaw = (most : ℕ) (before after : List ℕ) → ReadsUpTo most (Some before) (Some after) → length before ≤ length after + most
 
 -- WHAT STOPS A CHECK SAYS NOTHING OF THE IMAGE
 abbrev pub StopLaw : Type 0
-StopLaw = (r : Refusal) → IsStop r → (part_of r ≡ None) × (¬ IsJudgement r)
+StopLaw = (r : Refusal) → StopsCheck r → (part_of r ≡ None) × (¬ IsJudgement r)
 
 -- the page, the row of the directory, the sector or the block that a refusal names is one of the die
 abbrev pub IsNamedOf : Geometry → Refusal → Type 0
@@ -67,12 +67,12 @@ IsNamedOf g (refusals.WearWrong b) = b < g.blocks
 IsNamedOf g _ = Unit {0}
 
 -- NOTHING ELSE IS NAMED than what the die has
-abbrev pub NamedLaw : Type 0
-NamedLaw = (g : Geometry) (capacity : ℕ) (image : Image) (c : Claim) (r : Refusal) → IsFirstWrong g capacity image c r → IsNamedOf g r
+abbrev pub RefusalNamesLaw : Type 0
+RefusalNamesLaw = (g : Geometry) (capacity : ℕ) (image : Image) (c : Claim) (r : Refusal) → IsFirstWrong g capacity image c r → IsNamedOf g r
 
 -- A MOUNT IS REFUSED for what the pages alone decide, for the last sequence, for too many stale sectors, or for what stops it
 abbrev pub MountingLaw : Type 0
-MountingLaw = (r : Refusal) → IsOfMounting r → IsStop r ⊎ (IsOfImage r ⊎ ((part_of r ≡ Some Next) ⊎ (part_of r ≡ Some Fresh)))
+MountingLaw = (r : Refusal) → IsOfMounting r → StopsCheck r ⊎ (IsOfImage r ⊎ ((part_of r ≡ Some Next) ⊎ (part_of r ≡ Some Fresh)))
 
 -- ONE PAIR: the rows that share a sequence, and of which the second is lowest, are two rows alone
 abbrev pub OnePairLaw : Type 0
@@ -80,9 +80,9 @@ OnePairLaw = (marks : List (Option Record)) (a b c d : ℕ) → IsFirstRepeated 
 
 -- ONE WORD: what is wrong first with a table page is one thing
 abbrev pub OneWordLaw : Type 0
-OneWordLaw = (entries blocks u : ℕ) (bytes : List ℕ) (fault other : TableFault) → table.IsFirstWrong entries blocks u bytes fault
-    → table.IsFirstWrong entries blocks u bytes other → fault ≡ other
+OneWordLaw = (entries blocks u : ℕ) (bytes : List ℕ) (fault other : TableFault) → table.IsFirstWrongWord entries blocks u bytes fault
+    → table.IsFirstWrongWord entries blocks u bytes other → fault ≡ other
 
 -- WHAT HAS A CERTIFICATE MOUNTS, but for want of memory and a page read that failed
 abbrev pub CertifiedLaw : Type 0
-CertifiedLaw = (g : Geometry) (capacity : ℕ) (image : Image) (r : Refusal) → IsMountable g capacity image → Refuses g capacity image r → IsStop r
+CertifiedLaw = (g : Geometry) (capacity : ℕ) (image : Image) (r : Refusal) → IsMountable g capacity image → Refuses g capacity image r → StopsCheck r

@@ -12,20 +12,20 @@ use Rattle.bad_blocks.specs.declared.class.Class.TheVariants.{Good, Factory, Gro
 use Rattle.bad_blocks.specs.declared.table.TableRow.{TableRow}
 use Rattle.bad_blocks.specs.declared.table.page.TableFault.{TableFault}
 use Rattle.bad_blocks.specs.Table.{class_at, wear_at, erased_once, retired}
-use Rattle.bad_blocks.specs.TablePage.{word_of, is_right, IsWellFormed, IsFirstWrong, KeepsOthers}
+use Rattle.bad_blocks.specs.TablePage.{word_of, is_right, IsWellFormed, IsFirstWrongWord, KeepsOthers}
 use Rattle.image_check.specs.Blocks.{word_of_block}
 
 -- A PAGE WITH A WRONG WORD isn't well formed
 abbrev pub WrongWordLaw : Type 0
-WrongWordLaw = (entries blocks u : ℕ) (bytes : List ℕ) (fault : TableFault) → IsFirstWrong entries blocks u bytes fault → ¬ IsWellFormed entries blocks u bytes
+WrongWordLaw = (entries blocks u : ℕ) (bytes : List ℕ) (fault : TableFault) → IsFirstWrongWord entries blocks u bytes fault → ¬ IsWellFormed entries blocks u bytes
 
 -- AS MANY ROWS stay as there were, whatever page is read
 abbrev pub SameLengthLaw : Type 0
 SameLengthLaw = (entries u : ℕ) (old new : List TableRow) → KeepsOthers entries u old new → length new ≡ length old
 
 -- AN ERASE COUNTS ONE, and at 16777215 no more; the class stays, and a block that fails keeps its count and is grown bad
-abbrev pub EraseCountLaw : Type 0
-EraseCountLaw = (rows : List TableRow) (block : ℕ) → block < length rows
+abbrev pub TableEraseCountLaw : Type 0
+TableEraseCountLaw = (rows : List TableRow) (block : ℕ) → block < length rows
     → (wear_at rows block < 16777215 → wear_at (erased_once rows block) block ≡ wear_at rows block + 1)
     × (16777215 ≤ wear_at rows block → wear_at (erased_once rows block) block ≡ 16777215)
     × (class_at (erased_once rows block) block ≡ class_at rows block)

@@ -3,13 +3,13 @@
 #![tactic(auto)]
 
 ghost use Rattle.image_laws.specs.Refusals.{OnePartLaw, OnePairLaw, OneWordLaw, CertifiedLaw};
-ghost use Rattle.image_laws.specs.Refusals.{OneRefusalLaw, OneAnswerLaw, OneReasonLaw, TooStaleLaw, LengthLaw, ReadLaw, StopLaw, NamedLaw, MountingLaw};
+ghost use Rattle.image_laws.specs.Refusals.{OneRefusalLaw, OneAnswerLaw, OneReasonLaw, TooStaleLaw, LengthLaw, ReadsNoMoreLaw, StopLaw, RefusalNamesLaw, MountingLaw};
 ghost use Rattle.image_laws.specs.Certificates.{OneNextLaw, OneCertificateLaw, OneMountLaw, WholeFirstLaw};
 ghost use Rattle.image_laws.specs.Sectors.{OneTieLaw, TopTieLaw, ShownLaw, HeldLaw, ShownReadLaw};
-ghost use Rattle.image_laws.specs.Tables.{WrongWordLaw, SameLengthLaw, EraseCountLaw, WordLaw, RightLaw, TableWordLaw, EntryLaw};
-ghost use Rattle.image_laws.specs.Formats.{UntouchedLaw, LostLaw, EnoughLaw, AloneLaw, NoFailureLaw, TablePageLaw, LowSequenceLaw};
-ghost use Rattle.image_laws.specs.Kept.{OtherRowsLaw, OtherPagesLaw, LowestTableLaw};
-ghost use Rattle.image_laws.specs.Power.{FoundOneLaw, StoredLaw, SinceLaw, EitherLaw, UnwrittenLaw, AllStoredLaw, ProgramGrowsLaw, NoneLostLaw, AllLostLaw, OneMoreLostLaw};
+ghost use Rattle.image_laws.specs.Tables.{WrongWordLaw, SameLengthLaw, TableEraseCountLaw, WordLaw, RightLaw, TableWordLaw, EntryLaw};
+ghost use Rattle.image_laws.specs.Formats.{RefusedFormatLaw, LostBlocksLaw, EnoughLaw, AloneLaw, NoFailureLaw, TablePageLaw, LowSequenceLaw};
+ghost use Rattle.image_laws.specs.Kept.{OtherTableRowsLaw, OtherPagesLaw, LowestTableLaw};
+ghost use Rattle.image_laws.specs.Power.{FoundOneLaw, StoredNotLostLaw, NewestSinceLaw, EitherLaw, UnwrittenLaw, AllStoredLaw, ProgramGrowsLaw, NothingMissingLaw, AllLostLaw, OneMoreLostLaw};
 ghost use Rattle.image_laws.specs.Power.{StoredMountsLaw, ProgramMountsLaw, FoundMountsLaw, FoundRefusedLaw, StoredEntriesLaw, ProgramEntriesLaw, FoundStaleLaw};
 ghost use Rattle.image_laws.specs.Versions.{MovedVersionLaw, StayedVersionLaw};
 
@@ -33,9 +33,9 @@ pub fn answer_laws()
     ensures reason { OneReasonLaw }
     ensures stale { TooStaleLaw }
     ensures length { LengthLaw }
-    ensures read { ReadLaw }
+    ensures read { ReadsNoMoreLaw }
     ensures stop { StopLaw }
-    ensures named { NamedLaw }
+    ensures named { RefusalNamesLaw }
     ensures mounting { MountingLaw }
 {}
 
@@ -63,7 +63,7 @@ pub fn sector_laws()
 pub fn table_laws()
     ensures wrong { WrongWordLaw }
     ensures length { SameLengthLaw }
-    ensures erased { EraseCountLaw }
+    ensures erased { TableEraseCountLaw }
     ensures words { WordLaw }
     ensures right { RightLaw }
     ensures word { TableWordLaw }
@@ -74,8 +74,8 @@ pub fn table_laws()
 /// good blocks are left where it ended well; it erases nothing and leaves marked blocks alone; without a failure none is lost; its table
 /// pages say what they have to; and the sequences that it used are low. (This project.)
 pub fn format_laws()
-    ensures untouched { UntouchedLaw }
-    ensures lost { LostLaw }
+    ensures untouched { RefusedFormatLaw }
+    ensures lost { LostBlocksLaw }
     ensures enough { EnoughLaw }
     ensures alone { AloneLaw }
     ensures calm { NoFailureLaw }
@@ -86,7 +86,7 @@ pub fn format_laws()
 /// What stays: reading a table page leaves the rows of all other pages' blocks as they were; a format leaves the pages of good blocks
 /// that are no table pages as they were, and each block below the one with the table was marked or has failed. (This project.)
 pub fn kept_laws()
-    ensures rows { OtherRowsLaw }
+    ensures rows { OtherTableRowsLaw }
     ensures pages { OtherPagesLaw }
     ensures table { LowestTableLaw }
 {}
@@ -100,12 +100,12 @@ pub fn kept_laws()
 /// has for each of its sectors the row of the newest page or the entry that there was. (This project.)
 pub fn power_laws()
     ensures program { ProgramGrowsLaw }
-    ensures none_lost { NoneLostLaw }
+    ensures none_lost { NothingMissingLaw }
     ensures all_lost { AllLostLaw }
     ensures one_more { OneMoreLostLaw }
     ensures one { FoundOneLaw }
-    ensures stored { StoredLaw }
-    ensures since { SinceLaw }
+    ensures stored { StoredNotLostLaw }
+    ensures since { NewestSinceLaw }
     ensures sector { EitherLaw }
     ensures unwritten { UnwrittenLaw }
     ensures all { AllStoredLaw }

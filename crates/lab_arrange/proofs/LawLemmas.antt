@@ -7,7 +7,7 @@ use Rattle.lab_arrange.specs.Place.{in_run, place_in_dump, row_in_turns, run_pla
 use Rattle.lab_arrange.specs.declared.arrangement.Arrangement.{Arrangement}
 use Rattle.lab_arrange.specs.declared.words.Told.{Told}
 use Rattle.lab_arrange.specs.declared.words.Told.TheVariants as told
-use Rattle.lab_arrange.specs.Laws.{HeaderLaw, LengthLaw, ToldLaw, OrderLaw, PairLaw, StackedLaw, TurnsLaw, ValueLaw}
+use Rattle.lab_arrange.specs.Laws.{HeaderLaw, DumpLengthLaw, NotToldAgainLaw, BytesInPlaceLaw, PairLaw, StackedLaw, TwoPlanesLaw, ValueLaw}
 use Rattle.lab_arrange.specs.Words.{set_told, with_told}
 use Rattle.lab_arrange.proofs.PlaceLemmas.{data_next, data_start, in_data, in_spare, spare_next, spare_start}
 use Rattle.lab_arrange.proofs.ReadLemmas.{missing_at, pair_first, pair_second}
@@ -18,7 +18,7 @@ pub header_law : HeaderLaw
 unfolding place_in_dump
 header_law g a bytes row column = omega arith
 
-pub length_law : LengthLaw
+pub length_law : DumpLengthLaw
 length_law g a n fits = (let cut = fits.cut in record { header = omega arith; tail = omega arith; cut = λ l. omega arith })
 
 -- ---- told once
@@ -44,7 +44,7 @@ tail_behind a n m = by (is_some a.tail)
     by true = refl
     by false = refl
 
-pub told_law : ToldLaw
+pub told_law : NotToldAgainLaw
 told_law a n m = record { again = λ t. again a t; cut_behind = refl; tail_behind = tail_behind a n m }
 
 -- ---- the areas
@@ -83,7 +83,7 @@ one_page d s row column = at_run 1 d s row 0 row column false quotient rest ∙ 
         omega (arith, inner)
 
 -- with nothing told
-pub order_law : OrderLaw
+pub order_law : BytesInPlaceLaw
 unfolding place_in_dump
 order_law g = record {
   places = λ row column l. (let plain : 0 + run_place 1 g.data_bytes g.spare_bytes false row column ≡ run_place 1 g.data_bytes g.spare_bytes false row column = omega arith in plain ∙ one_page g.data_bytes g.spare_bytes row column);
@@ -140,7 +140,7 @@ turn_at pages block p l =
     let rest = mod-mul-add block pages p l in
     ap (λ b. b / 2 * (2 * pages) + (2 * ((block * pages + p) % pages) + b % 2)) quotient ∙ ap (λ k. block / 2 * (2 * pages) + (2 * k + block % 2)) rest
 
-pub turns_law : TurnsLaw
+pub turns_law : TwoPlanesLaw
 turns_law pages k p l = record { even = even; odd = odd }
   where
     even : row_in_turns pages true (2 * k * pages + p) ≡ 2 * k * pages + 2 * p

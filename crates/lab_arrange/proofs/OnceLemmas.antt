@@ -11,7 +11,7 @@ use Rattle.page_layout.specs.Geometry.{row_count, page_bytes}
 use Rattle.page_layout.specs.Limits.{IsPageCount}
 use Rattle.lab_dump.specs.Scan.{image_bytes}
 use Rattle.lab_arrange.specs.declared.arrangement.Arrangement.{Arrangement}
-use Rattle.lab_arrange.specs.Place.{IsFitting, body_place, header_of, in_run, pair_of, place_in_dump, row_in_turns, run_of, run_place, swapped_place}
+use Rattle.lab_arrange.specs.Place.{IsFitting, body_place, header_length, in_run, other_in_pair, place_in_dump, row_in_turns, run_of, run_place, swapped_place}
 use Rattle.lab_arrange.specs.Laws.{IsOfPages, IsOnDie, OnceLaw, Spot, row_back, run_spot, spot, spot_in, spot_of}
 use Rattle.lab_arrange.proofs.PlaceLemmas.{body_lt, in_data, in_run_lt, in_spare, runs_of, runs_whole, some_pages, some_run}
 use Rattle.lab_arrange.proofs.ReadLemmas.{even_or_odd, pair_first, pair_second}
@@ -219,12 +219,12 @@ turn_back pages blocks row true some below even =
 
 -- ---- pairs
 
-pair_twice : (k : ℕ) → pair_of (pair_of k) ≡ k
+pair_twice : (k : ℕ) → other_in_pair (other_in_pair k) ≡ k
 pair_twice k = by (even_or_odd k)
   where
-    by : (k % 2 ≡ 0) ⊎ (k % 2 ≡ 1) → pair_of (pair_of k) ≡ k
-    by (inl z) = ap pair_of (pair_first k z) ∙ (pair_second (k + 1) (omega arith) ∙ omega arith)
-    by (inr z) = ap pair_of (pair_second k z) ∙ (pair_first (k - 1) (omega arith) ∙ omega arith)
+    by : (k % 2 ≡ 0) ⊎ (k % 2 ≡ 1) → other_in_pair (other_in_pair k) ≡ k
+    by (inl z) = ap other_in_pair (pair_first k z) ∙ (pair_second (k + 1) (omega arith) ∙ omega arith)
+    by (inr z) = ap other_in_pair (pair_second k z) ∙ (pair_first (k - 1) (omega arith) ∙ omega arith)
 
 swapped_twice : (swapped : Bool) (k : ℕ) → swapped_place swapped (swapped_place swapped k) ≡ k
 swapped_twice false k = refl
@@ -235,7 +235,7 @@ swapped_lt : (swapped : Bool) (k n : ℕ) → n % 2 ≡ 0 → k < n → swapped_
 swapped_lt false k n even l = l
 swapped_lt true k n even l = by (even_or_odd k)
   where
-    by : (k % 2 ≡ 0) ⊎ (k % 2 ≡ 1) → pair_of k < n
+    by : (k % 2 ≡ 0) ⊎ (k % 2 ≡ 1) → other_in_pair k < n
     by (inl z) = (let a = pair_first k z in omega (arith, a))
     by (inr z) = (let a = pair_second k z in omega (arith, a))
 
@@ -277,7 +277,7 @@ there g a x fits on =
     let inside : b < image_bytes g = body_lt g a x.row x.column fits on.row_in on.column_in in
     let k : ℕ = swapped_place a.swapped b in
     let few : k < image_bytes g = swapped_lt a.swapped b (image_bytes g) (even_bytes g) inside in
-    let back : header_of a + k - header_of a ≡ k = omega arith in
+    let back : header_length a + k - header_length a ≡ k = omega arith in
     let n = run_of g a.spares in
     let to_spot : ℕ → Spot = λ y. spot (row_back g.pages a.planes (run_spot n g.data_bytes g.spare_bytes a.spare_first y).row) (run_spot n g.data_bytes g.spare_bytes a.spare_first y).column in (
       record { behind = omega arith; before = omega arith },
@@ -290,7 +290,7 @@ there g a x fits on =
 back : (g : Geometry) (a : Arrangement) (place : ℕ) → IsFitting g a → IsOfPages g a place → IsOnDie g (spot_of g a place) × (place_in_dump g a (spot_of g a place).row (spot_of g a place).column ≡ place)
 unfolding place_in_dump spot_of
 back g a place fits of_pages =
-    let k : ℕ = place - header_of a in
+    let k : ℕ = place - header_length a in
     let behind = of_pages.behind in
     let before = of_pages.before in
     let few : k < image_bytes g = omega arith in
@@ -306,8 +306,8 @@ back g a place fits of_pages =
     let row_in : x.row < row_count g = subst Q (sym whole) found.row_in in
     let turned = turn_back g.pages g.blocks x.row a.planes (some_pages g) row_in fits.even in (
       record { row_in = turned.row_in; column_in = found.column_in },
-      ap (λ r. header_of a + swapped_place a.swapped (run_place n g.data_bytes g.spare_bytes a.spare_first r x.column)) turned.turn_is
-          ∙ (ap (λ y. header_of a + swapped_place a.swapped y) found.place_is ∙ (ap (λ y. header_of a + y) (swapped_twice a.swapped k) ∙ omega arith)),
+      ap (λ r. header_length a + swapped_place a.swapped (run_place n g.data_bytes g.spare_bytes a.spare_first r x.column)) turned.turn_is
+          ∙ (ap (λ y. header_length a + swapped_place a.swapped y) found.place_is ∙ (ap (λ y. header_length a + y) (swapped_twice a.swapped k) ∙ omega arith)),
     )
 
 pub once_law : OnceLaw

@@ -10,9 +10,9 @@ use Rattle.std.proofs.lemmas.List.{ext_get_or, get_or-map, get_or-take, get_or-d
 use Rattle.std.proofs.lemmas.List.FromFn.{get_or-map-range_with_len, length-map-range_with_len}
 use Rattle.page_layout.specs.declared.geometry.Geometry.{Geometry}
 use Rattle.lab_arrange.specs.declared.arrangement.Arrangement.{Arrangement}
-use Rattle.lab_arrange.specs.Place.{body_place, byte_at, header_of, pair_of, place_in_dump, swapped_place, value_of}
+use Rattle.lab_arrange.specs.Place.{body_place, byte_at, header_length, other_in_pair, place_in_dump, swapped_place, value_of}
 use Rattle.lab_arrange.specs.Reading.{area_from, bytes_from, taken_from}
-use Rattle.lab_arrange.specs.Arranged.{piece_at, spare_at}
+use Rattle.lab_arrange.specs.Arranged.{arranged_piece, spare_at}
 use Rattle.lab_arrange.proofs.PlaceLemmas.{body_data, body_spare}
 
 -- ---- lists by their places
@@ -71,10 +71,10 @@ bytes_whole inverted all size at n there found missing all_of some front counted
 -- ---- an area
 
 -- the other byte of a pair
-pub pair_first : (n : ℕ) → n % 2 ≡ 0 → pair_of n ≡ n + 1
+pub pair_first : (n : ℕ) → n % 2 ≡ 0 → other_in_pair n ≡ n + 1
 pair_first n e = ap (λ m. cond (nat_eq m 0) (n + 1) (n - 1)) e
 
-pub pair_second : (n : ℕ) → n % 2 ≡ 1 → pair_of n ≡ n - 1
+pub pair_second : (n : ℕ) → n % 2 ≡ 1 → other_in_pair n ≡ n - 1
 pair_second n e = ap (λ m. cond (nat_eq m 0) (n + 1) (n - 1)) e
 
 pub even_or_odd : (n : ℕ) → (n % 2 ≡ 0) ⊎ (n % 2 ≡ 1)
@@ -84,10 +84,10 @@ even_or_odd n = elim (cases_lt (n % 2) 1) [
 ]
 
 -- the pairs behind an even number of bytes are those behind it
-pair_even : (even k : ℕ) → even % 2 ≡ 0 → pair_of (even + k) ≡ even + pair_of k
+pair_even : (even k : ℕ) → even % 2 ≡ 0 → other_in_pair (even + k) ≡ even + other_in_pair k
 pair_even even k e = by (even_or_odd k)
   where
-    by : (k % 2 ≡ 0) ⊎ (k % 2 ≡ 1) → pair_of (even + k) ≡ even + pair_of k
+    by : (k % 2 ≡ 0) ⊎ (k % 2 ≡ 1) → other_in_pair (even + k) ≡ even + other_in_pair k
     by (inl z) =
         let there : (even + k) % 2 ≡ 0 = omega arith in
         let a = pair_first (even + k) there in
@@ -103,10 +103,10 @@ swapped_even : (swapped : Bool) (even k : ℕ) → even % 2 ≡ 0 → swapped_pl
 swapped_even false even k e = refl
 swapped_even true even k e = pair_even even k e
 
-pub pair_le : (k : ℕ) → pair_of k ≤ k + 1
+pub pair_le : (k : ℕ) → other_in_pair k ≤ k + 1
 pair_le k = by (even_or_odd k)
   where
-    by : (k % 2 ≡ 0) ⊎ (k % 2 ≡ 1) → pair_of k ≤ k + 1
+    by : (k % 2 ≡ 0) ⊎ (k % 2 ≡ 1) → other_in_pair k ≤ k + 1
     by (inl z) = (let a = pair_first k z in omega (arith, a))
     by (inr z) = (let a = pair_second k z in omega (arith, a))
 
@@ -143,8 +143,8 @@ area_is swapped inverted all header at n lead first count raw area lead_is first
 
 -- its two areas, each read from where it begins
 pub page_is : (g : Geometry) (a : Arrangement) (all : List ℕ) (row here there : ℕ) (body tail : List ℕ) → here ≡ body_place g a row 0 → there ≡ body_place g a row g.data_bytes
-    → body ≡ area_from (header_of a) a.swapped a.inverted all here g.data_bytes → tail ≡ area_from (header_of a) a.swapped a.inverted all there g.spare_bytes → body ++ tail ≡ piece_at g a all row
-unfolding piece_at place_in_dump area_from
+    → body ≡ area_from (header_length a) a.swapped a.inverted all here g.data_bytes → tail ≡ area_from (header_length a) a.swapped a.inverted all there g.spare_bytes → body ++ tail ≡ arranged_piece g a all row
+unfolding arranged_piece place_in_dump area_from
 page_is g a all row here there body tail here_is there_is first second = by_places f (d + s) (body ++ tail) whole each
   where
     d : ℕ
@@ -154,10 +154,10 @@ page_is g a all row here there body tail here_is there_is first second = by_plac
     s = g.spare_bytes
 
     f : ℕ → ℕ
-    f column = byte_at a.inverted all (header_of a + swapped_place a.swapped (body_place g a row column))
+    f column = byte_at a.inverted all (header_length a + swapped_place a.swapped (body_place g a row column))
 
     at_place : ℕ → ℕ
-    at_place k = byte_at a.inverted all (header_of a + swapped_place a.swapped k)
+    at_place k = byte_at a.inverted all (header_length a + swapped_place a.swapped k)
 
     front : length body ≡ d
     front = ap length first ∙ length-map-range_with_len (λ i. at_place (here + i)) 0 d
@@ -182,12 +182,12 @@ page_is g a all row here there body tail here_is there_is first second = by_plac
             get_or-append_right body tail d i 0 front l ∙ (ap (λ xs. get_or xs (i - d) 0) second ∙ (place_of_map (λ k. at_place (there + k)) s (i - d) (omega arith) ∙ ap at_place place))
 
 -- its spare area alone
-pub spare_is : (g : Geometry) (a : Arrangement) (all : List ℕ) (row there : ℕ) (tail : List ℕ) → there ≡ body_place g a row g.data_bytes → tail ≡ area_from (header_of a) a.swapped a.inverted all there g.spare_bytes
+pub spare_is : (g : Geometry) (a : Arrangement) (all : List ℕ) (row there : ℕ) (tail : List ℕ) → there ≡ body_place g a row g.data_bytes → tail ≡ area_from (header_length a) a.swapped a.inverted all there g.spare_bytes
     → tail ≡ spare_at g a all row
 unfolding area_from
 spare_is g a all row there tail there_is second =
-    let body : List ℕ = area_from (header_of a) a.swapped a.inverted all (body_place g a row 0) g.data_bytes in
-    let front : length body ≡ g.data_bytes = length-map-range_with_len (λ i. byte_at a.inverted all (header_of a + swapped_place a.swapped (body_place g a row 0 + i))) 0 g.data_bytes in
+    let body : List ℕ = area_from (header_length a) a.swapped a.inverted all (body_place g a row 0) g.data_bytes in
+    let front : length body ≡ g.data_bytes = length-map-range_with_len (λ i. byte_at a.inverted all (header_length a + swapped_place a.swapped (body_place g a row 0 + i))) 0 g.data_bytes in
     let at : length body + 0 ≡ g.data_bytes = omega (arith, front) in
     let whole = page_is g a all row (body_place g a row 0) there body tail refl there_is refl second in
     sym (drop-append-add body tail 0) ∙ (ap (λ n. drop n (body ++ tail)) at ∙ ap (drop g.data_bytes) whole)

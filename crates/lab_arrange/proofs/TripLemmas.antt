@@ -13,8 +13,8 @@ use Rattle.page_layout.specs.declared.geometry.Geometry.{Geometry}
 use Rattle.page_layout.specs.Geometry.{row_count, page_bytes}
 use Rattle.lab_dump.specs.Scan.{image_bytes}
 use Rattle.lab_arrange.specs.declared.arrangement.Arrangement.{Arrangement}
-use Rattle.lab_arrange.specs.Place.{IsFitting, byte_at, header_of, length_of, place_in_dump, value_of}
-use Rattle.lab_arrange.specs.Arranged.{piece_at, pieces_below}
+use Rattle.lab_arrange.specs.Place.{IsFitting, byte_at, header_length, length_of, place_in_dump, value_of}
+use Rattle.lab_arrange.specs.Arranged.{arranged_piece, pieces_below}
 use Rattle.lab_arrange.specs.Laws.{IsOfPages, RoundTripLaw, put_byte, put_in, spot, spot_of}
 use Rattle.lab_arrange.proofs.OnceLemmas.{once_law}
 
@@ -42,12 +42,12 @@ in_pieces f n a (suc m) (suc r) c sized row column =
 
 -- ---- a byte
 
-piece_size : (g : Geometry) (a : Arrangement) (all : List ℕ) (row : ℕ) → length (piece_at g a all row) ≡ page_bytes g
-unfolding piece_at
+piece_size : (g : Geometry) (a : Arrangement) (all : List ℕ) (row : ℕ) → length (arranged_piece g a all row) ≡ page_bytes g
+unfolding arranged_piece
 piece_size g a all row = length-map-range_with_len (λ column. byte_at a.inverted all (place_in_dump g a row column)) 0 (page_bytes g)
 
-piece_byte : (g : Geometry) (a : Arrangement) (all : List ℕ) (row column : ℕ) → column < page_bytes g → get_or (piece_at g a all row) column 0 ≡ byte_at a.inverted all (place_in_dump g a row column)
-unfolding piece_at
+piece_byte : (g : Geometry) (a : Arrangement) (all : List ℕ) (row column : ℕ) → column < page_bytes g → get_or (arranged_piece g a all row) column 0 ≡ byte_at a.inverted all (place_in_dump g a row column)
+unfolding arranged_piece
 piece_byte g a all row column l = get_or-map-range_with_len (λ k. byte_at a.inverted all (place_in_dump g a row k)) 0 (page_bytes g) column column 0 l (omega arith)
 
 twice : (inverted : Bool) (byte : ℕ) → byte ≤ 255 → value_of inverted (value_of inverted byte) ≡ byte
@@ -64,11 +64,11 @@ put_byte_at g a other raw row column fits below within byte =
     let of_pages : IsOfPages g a place = found.0 in
     let behind = of_pages.behind in
     let before = of_pages.before in
-    let size = header_of a + image_bytes g + unwrap_or a.tail 0 in
+    let size = header_length a + image_bytes g + unwrap_or a.tail 0 in
     let dump : List ℕ = map (put_byte g a other raw) (range_with_len 0 size) in
     let whole : length dump ≡ size = length-map-range_with_len (put_byte g a other raw) 0 size in
     let inside : place < length dump = omega (arith, whole) in
-    let tests : (nat_le (header_of a) place && nat_lt place (header_of a + image_bytes g)) ≡ true = and_from (nat_le (header_of a) place) (nat_lt place (header_of a + image_bytes g)) (le-leb (header_of a) place behind) (lt-ltb place (header_of a + image_bytes g) before) in
+    let tests : (nat_le (header_length a) place && nat_lt place (header_length a + image_bytes g)) ≡ true = and_from (nat_le (header_length a) place) (nat_lt place (header_length a + image_bytes g)) (le-leb (header_length a) place behind) (lt-ltb place (header_length a + image_bytes g) before) in
     let back : spot_of g a place ≡ spot row column = found.1 in
     let said : put_byte g a other raw place ≡ value_of a.inverted (get_or raw (row * page_bytes g + column) 0) =
     ap (λ b. cond b (value_of a.inverted (slice_index raw ((spot_of g a place).row * page_bytes g + (spot_of g a place).column))) (other place)) tests
@@ -83,7 +83,7 @@ dump_size : (g : Geometry) (a : Arrangement) (other : ℕ → ℕ) (raw : List �
 unfolding put_in
 dump_size g a other raw uncut =
     let none : unwrap_or a.cut 0 ≡ 0 = ap (λ o. unwrap_or o 0) uncut in
-    let size = header_of a + image_bytes g + unwrap_or a.tail 0 in
+    let size = header_length a + image_bytes g + unwrap_or a.tail 0 in
     length-map-range_with_len (put_byte g a other raw) 0 size ∙ omega (arith, none)
 
 pub round_trip : RoundTripLaw
@@ -102,7 +102,7 @@ round_trip g a other raw fits uncut size bytes = record {
     n = page_bytes g
 
     f : ℕ → List ℕ
-    f = piece_at g a all
+    f = arranged_piece g a all
 
     length_is : length (concat (map f (range_with_len 0 rows))) ≡ rows * n
     length_is = pieces_size f n 0 rows (λ r l. piece_size g a all r)

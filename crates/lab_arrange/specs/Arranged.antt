@@ -9,16 +9,16 @@ use Rattle.lab_arrange.specs.declared.arrange.ArrangeFault.TheVariants as fault
 use Rattle.lab_arrange.specs.Place.{byte_at, length_of, place_in_dump}
 
 -- THE PAGE OF A ROW: each of its bytes is the byte of the dump at its place
-unfoldable pub piece_at : Geometry → Arrangement → List ℕ → ℕ → List ℕ
-piece_at g a all row = map (λ column. byte_at a.inverted all (place_in_dump g a row column)) (range_with_len 0 (page_bytes g))
+unfoldable pub arranged_piece : Geometry → Arrangement → List ℕ → ℕ → List ℕ
+arranged_piece g a all row = map (λ column. byte_at a.inverted all (place_in_dump g a row column)) (range_with_len 0 (page_bytes g))
 
 -- its spare area
 abbrev pub spare_at : Geometry → Arrangement → List ℕ → ℕ → List ℕ
-spare_at g a all row = drop g.data_bytes (piece_at g a all row)
+spare_at g a all row = drop g.data_bytes (arranged_piece g a all row)
 
 -- the pages of the first rows
 abbrev pub pieces_below : Geometry → Arrangement → List ℕ → ℕ → List (List ℕ)
-pieces_below g a all rows = map (piece_at g a all) (range_with_len 0 rows)
+pieces_below g a all rows = map (arranged_piece g a all) (range_with_len 0 rows)
 
 -- The dump has as many bytes as the words say, and the pieces are its pages in order, row by row.
 pub record IsArranged (g : Geometry) (a : Arrangement) (pieces : Option (List (List ℕ))) (all : List ℕ) : Type 0 where

@@ -8,19 +8,19 @@ use Rattle.lab_dump.specs.Scan.{image_bytes}
 use Rattle.lab_arrange.specs.declared.arrangement.Arrangement.{Arrangement}
 use Rattle.lab_arrange.specs.declared.words.Told.{Told}
 use Rattle.lab_arrange.specs.declared.words.Told.TheVariants as told
-use Rattle.lab_arrange.specs.Place.{IsFitting, byte_at, header_of, length_of, pair_of, place_in_dump, row_in_turns, run_of, run_place, swapped_place, value_of}
+use Rattle.lab_arrange.specs.Place.{IsFitting, byte_at, header_length, length_of, other_in_pair, place_in_dump, row_in_turns, run_of, run_place, swapped_place, value_of}
 use Rattle.lab_arrange.specs.Arranged.{pieces_below}
 use Rattle.lab_arrange.specs.Words.{in_order, set_told, with_told}
 
 -- ---- what each word means
 
 -- WITH NOTHING TOLD each byte stands in its place, and there are no others.
-pub record IsInOrder (g : Geometry) : Type 0 where
+pub record LeavesBytesInPlace (g : Geometry) : Type 0 where
   pub places : (row column : ℕ) → column < page_bytes g → place_in_dump g in_order row column ≡ row * page_bytes g + column
   pub length_is : length_of g in_order ≡ image_bytes g
 
-abbrev pub OrderLaw : Type 0
-OrderLaw = (g : Geometry) → IsInOrder g
+abbrev pub BytesInPlaceLaw : Type 0
+BytesInPlaceLaw = (g : Geometry) → LeavesBytesInPlace g
 
 -- A header moves all bytes by its size.
 abbrev pub HeaderLaw : Type 0
@@ -32,8 +32,8 @@ pub record AreLengths (g : Geometry) (a : Arrangement) (n : ℕ) : Type 0 where
   pub tail : length_of g (set_told a (told.Tail n)) ≡ n + length_of g (set_told a (told.Tail 0))
   pub cut : n ≤ image_bytes g → length_of g (set_told a (told.Cut n)) + n ≡ length_of g (set_told a (told.Cut 0))
 
-abbrev pub LengthLaw : Type 0
-LengthLaw = (g : Geometry) (a : Arrangement) (n : ℕ) → IsFitting g a → AreLengths g a n
+abbrev pub DumpLengthLaw : Type 0
+DumpLengthLaw = (g : Geometry) (a : Arrangement) (n : ℕ) → IsFitting g a → AreLengths g a n
 
 -- What is told is not told again, and of a tail and a cut one alone.
 pub record AreToldOnce (a : Arrangement) (n m : ℕ) : Type 0 where
@@ -41,8 +41,8 @@ pub record AreToldOnce (a : Arrangement) (n m : ℕ) : Type 0 where
   pub cut_behind : with_told (set_told a (told.Tail n)) (told.Cut m) ≡ None
   pub tail_behind : with_told (set_told a (told.Cut n)) (told.Tail m) ≡ None
 
-abbrev pub ToldLaw : Type 0
-ToldLaw = (a : Arrangement) (n m : ℕ) → AreToldOnce a n m
+abbrev pub NotToldAgainLaw : Type 0
+NotToldAgainLaw = (a : Arrangement) (n m : ℕ) → AreToldOnce a n m
 
 -- The areas of one sort of n pages stand one behind another, byte by byte, data areas first, or spare areas.
 pub record AreStacked (n d s : ℕ) : Type 0 where
@@ -63,12 +63,12 @@ pub record AreTurns (pages k p : ℕ) : Type 0 where
   pub even : row_in_turns pages true (2 * k * pages + p) ≡ 2 * k * pages + 2 * p
   pub odd : row_in_turns pages true ((2 * k + 1) * pages + p) ≡ 2 * k * pages + 2 * p + 1
 
-abbrev pub TurnsLaw : Type 0
-TurnsLaw = (pages k p : ℕ) → p < pages → AreTurns pages k p
+abbrev pub TwoPlanesLaw : Type 0
+TwoPlanesLaw = (pages k p : ℕ) → p < pages → AreTurns pages k p
 
 -- Of the bytes of a pair each stands in the other one's place.
 abbrev pub PairLaw : Type 0
-PairLaw = (k : ℕ) → (pair_of (2 * k) ≡ 2 * k + 1) × (pair_of (2 * k + 1) ≡ 2 * k)
+PairLaw = (k : ℕ) → (other_in_pair (2 * k) ≡ 2 * k + 1) × (other_in_pair (2 * k + 1) ≡ 2 * k)
 
 -- An inverted byte and the byte come to FFh together. Past the end of a dump there is a 00h byte.
 pub record AreValues (byte : ℕ) : Type 0 where
@@ -107,7 +107,7 @@ run_spot n d s first place =
 -- THE BYTE OF THE PAGES that a byte of the dump is, behind its header and before what follows the pages
 unfoldable pub spot_of : Geometry → Arrangement → ℕ → Spot
 spot_of g a place =
-    let found = run_spot (run_of g a.spares) g.data_bytes g.spare_bytes a.spare_first (swapped_place a.swapped (place - header_of a)) in
+    let found = run_spot (run_of g a.spares) g.data_bytes g.spare_bytes a.spare_first (swapped_place a.swapped (place - header_length a)) in
     spot (row_back g.pages a.planes found.row) found.column
 
 -- a byte of a die
@@ -117,8 +117,8 @@ pub record IsOnDie (g : Geometry) (x : Spot) : Type 0 where
 
 -- a byte of a dump's pages
 pub record IsOfPages (g : Geometry) (a : Arrangement) (place : ℕ) : Type 0 where
-  pub behind : header_of a ≤ place
-  pub before : place < header_of a + image_bytes g
+  pub behind : header_length a ≤ place
+  pub before : place < header_length a + image_bytes g
 
 -- EACH BYTE OF THE PAGES STANDS ONCE: two maps, there and back, between the bytes of a die and those of the dump's pages. So nothing is lost or doubled.
 pub record IsOnce (g : Geometry) (a : Arrangement) : Type 0 where
@@ -133,11 +133,11 @@ OnceLaw = (g : Geometry) (a : Arrangement) → IsFitting g a → IsOnce g a
 -- a byte of the dump into which pages in order are put: of the others anything
 abbrev pub put_byte : Geometry → Arrangement → (other : ℕ → ℕ) → List ℕ → ℕ → ℕ
 put_byte g a other raw place =
-    if nat_le (header_of a) place && nat_lt place (header_of a + image_bytes g) then value_of a.inverted (slice_index raw ((spot_of g a place).row * page_bytes g + (spot_of g a place).column)) else other place
+    if nat_le (header_length a) place && nat_lt place (header_length a + image_bytes g) then value_of a.inverted (slice_index raw ((spot_of g a place).row * page_bytes g + (spot_of g a place).column)) else other place
 
 -- the dump
 unfoldable pub put_in : Geometry → Arrangement → (other : ℕ → ℕ) → List ℕ → List ℕ
-put_in g a other raw = map (put_byte g a other raw) (range_with_len 0 (header_of a + image_bytes g + unwrap_or a.tail 0))
+put_in g a other raw = map (put_byte g a other raw) (range_with_len 0 (header_length a + image_bytes g + unwrap_or a.tail 0))
 
 -- PAGES THAT ARE PUT INTO AN ARRANGEMENT ARE TAKEN OUT AGAIN AS THEY WERE, where nothing was cut off.
 pub record ComesOutAgain (g : Geometry) (a : Arrangement) (other : ℕ → ℕ) (raw : List ℕ) : Type 0 where

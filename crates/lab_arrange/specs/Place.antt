@@ -36,17 +36,17 @@ run_place n d s first row column = row / n * (n * (d + s)) + in_run n d s first 
 -- ---- bytes swapped in pairs
 
 -- the other byte of its pair
-abbrev pub pair_of : ℕ → ℕ
-pair_of place = if place % 2 == 0 then place + 1 else place - 1
+abbrev pub other_in_pair : ℕ → ℕ
+other_in_pair place = if place % 2 == 0 then place + 1 else place - 1
 
 abbrev pub swapped_place : Bool → ℕ → ℕ
-swapped_place swapped place = if swapped then pair_of place else place
+swapped_place swapped place = if swapped then other_in_pair place else place
 
 -- ---- the whole
 
 -- how many bytes stand before the first page
-abbrev pub header_of : Arrangement → ℕ
-header_of a = unwrap_or a.header 0
+abbrev pub header_length : Arrangement → ℕ
+header_length a = unwrap_or a.header 0
 
 -- where among the pages of the dump a byte of a page stands, whose areas are in order in their run
 abbrev pub body_place : Geometry → Arrangement → (row column : ℕ) → ℕ
@@ -54,11 +54,11 @@ body_place g a row column = run_place (run_of g a.spares) g.data_bytes g.spare_b
 
 -- THE BYTE OF THE DUMP that byte `column` of the page of a row is, its data area first
 unfoldable pub place_in_dump : Geometry → Arrangement → (row column : ℕ) → ℕ
-place_in_dump g a row column = header_of a + swapped_place a.swapped (body_place g a row column)
+place_in_dump g a row column = header_length a + swapped_place a.swapped (body_place g a row column)
 
 -- how many bytes a dump has of such a die
 abbrev pub length_of : Geometry → Arrangement → ℕ
-length_of g a = header_of a + image_bytes g + unwrap_or a.tail 0 - unwrap_or a.cut 0
+length_of g a = header_length a + image_bytes g + unwrap_or a.tail 0 - unwrap_or a.cut 0
 
 -- a die has two planes where its blocks are pairs, and no more is cut off than its pages have
 pub record IsFitting (g : Geometry) (a : Arrangement) : Type 0 where

@@ -26,8 +26,8 @@ ValueSays name value told.Planes = (name ≡ codes "planes") × (value ≡ codes
 ValueSays name value _ = ⊥
 
 -- A WORD TELLS THIS: it is that word, or its name, an equals sign and its value.
-abbrev pub Says : List ℕ → Told → Type 0
-Says word t = FlagSays word t ⊎ ((name : List ℕ) × (value : List ℕ) × (word ≡ name ++ (61 ∷ value)) × ValueSays name value t)
+abbrev pub WordSays : List ℕ → Told → Type 0
+WordSays word t = FlagSays word t ⊎ ((name : List ℕ) × (value : List ℕ) × (word ≡ name ++ (61 ∷ value)) × ValueSays name value t)
 
 -- ---- what is told
 
@@ -65,20 +65,20 @@ with_told a t = if is_said a t then None else Some (set_told a t)
 
 -- the arrangement and one word come to another arrangement
 abbrev pub IsToldBy : Arrangement → List ℕ → Arrangement → Type 0
-IsToldBy a word b = (t : Told) × Says word t × (with_told a t ≡ Some b)
+IsToldBy a word b = (t : Told) × WordSays word t × (with_told a t ≡ Some b)
 
 -- to none: the word tells nothing, or what is told already
 abbrev pub IsBadWord : Arrangement → List ℕ → Type 0
-IsBadWord a word = (t : Told) → Says word t → with_told a t ≡ None
+IsBadWord a word = (t : Told) → WordSays word t → with_told a t ≡ None
 
 -- the arrangement and these words, with commas between them, do
-abbrev pub Tells : Arrangement → (words : List (List ℕ)) → (text : List ℕ) → Arrangement → Type 0
-Tells a [] text b = ⊥
-Tells a (word ∷ []) text b = (text ≡ word) × IsToldBy a word b
-Tells a (word ∷ next ∷ words) text b = (rest : List ℕ) × (c : Arrangement) × (text ≡ word ++ (44 ∷ rest)) × IsToldBy a word c × Tells c (next ∷ words) rest b
+abbrev pub TellsArrangement : Arrangement → (words : List (List ℕ)) → (text : List ℕ) → Arrangement → Type 0
+TellsArrangement a [] text b = ⊥
+TellsArrangement a (word ∷ []) text b = (text ≡ word) × IsToldBy a word b
+TellsArrangement a (word ∷ next ∷ words) text b = (rest : List ℕ) × (c : Arrangement) × (text ≡ word ++ (44 ∷ rest)) × IsToldBy a word c × TellsArrangement c (next ∷ words) rest b
 
 abbrev pub IsToldFrom : Arrangement → List ℕ → Arrangement → Type 0
-IsToldFrom a text b = (words : List (List ℕ)) × Tells a words text b
+IsToldFrom a text b = (words : List (List ℕ)) × TellsArrangement a words text b
 
 -- no comma stands in the text
 abbrev pub LacksComma : List ℕ → Type 0

@@ -1,6 +1,6 @@
 //! An area of a page, read from where it stands.
 ghost use Rattle.std.specs.Prelude.{◌≡◌, ◌+◌, ◌-◌, ◌<◌, ◌≤◌, ◌^◌, List, ℕ, length, map, min, replicate, OnOk, OnErr, Some, true};
-ghost use Rattle.lab_arrange.specs.Place.{header_of, value_of};
+ghost use Rattle.lab_arrange.specs.Place.{header_length, value_of};
 ghost use Rattle.lab_arrange.specs.Reading.{area_from, bytes_from, taken_from};
 
 use crate::arrangement::Arrangement;
@@ -81,7 +81,7 @@ pub(crate) fn read_area<D: Dump>(
     requires few { length raw.old ≤ 65536 }
     requires room { length area.old + 2 ≤ length raw.old }
     ensures read { OnOk result ((all : List ℕ) → D.bytes dump.old ≡ Some all → size ≡ length all
-        → area.new ≡ area_from (header_of arrangement.now) arrangement.now.swapped arrangement.now.inverted all at (length area.old)) }
+        → area.new ≡ area_from (header_length arrangement.now) arrangement.now.swapped arrangement.now.inverted all at (length area.old)) }
     ensures failed { OnErr result (D.failed dump.new ≡ true) }
     ensures same { D.bytes dump.new ≡ D.bytes dump.old }
 {

@@ -1,7 +1,7 @@
 //! A dump that is put in order.
 ghost use Rattle.std.specs.Prelude.{◌≡◌, ◌+◌, ◌<◌, ◌≤◌, List, ℕ, length, true, Some, IfOk, IfErr, IfSome, OnOk, OnErr};
 ghost use Rattle.page_layout.specs.Geometry.{page_bytes, row_count};
-ghost use Rattle.lab_arrange.specs.Arranged.{AreSized, IsArranged, IsUnarranged, piece_at, pieces_below, spare_at};
+ghost use Rattle.lab_arrange.specs.Arranged.{AreSized, IsArranged, IsUnarranged, arranged_piece, pieces_below, spare_at};
 ghost use Rattle.lab_arrange.specs.Place.{IsFitting, length_of};
 ghost use Rattle.lab_arrange.specs.Rooms.{IsArrangeRoom};
 
@@ -77,7 +77,7 @@ pub fn read_page<D: Dump>(
     requires row { row < row_count geometry.now }
     requires page_room { length page.old ≡ page_bytes geometry.now }
     requires raw_room { length raw.old ≡ page_bytes geometry.now + 2 }
-    ensures read { OnOk result ((all : List ℕ) → D.bytes dump.old ≡ Some all → size ≡ length all → page.new ≡ piece_at geometry.now arrangement.now all row) }
+    ensures read { OnOk result ((all : List ℕ) → D.bytes dump.old ≡ Some all → size ≡ length all → page.new ≡ arranged_piece geometry.now arrangement.now all row) }
     ensures failed { OnErr result (D.failed dump.new ≡ true) }
     ensures same { D.bytes dump.new ≡ D.bytes dump.old }
 {

@@ -3,7 +3,7 @@ ghost use Rattle.std.specs.Prelude.{◌≡◌, ◌+◌, ◌*◌, ◌<◌, ◌≤
 ghost use Rattle.std.specs.Option.{unwrap_or};
 ghost use Rattle.page_layout.specs.Geometry.{row_count};
 ghost use Rattle.lab_dump.specs.Scan.{image_bytes};
-ghost use Rattle.lab_arrange.specs.Place.{IsFitting, body_place, length_of, pair_of, row_in_turns, run_of, run_place, swapped_place};
+ghost use Rattle.lab_arrange.specs.Place.{IsFitting, body_place, length_of, other_in_pair, row_in_turns, run_of, run_place, swapped_place};
 
 use crate::arrangement::{Arrangement, Spares};
 use page_layout::geometry::Geometry;

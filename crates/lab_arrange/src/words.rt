@@ -2,7 +2,7 @@
 ghost use Rattle.std.specs.Prelude.{◌≡◌, Some, None, IfOk, IfErr, IfSome};
 ghost use Rattle.lab_arrange.specs.declared.words.Told.{Told};
 ghost use Rattle.lab_arrange.specs.declared.arrangement.Arrangement.{Arrangement};
-ghost use Rattle.lab_arrange.specs.Words.{FlagSays, IsArrangementAt, IsBadAt, IsBadFrom, IsBadWord, IsToldBy, IsToldFrom, Says, ValueSays, set_told, with_told};
+ghost use Rattle.lab_arrange.specs.Words.{FlagSays, IsArrangementAt, IsBadAt, IsBadFrom, IsBadWord, IsToldBy, IsToldFrom, WordSays, ValueSays, set_told, with_told};
 
 use crate::arrangement::{Arrangement, Spares, in_order};
 use program_words::number;
@@ -65,8 +65,8 @@ fn flag_told(word: &str) -> Option<Told>
 
 // What a word tells.
 fn told_by(word: &str) -> Option<Told>
-    ensures some { IfSome result (Says word.now) }
-    ensures all { (told : Told) → Says word.now told → result ≡ Some told }
+    ensures some { IfSome result (WordSays word.now) }
+    ensures all { (told : Told) → WordSays word.now told → result ≡ Some told }
 {
     match word.split_once('=') {
         Some((name, value)) => value_told(name, value),

@@ -13,7 +13,7 @@ use Rattle.lab_arrange.specs.declared.arrangement.Arrangement.{Arrangement}
 use Rattle.lab_arrange.specs.declared.arrangement.Spares.{Spares}
 use Rattle.lab_arrange.specs.declared.arrangement.Spares.TheVariants.{Block, Die}
 use Rattle.lab_shapes.specs.declared.find.ArrangedFit.{ArrangedFit}
-use Rattle.lab_shapes.specs.Words.{around_words, arrangement_words, cut_words, flag_words, order_words, spares_words}
+use Rattle.lab_shapes.specs.Words.{around_words, arrangement_words, cut_words, flag_words, byte_order_words, spares_words}
 use Rattle.lab_commands.specs.Values.{arranged_fit_data, arranged_rest, count, fit_members, rest_words}
 use Rattle.lab_commands.proofs.JsonLemmas.{quoted_in}
 
@@ -21,7 +21,7 @@ use Rattle.lab_commands.proofs.JsonLemmas.{quoted_in}
 
 pub order_pieces : (before : Bool) (a : Arrangement) (b1 b2 b3 b4 : Bool) (w1 w2 w3 w4 w5 : List ℕ) → b1 ≡ (before || is_some a.spares) → b2 ≡ (before || is_some a.spares || a.spare_first) → b3 ≡ (before || is_some a.spares || a.spare_first || a.swapped)
     → b4 ≡ (before || is_some a.spares || a.spare_first || a.swapped || a.inverted) → w1 ≡ spares_words before a.spares → w2 ≡ flag_words b1 a.spare_first (codes "spare-first") → w3 ≡ flag_words b2 a.swapped (codes "swapped")
-    → w4 ≡ flag_words b3 a.inverted (codes "inverted") → w5 ≡ flag_words b4 a.planes (codes "planes=2") → w1 ++ (w2 ++ (w3 ++ (w4 ++ w5))) ≡ order_words before a
+    → w4 ≡ flag_words b3 a.inverted (codes "inverted") → w5 ≡ flag_words b4 a.planes (codes "planes=2") → w1 ++ (w2 ++ (w3 ++ (w4 ++ w5))) ≡ byte_order_words before a
 order_pieces before a b1 b2 b3 b4 w1 w2 w3 w4 w5 f1 f2 f3 f4 e1 e2 e3 e4 e5 = rw (e1, e2, e3, e4, e5, f1, f2, f3, f4) refl
 
 -- ---- words that stand in JSON as they are
@@ -89,7 +89,7 @@ plain_flag before false w h = refl
 plain_flag false true w h = h
 plain_flag true true w h = ap (λ t. 44 ∷ t) h
 
-plain_order : (before : Bool) (a : Arrangement) → escape (order_words before a) ≡ order_words before a
+plain_order : (before : Bool) (a : Arrangement) → escape (byte_order_words before a) ≡ byte_order_words before a
 unfolding escape_byte
 plain_order before a =
     plain_both (spares_words before a.spares) _ (plain_spares before a.spares)

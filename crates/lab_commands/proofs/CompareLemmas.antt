@@ -4,7 +4,7 @@ use Rattle.std.proofs.lemmas.Bool.{cases_eq}
 use Rattle.page_layout.specs.declared.geometry.Geometry.{Geometry}
 use Rattle.certificate.specs.declared.fault.CertFault.{CertFault}
 use Rattle.certificate.specs.Claim.{Claim, Sizes}
-use Rattle.certificate.specs.Faults.{IsFirstFault}
+use Rattle.certificate.specs.Faults.{IsFirstCertificateFault}
 use Rattle.certificate.specs.Spelling.{certificate_bytes}
 use Rattle.lab_commands.specs.declared.text.LabFault.{LabFault}
 use Rattle.lab_commands.specs.declared.text.LabFault.TheVariants as fault
@@ -45,9 +45,9 @@ spelled_by None c items read is = tt
 spelled_by (Some bytes) c items read is = is ∙ read
 
 -- and their fault
-pub broken_by : (known : Option (List ℕ)) (f : CertFault) (items : List ℕ) → IfSome known (λ xs. items ≡ looked_at xs) → IsFirstFault items f → IfSome known (λ bytes. IsBroken bytes (fault.Certificate f))
+pub broken_by : (known : Option (List ℕ)) (f : CertFault) (items : List ℕ) → IfSome known (λ xs. items ≡ looked_at xs) → IsFirstCertificateFault items f → IfSome known (λ bytes. IsBroken bytes (fault.Certificate f))
 broken_by None f items read is = tt
-broken_by (Some bytes) f items read is = subst (λ xs. IsFirstFault xs f) read is
+broken_by (Some bytes) f items read is = subst (λ xs. IsFirstCertificateFault xs f) read is
 
 -- ---- the files between
 

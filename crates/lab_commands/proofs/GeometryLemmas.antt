@@ -8,7 +8,7 @@ use Rattle.lab_commands.specs.declared.geometry.Fitting.{Fitting}
 use Rattle.lab_commands.specs.declared.text.LabFault.{LabFault}
 use Rattle.lab_commands.specs.declared.text.LabFault.TheVariants as fault
 use Rattle.lab_commands.specs.Files.{IsFileOpened, StoreAnswers}
-use Rattle.lab_commands.specs.Geometry.{FitNothing, FitsAre, HasFound, IsUnfound}
+use Rattle.lab_commands.specs.Geometry.{FitNothing, FitsAre, HasFound, IsGeometryUnfound}
 use Rattle.std.specs.List.Sorted.{IsPermutation}
 use Rattle.std.proofs.lemmas.List.{nil_from_length}
 use Rattle.std.proofs.lemmas.List.Sorted.{length_permutation}
@@ -38,7 +38,7 @@ pub found_in : (a : StoreAnswers) (path : List ℕ) (known : Option (List ℕ)) 
 found_in a path known (Ok fitting) opened h = record { known = known; opened = opened; fits = h }
 found_in a path known (Err f) opened h = tt
 
-pub nothing_in : (a : StoreAnswers) (path : List ℕ) (known : Option (List ℕ)) (broke : Bool) (r : Result Fitting LabFault) → IsFileOpened a path known → (broke ≡ true → a.reads_fail) → IfErr r (FitNothing known broke path) → IfErr r (IsUnfound a path)
+pub nothing_in : (a : StoreAnswers) (path : List ℕ) (known : Option (List ℕ)) (broke : Bool) (r : Result Fitting LabFault) → IsFileOpened a path known → (broke ≡ true → a.reads_fail) → IfErr r (FitNothing known broke path) → IfErr r (IsGeometryUnfound a path)
 nothing_in a path known broke (Ok fitting) opened fails h = tt
 nothing_in a path known broke (Err (fault.NoneFits nearest)) opened fails h = inr (record { known = known; opened = opened; none = h })
 nothing_in a path known broke (Err (fault.Read told)) opened fails (named, failed) = inr (named, record { known = known; opened = opened }, fails failed)

@@ -44,7 +44,7 @@ use Rattle.lab_commands.specs.declared.lines.Sort.TheVariants as sort
 use Rattle.lab_commands.specs.declared.document.Report.{Report}
 use Rattle.lab_commands.specs.declared.document.Report.TheVariants as report
 use Rattle.lab_commands.specs.Document.{report_words}
-use Rattle.lab_commands.specs.Lines.{class_words, kind_words, label_words, made_words, says_words, shape_words, sort_words, wrote_words}
+use Rattle.lab_commands.specs.Lines.{class_words, kind_words, label_words, made_words, says_words, five_numbers_words, sort_words, wrote_words}
 
 -- what stands between the quotes, and what follows
 pub quoted_in : (w rest : List ℕ) → escape w ≡ w → quoted w ++ rest ≡ 34 ∷ (w ++ 34 ∷ rest)
@@ -181,11 +181,11 @@ fit_rest f = ap
 
 -- in two parts
 rest_flat : (f : Fit) (behind rest : List ℕ)
-    → (codes ",\"geometry\":[" ++ (shape_words f ++ behind)) ++ rest
+    → (codes ",\"geometry\":[" ++ (five_numbers_words f ++ behind)) ++ rest
     ≡ codes ",\"geometry\":[" ++ (decimal f.data_bytes ++ (codes "," ++ (decimal f.spare_bytes ++ (codes "," ++ (decimal f.pages ++ (codes "," ++ (decimal f.blocks ++ (codes "," ++ (decimal f.sectors ++ (behind ++ rest))))))))))
 rest_flat f behind rest = simp append_assoc
 
-pub rest_parts : (f : Fit) → (codes ",\"geometry\":[" ++ (shape_words f ++ codes "],\"line\":\"geometry\",\"looked\":")) ++ counts_words f ≡ rest_words f
+pub rest_parts : (f : Fit) → (codes ",\"geometry\":[" ++ (five_numbers_words f ++ codes "],\"line\":\"geometry\",\"looked\":")) ++ counts_words f ≡ rest_words f
 rest_parts f = rest_flat f (codes "],\"line\":\"geometry\",\"looked\":") (counts_words f) ∙ fit_rest f
 
 pub counts_pieces : (f : Fit) (r1 r2 r3 : ℕ) (w : List ℕ) → r1 ≡ f.looked → r2 ≡ f.sound.0 → w ≡ says_words f.table → r3 ≡ f.unsound

@@ -6,7 +6,7 @@ use Rattle.std.specs.Borrow.{Bor}
 use Rattle.page_layout.specs.declared.geometry.Geometry.{Geometry}
 use Rattle.lab_mend.specs.declared.merge.MergeFault.{MergeFault}
 use Rattle.lab_mend.specs.declared.merge.MergeFault.TheVariants as merge
-use Rattle.lab_mend.specs.InStep.{Tell}
+use Rattle.lab_dump.specs.Scan.{Tell}
 use Rattle.lab_mend.specs.Merged.{IsOfReading, IsUnmerged}
 use Rattle.lab_commands.specs.declared.words.MergeWords.{MergeWords}
 use Rattle.program_words.specs.Met.{texts}

@@ -5,7 +5,7 @@ use Rattle.std.specs.Char.{digit_char, digit_value}
 use Rattle.std.specs.Int.{is_in_range}
 use Rattle.std.proofs.lemmas.Bool.{cases_lt, lt-ltb, le-ltb, lt-leb, ne_eqb, true≢false}
 use Rattle.std.proofs.lemmas.Str.{digit_value-digit_char}
-use Rattle.lab_commands.specs.Names.{is_control, is_control_pair, is_hidden, hidden, shown_name, shown_at, shown_below, IsQuiet, QuietLaw, ApartLaw}
+use Rattle.lab_commands.specs.Names.{is_control, is_control_pair, is_hidden, hidden, shown_name, shown_at, shown_below, HasNoControls, QuietNameLaw, ApartLaw}
 
 -- ---- from the first byte on
 
@@ -197,5 +197,5 @@ pairs_after b [] h i = refl
 pairs_after b (x ∷ xs) h i =
     pairs_by x (shown_after x xs) (is_hidden b x (get_or xs 0 0)) (h 0 0 (omega arith)) (λ o. head_after x xs (open_of b x (get_or xs 0 0) o).alone) (λ j. pairs_after x xs (rest_bytes x xs h) j) i
 
-pub quiet_law : QuietLaw
-quiet_law name h = subst IsQuiet (shown_is name) (record { bytes = bytes_after 0 name h; pairs = pairs_after 0 name h })
+pub quiet_law : QuietNameLaw
+quiet_law name h = subst HasNoControls (shown_is name) (record { bytes = bytes_after 0 name h; pairs = pairs_after 0 name h })

@@ -9,7 +9,7 @@ use Rattle.lab_dump.specs.declared.fit.Fit.{Fit}
 use Rattle.lab_dump.specs.declared.doubts.Doubts.{Doubts}
 use Rattle.lab_correct.specs.declared.found.FoundFit.{FoundFit}
 use Rattle.lab_dump.specs.Doubts.{most_older}
-use Rattle.lab_commands.specs.Lines.{age_words, counted_words, first_words, fit_words, found_words, moved_words, says_words, shape_words, whole_words}
+use Rattle.lab_commands.specs.Lines.{age_words, counted_words, first_words, fit_words, found_words, moved_words, says_words, five_numbers_words, whole_words}
 use Rattle.lab_commands.specs.declared.output.OutputFault.{OutputFault}
 use Rattle.lab_commands.specs.Document.{StopsPrinting}
 use Rattle.lab_commands.specs.Pieces.{joined}
@@ -47,15 +47,15 @@ stopped_put f o broke ps n d a b e l first last =
 
 -- the five numbers of a geometry, between other words
 shaped_flat : (f : Fit) (before behind : List ℕ)
-    → before ++ (decimal f.data_bytes ++ (codes "," ++ (decimal f.spare_bytes ++ (codes "," ++ (decimal f.pages ++ (codes "," ++ (decimal f.blocks ++ (codes "," ++ (decimal f.sectors ++ behind))))))))) ≡ before ++ (shape_words f ++ behind)
+    → before ++ (decimal f.data_bytes ++ (codes "," ++ (decimal f.spare_bytes ++ (codes "," ++ (decimal f.pages ++ (codes "," ++ (decimal f.blocks ++ (codes "," ++ (decimal f.sectors ++ behind))))))))) ≡ before ++ (five_numbers_words f ++ behind)
 shaped_flat f before behind = simp append_assoc
 
 pub shaped_pieces : (f : Fit) (before behind : List ℕ) (r1 r2 r3 r4 r5 : ℕ) → r1 ≡ f.data_bytes → r2 ≡ f.spare_bytes → r3 ≡ f.pages → r4 ≡ f.blocks → r5 ≡ f.sectors
-    → before ++ (decimal r1 ++ (codes "," ++ (decimal r2 ++ (codes "," ++ (decimal r3 ++ (codes "," ++ (decimal r4 ++ (codes "," ++ (decimal r5 ++ behind))))))))) ≡ before ++ (shape_words f ++ behind)
+    → before ++ (decimal r1 ++ (codes "," ++ (decimal r2 ++ (codes "," ++ (decimal r3 ++ (codes "," ++ (decimal r4 ++ (codes "," ++ (decimal r5 ++ behind))))))))) ≡ before ++ (five_numbers_words f ++ behind)
 shaped_pieces f before behind r1 r2 r3 r4 r5 e1 e2 e3 e4 e5 = rw (e1, e2, e3, e4, e5) (shaped_flat f before behind)
 
 -- a geometry that fits, in two parts
-pub fit_parts : (f : Fit) → (codes "geometry " ++ (shape_words f ++ codes " looked ")) ++ counted_words f ≡ fit_words f
+pub fit_parts : (f : Fit) → (codes "geometry " ++ (five_numbers_words f ++ codes " looked ")) ++ counted_words f ≡ fit_words f
 fit_parts f = simp append_assoc
 
 pub counted_pieces : (f : Fit) (r1 r2 r3 : ℕ) (w : List ℕ) → r1 ≡ f.looked → r2 ≡ f.sound.0 → r3 ≡ f.unsound → w ≡ says_words f.table

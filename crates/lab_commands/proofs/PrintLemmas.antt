@@ -8,7 +8,7 @@ use Rattle.request_stream.proofs.Writing.{part_more, part_stop}
 use Rattle.std.specs.Prelude.{Bool, IfErr, OnOk}
 use Rattle.lab_commands.specs.declared.text.LabFault.{LabFault}
 use Rattle.lab_commands.specs.declared.text.LabFault.TheVariants as fault
-use Rattle.lab_commands.specs.Undone.{EndsAs, IsHalfPrinted, TellsPrint}
+use Rattle.lab_commands.specs.Undone.{EndsAsPrinted, IsHalfPrinted, TellsPrint}
 use Rattle.lab_commands.specs.declared.lines.Line.{Line}
 use Rattle.lab_commands.specs.declared.document.ReportForm.{ReportForm}
 use Rattle.lab_commands.specs.declared.output.OutputFault.{OutputFault}
@@ -41,12 +41,12 @@ half_printed e (fault.Write word) broke a b due tells (is, part) = (tells, is, p
 half_printed e _ broke a b due tells stops = absurd tells
 
 -- what a command that ends with its report has done, and why it has not
-pub done_by : {T S : Type 0} (P : Type 0) (broke : Bool) (a b : Option (List ℕ)) (due : List ℕ) (printed : Result T OutputFault) (r : Result S LabFault) → Prints broke a b due printed → EndsAs printed r → (Appends a b due → P) → OnOk r P
+pub done_by : {T S : Type 0} (P : Type 0) (broke : Bool) (a b : Option (List ℕ)) (due : List ℕ) (printed : Result T OutputFault) (r : Result S LabFault) → Prints broke a b due printed → EndsAsPrinted printed r → (Appends a b due → P) → OnOk r P
 done_by P broke a b due (Ok x) (Ok done) told ends made = made told
 done_by P broke a b due (Err e) (Ok done) stops ends made = absurd ends
 done_by P broke a b due printed (Err told) stops ends made = tt
 
-pub undone_by : {T S : Type 0} (P : LabFault → Type 0) (broke : Bool) (a b : Option (List ℕ)) (due : List ℕ) (printed : Result T OutputFault) (r : Result S LabFault) → Prints broke a b due printed → EndsAs printed r
+pub undone_by : {T S : Type 0} (P : LabFault → Type 0) (broke : Bool) (a b : Option (List ℕ)) (due : List ℕ) (printed : Result T OutputFault) (r : Result S LabFault) → Prints broke a b due printed → EndsAsPrinted printed r
     → ((told : LabFault) → IsHalfPrinted broke a b due told → P told) → IfErr r P
 undone_by P broke a b due (Ok x) (Err told) done ends made = absurd ends
 undone_by P broke a b due (Err e) (Err told) stops ends made = made told (half_printed e told broke a b due ends stops)

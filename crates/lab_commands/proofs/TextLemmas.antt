@@ -8,10 +8,10 @@ use Rattle.request_stream.proofs.Writing.{part_more, part_stop}
 use Rattle.std.specs.Prelude.{OnErr}
 use Rattle.lab_commands.specs.declared.output.OutputFault.{OutputFault}
 use Rattle.lab_commands.specs.Document.{Prints}
-use Rattle.lab_commands.specs.Output.{Puts}
+use Rattle.lab_commands.specs.Output.{AppendsAllOrPart}
 
 -- what was put after something else
-pub puts_after : {T E : Type 0} (a b d : Option (List ℕ)) (xs ys : List ℕ) (r : Result T E) → Appends a b xs → Puts b d ys r → Puts a d (xs ++ ys) r
+pub puts_after : {T E : Type 0} (a b d : Option (List ℕ)) (xs ys : List ℕ) (r : Result T E) → Appends a b xs → AppendsAllOrPart b d ys r → AppendsAllOrPart a d (xs ++ ys) r
 puts_after a b d xs ys (Ok x) first last = Appends-trans a b d xs ys first last
 puts_after a b d xs ys (Err e) first part = part_more a b d xs ys (xs ++ ys) refl first part
 
@@ -23,12 +23,12 @@ pub part_after : (a b d : Option (List ℕ)) (xs ys : List ℕ) → Appends a b 
 part_after a b d xs ys first part = part_more a b d xs ys (xs ++ ys) refl first part
 
 -- where a part was put, the answer is a fault
-pub put_failed : {T E : Type 0} (P : E → Type 0) (r : Result T E) (a b : Option (List ℕ)) (due : List ℕ) → IsErrAnd r P → AppendsPart a b due → Puts a b due r
+pub put_failed : {T E : Type 0} (P : E → Type 0) (r : Result T E) (a b : Option (List ℕ)) (due : List ℕ) → IsErrAnd r P → AppendsPart a b due → AppendsAllOrPart a b due r
 put_failed P (Ok x) a b due h part = absurd h
 put_failed P (Err e) a b due h part = part
 
 -- a document that was printed or stopped is bytes that were put or not
-pub prints_puts : {T : Type 0} (broke : Bool) (a b : Option (List ℕ)) (due : List ℕ) (r : Result T OutputFault) → Prints broke a b due r → Puts a b due r
+pub prints_puts : {T : Type 0} (broke : Bool) (a b : Option (List ℕ)) (due : List ℕ) (r : Result T OutputFault) → Prints broke a b due r → AppendsAllOrPart a b due r
 prints_puts broke a b due (Ok x) printed = printed
 prints_puts broke a b due (Err e) stops = stops.1
 

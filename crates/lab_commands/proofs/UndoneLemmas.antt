@@ -15,7 +15,7 @@ use Rattle.lab_commands.specs.declared.files.LabFileFault.TheVariants as file
 use Rattle.lab_commands.specs.declared.files.Standing.{Standing}
 use Rattle.lab_commands.specs.declared.files.Standing.TheVariants as standing
 use Rattle.lab_commands.specs.Files.{AnswersNoMore, IsFileOpened, StandsAtPath, Store, StoreAnswers}
-use Rattle.lab_commands.specs.Undone.{IsFileUnmade, IsKeptThere, IsMapUnplaced, IsUnbegun, IsUnplaced, IsUnread, IsUntaken, IsUnwritten, LeavesAll, MayNotWrite, OpensForReading, unmade_as}
+use Rattle.lab_commands.specs.Undone.{IsFileUnmade, IsKeptThere, IsMapUnplaced, IsFileUnbegun, IsUnplaced, IsUnread, IsDumpUntaken, IsUnwritten, LeavesAll, MayNotWrite, OpensForReading, unmade_as}
 
 pub left_all : (before after : Option Store) (out : Option (List ℕ)) → after ≡ before → LeavesAll before after out out
 left_all before after out same = record { kept = same; silent = Keeps-refl out }
@@ -81,7 +81,7 @@ unread_before a b path _ h k = absurd k
 pub opens_before : (a b : StoreAnswers) (path : List ℕ) → AnswersNoMore a b → OpensForReading b path → OpensForReading a path
 opens_before a b path h k = record { known = k.known; opened = opened_before a b path k.known h k.opened }
 
-pub untaken_before : (a b : StoreAnswers) (g : Geometry) (path : List ℕ) (told : LabFault) → AnswersNoMore a b → IsUntaken b g path told → IsUntaken a g path told
+pub untaken_before : (a b : StoreAnswers) (g : Geometry) (path : List ℕ) (told : LabFault) → AnswersNoMore a b → IsDumpUntaken b g path told → IsDumpUntaken a g path told
 untaken_before a b g path fault.WrongLength h k = record { known = k.known; opened = opened_before a b path k.known h k.opened; other = k.other }
 untaken_before a b g path (fault.Read word) h k = (k.0, opens_before a b path h k.1, h.reads_same k.2)
 untaken_before a b g path _ h k = absurd k
@@ -95,7 +95,7 @@ unmade a dump out g known make.Source opened h reads writes = inr (inl (refl, re
 unmade a dump out g known make.Target opened h reads writes = inr (inr (inr (refl, record { known = known; opened = opened }, writes refl)))
 
 -- where the dump was not opened, or the file not made
-pub unbegun : (a : StoreAnswers) (g : Geometry) (dump path : List ℕ) (told : LabFault) → IsUnbegun a dump path told → IsFileUnmade a g dump path told
+pub unbegun : (a : StoreAnswers) (g : Geometry) (dump path : List ℕ) (told : LabFault) → IsFileUnbegun a dump path told → IsFileUnmade a g dump path told
 unbegun a g dump path told (inl unread) = inl unread
 unbegun a g dump path told (inr unwritten) = inr (inr (inl unwritten))
 

@@ -15,14 +15,14 @@ use Rattle.lab_commands.specs.declared.arrange_words.ArrangeWords.{ArrangeWords}
 use Rattle.lab_commands.specs.declared.text.LabFault.{LabFault}
 use Rattle.lab_commands.specs.declared.text.LabFault.TheVariants as fault
 use Rattle.lab_commands.specs.Files.{IsFileOpened, Store, StoreAnswers, with_kept}
-use Rattle.lab_commands.specs.Undone.{IsGeometryAt, IsHalfPrinted, IsNoGeometry, IsUnfilled, IsUnplaced, IsUnread, IsUnroomed, IsUnwritten, LeavesAll, MayNotWrite, MayWrite, OpensForReading, form_of}
+use Rattle.lab_commands.specs.Undone.{IsGeometryAt, IsHalfPrinted, IsNoGeometry, IsUnfilled, IsUnplaced, IsUnread, IsUnroomed, IsUnwritten, LeavesAll, MayNotWrite, MayWrite, OpensForReading, form_of_showing}
 
 -- ---- what the words say
 
 -- the word says this arrangement; without a word the dump is in order
-abbrev pub IsSaid : Option (Bor (List ℕ)) → Arrangement → Type 0
-IsSaid None a = a ≡ in_order
-IsSaid (Some word) a = IsArrangementAt word.now a
+abbrev pub SaysArrangement : Option (Bor (List ℕ)) → Arrangement → Type 0
+SaysArrangement None a = a ≡ in_order
+SaysArrangement (Some word) a = IsArrangementAt word.now a
 
 -- there is a word, and it says none: then the first word of it that is at fault is told
 abbrev pub IsUnsaid : Option (Bor (List ℕ)) → LabFault → Type 0
@@ -31,7 +31,7 @@ IsUnsaid _ _ = ⊥
 
 -- the words say this geometry and this arrangement, and such a die can stand so
 pub record AreSaid (words : ArrangeWords) (g : Geometry) (a : Arrangement) : Type 0 where
-  pub arrangement_is : IsSaid words.from a
+  pub arrangement_is : SaysArrangement words.from a
   pub geometry_is : IsGeometryAt words.geometry.now g
   pub fits : IsFitting g a
 
@@ -44,13 +44,13 @@ IsUnfitting g a _ = ⊥
 abbrev pub AreUnsaid : ArrangeWords → LabFault → Type 0
 AreUnsaid words told =
     IsUnsaid words.from told
-    ⊎ ((a : Arrangement) × IsSaid words.from a × (IsNoGeometry words.geometry.now told ⊎ ((g : Geometry) × IsGeometryAt words.geometry.now g × IsUnfitting g a told)))
+    ⊎ ((a : Arrangement) × SaysArrangement words.from a × (IsNoGeometry words.geometry.now told ⊎ ((g : Geometry) × IsGeometryAt words.geometry.now g × IsUnfitting g a told)))
 
 -- ---- done
 
 -- The pieces are made of a dump that reads so: where its bytes are known each byte of them is the byte of the dump at its place. Whatever it gave,
 -- there is a page for each row.
-pub record IsInOrder (s : StoreAnswers) (path : List ℕ) (g : Geometry) (a : Arrangement) (pieces : Option (List (List ℕ))) : Type 0 where
+pub record IsMadeInOrder (s : StoreAnswers) (path : List ℕ) (g : Geometry) (a : Arrangement) (pieces : Option (List (List ℕ))) : Type 0 where
   pub known : Option (List ℕ)
   pub opened : IsFileOpened s path known
   pub arranged : (all : List ℕ) → known ≡ Some all → IsArranged g a pieces all
@@ -59,7 +59,7 @@ pub record IsInOrder (s : StoreAnswers) (path : List ℕ) (g : Geometry) (a : Ar
 -- the dump of this geometry was made in order and put in the place of OUT
 pub record HasPutInOrder (s : StoreAnswers) (words : ArrangeWords) (before after : Option Store) (g : Geometry) (a : Arrangement) : Type 0 where
   pub pieces : Option (List (List ℕ))
-  pub made : IsInOrder s words.dump.now g a pieces
+  pub made : IsMadeInOrder s words.dump.now g a pieces
   pub put : after ≡ with_kept before words.out.now pieces words.force
 
 -- the dump in order was put in the place of OUT
@@ -68,14 +68,14 @@ pub record PutArranged (s : StoreAnswers) (words : ArrangeWords) (before after :
   pub pieces : Option (List (List ℕ))
   pub said : AreSaid words g a
   pub allowed : MayWrite s words.dump.now words.out.now words.force
-  pub made : IsInOrder s words.dump.now g a pieces
+  pub made : IsMadeInOrder s words.dump.now g a pieces
   pub put : after ≡ with_kept before words.out.now pieces words.force
 
 -- and the report printed
 pub record WroteArranged (s : StoreAnswers) (words : ArrangeWords) (before after : Option Store) (out printed : Option (List ℕ)) : Type 0 where
   pub g : Geometry
   pub put : PutArranged s words before after g
-  pub told : Appends out printed (arrange_text (form_of words.showing) (row_count g))
+  pub told : Appends out printed (arrange_text (form_of_showing words.showing) (row_count g))
 
 -- ---- not done
 
@@ -92,14 +92,14 @@ pub record HasOtherLength (s : StoreAnswers) (path : List ℕ) (g : Geometry) (a
   pub lengths : IsUnarranged g a known (arrange.WrongLength wanted found)
 
 -- Why a dump that was opened was not taken as a whole: it has another length, or a read failed. No want of memory is one.
-abbrev pub IsUntaken : StoreAnswers → List ℕ → Geometry → Arrangement → LabFault → Type 0
-IsUntaken s path g a (fault.ArrangedLength wanted found) = HasOtherLength s path g a wanted found
-IsUntaken s path g a (fault.Read told) = (told.now ≡ path) × OpensForReading s path × s.reads_fail
-IsUntaken s path g a _ = ⊥
+abbrev pub IsArrangedUntaken : StoreAnswers → List ℕ → Geometry → Arrangement → LabFault → Type 0
+IsArrangedUntaken s path g a (fault.ArrangedLength wanted found) = HasOtherLength s path g a wanted found
+IsArrangedUntaken s path g a (fault.Read told) = (told.now ≡ path) × OpensForReading s path × s.reads_fail
+IsArrangedUntaken s path g a _ = ⊥
 
 -- the dump was not opened or not taken as a whole, or the file beside OUT was not made or not written whole
 abbrev pub IsUnordered : StoreAnswers → Geometry → Arrangement → (dump out : List ℕ) → LabFault → Type 0
-IsUnordered s g a dump out told = IsUnread s dump told ⊎ IsUntaken s dump g a told ⊎ IsUnwritten s out told ⊎ IsUnfilled s dump out told
+IsUnordered s g a dump out told = IsUnread s dump told ⊎ IsArrangedUntaken s dump g a told ⊎ IsUnwritten s out told ⊎ IsUnfilled s dump out told
 
 -- memory was refused, or no dump in order was made, or it did not get its name
 abbrev pub IsUnput : StoreAnswers → ArrangeWords → Geometry → Arrangement → (opens opened : Option ℕ) → LabFault → Type 0
@@ -116,4 +116,4 @@ IsUnarrangedBy s words opens opened told =
 abbrev pub IsArrangeFault : StoreAnswers → ArrangeWords → Option Store → Option Store → (opens opened : Option ℕ) → (broke : Bool) → Option (List ℕ) → Option (List ℕ) → LabFault → Type 0
 IsArrangeFault s words before after opens opened broke out printed told =
     (LeavesAll before after out printed × IsUnarrangedBy s words opens opened told)
-    ⊎ ((g : Geometry) × PutArranged s words before after g × IsHalfPrinted broke out printed (arrange_text (form_of words.showing) (row_count g)) told)
+    ⊎ ((g : Geometry) × PutArranged s words before after g × IsHalfPrinted broke out printed (arrange_text (form_of_showing words.showing) (row_count g)) told)

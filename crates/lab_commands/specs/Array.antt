@@ -7,7 +7,7 @@ use Rattle.lab_dump.specs.declared.doubts.Unsettled.{Unsettled}
 use Rattle.lab_dump.specs.declared.held.Held.{Held}
 use Rattle.lab_dump.specs.declared.map_head.Remark.TheVariants as remark
 use Rattle.lab_dump.specs.Held.{mark_in, shown_in}
-use Rattle.lab_dump.specs.Written.{IsWritten}
+use Rattle.lab_dump.specs.Written.{IsArrayWritten}
 use Rattle.lab_dump.specs.Map.{map_text}
 use Rattle.lab_commands.specs.Reports.{array_text}
 use Rattle.lab_commands.specs.declared.words.ArrayWords.{ArrayWords}
@@ -16,7 +16,7 @@ use Rattle.lab_commands.specs.declared.text.LabFault.{LabFault}
 use Rattle.lab_commands.specs.declared.text.LabFault.TheVariants as fault
 use Rattle.lab_commands.specs.Files.{IsFileOpened, Store, StoreAnswers, with_kept}
 use Rattle.lab_commands.specs.Numbers.{IsLastAt, IsNoLast}
-use Rattle.lab_commands.specs.Undone.{IsGeometryAt, IsHalfPrinted, IsNoGeometry, IsMapUnplaced, IsFileUnmade, IsUnplaced, IsUnread, IsUnroomed, IsUnwritten, LeavesAll, MayNotWrite, MayWrite, form_of}
+use Rattle.lab_commands.specs.Undone.{IsGeometryAt, IsHalfPrinted, IsNoGeometry, IsMapUnplaced, IsFileUnmade, IsUnplaced, IsUnread, IsUnroomed, IsUnwritten, LeavesAll, MayNotWrite, MayWrite, form_of_showing}
 
 -- ---- done
 
@@ -36,7 +36,7 @@ AreAllowed a words = IsAllowed a words × AllowsMap a words
 pub record IsArrayMade (a : StoreAnswers) (path : List ℕ) (g : Geometry) (last : Option ℕ) (damaged : Bool) (pieces : Option (List (List ℕ))) (held : List Held) (left : Unsettled) : Type 0 where
   pub known : Option (List ℕ)
   pub opened : IsFileOpened a path known
-  pub made : IfSome known (IsWritten g last damaged pieces held left)
+  pub made : IfSome known (IsArrayWritten g last damaged pieces held left)
 
 -- the array was made beside OUT, with these states and what is left open
 pub record MadeArray (a : StoreAnswers) (words : UntilWords) (g : Geometry) (last : Option ℕ) (pieces : Option (List (List ℕ))) (held : List Held) (left : Unsettled) : Type 0 where
@@ -74,7 +74,7 @@ pub record WroteArray (a : StoreAnswers) (words : UntilWords) (before after : Op
   pub held : List Held
   pub left : Unsettled
   pub put : PutArray a words before after g last held left
-  pub told : Appends out printed (array_text (form_of words.array.showing) g last (map shown_in held) left)
+  pub told : Appends out printed (array_text (form_of_showing words.array.showing) g last (map shown_in held) left)
 
 -- ---- not done
 
@@ -139,4 +139,4 @@ IsArrayFault a words before after opens opened broke out printed told =
     (LeavesAll before after out printed × IsUndone a words opens opened told)
     ⊎ PutUnmapped a words before after out printed told
     ⊎ ((g : Geometry) × (last : Option ℕ) × (held : List Held) × (left : Unsettled) × PutArray a words before after g last held left
-    × IsHalfPrinted broke out printed (array_text (form_of words.array.showing) g last (map shown_in held) left) told)
+    × IsHalfPrinted broke out printed (array_text (form_of_showing words.array.showing) g last (map shown_in held) left) told)

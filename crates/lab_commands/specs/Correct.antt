@@ -14,58 +14,58 @@ use Rattle.lab_commands.specs.declared.text.LabFault.{LabFault}
 use Rattle.lab_commands.specs.declared.text.LabFault.TheVariants as fault
 use Rattle.lab_commands.specs.Files.{IsFileOpened, Store, StoreAnswers, with_kept}
 use Rattle.lab_commands.specs.Array.{AreAllowed, AreNotAllowed, IsUnmapped, IsUnput, with_map}
-use Rattle.lab_commands.specs.Undone.{IsGeometryAt, IsHalfPrinted, IsNoGeometry, LeavesAll, form_of}
+use Rattle.lab_commands.specs.Undone.{IsGeometryAt, IsHalfPrinted, IsNoGeometry, LeavesAll, form_of_showing}
 
 -- ---- done
 
 -- how many bits were turned back, in how many rows, and the rows with lost chunks
-pub record Counts : Type 0 where
+pub record CorrectionCounts : Type 0 where
   pub turned : ℕ
   pub touched : ℕ
   pub losses : List Loss
 
 -- The pieces are made of a dump that reads so: where its bytes are known the pieces and the counts are those of the chip's pages that they are,
 -- each put right. Whatever it gave, they are those of some pages of the chip's sizes.
-pub record IsPutRight (a : StoreAnswers) (path : List ℕ) (g chip : Geometry) (pieces : Option (List (List ℕ))) (c : Counts) : Type 0 where
+pub record ArePiecesPutRight (a : StoreAnswers) (path : List ℕ) (g chip : Geometry) (pieces : Option (List (List ℕ))) (c : CorrectionCounts) : Type 0 where
   pub known : Option (List ℕ)
   pub opened : IsFileOpened a path known
   pub made : IfSome known (IsCorrected g chip pieces c.turned c.touched c.losses)
   pub own : IsOwnCorrected g pieces c.turned c.touched c.losses
 
 -- the dump was made beside OUT, with these counts
-pub record MadeCorrected (a : StoreAnswers) (words : ArrayWords) (g : Geometry) (pieces : Option (List (List ℕ))) (c : Counts) : Type 0 where
+pub record MadeCorrected (a : StoreAnswers) (words : ArrayWords) (g : Geometry) (pieces : Option (List (List ℕ))) (c : CorrectionCounts) : Type 0 where
   pub chip : Geometry
   pub geometry_is : IsGeometryAt words.geometry.now g
   pub chip_is : IsChipOf g chip
   pub allowed : AreAllowed a words
-  pub made : IsPutRight a words.dump.now g chip pieces c
+  pub made : ArePiecesPutRight a words.dump.now g chip pieces c
 
 -- of these geometries it was made and put in the place of OUT
-pub record HasPutRight (a : StoreAnswers) (words : ArrayWords) (before after : Option Store) (g chip : Geometry) (c : Counts) : Type 0 where
+pub record HasPutRight (a : StoreAnswers) (words : ArrayWords) (before after : Option Store) (g chip : Geometry) (c : CorrectionCounts) : Type 0 where
   pub pieces : Option (List (List ℕ))
-  pub made : IsPutRight a words.dump.now g chip pieces c
+  pub made : ArePiecesPutRight a words.dump.now g chip pieces c
   pub put : after ≡ with_kept before words.out.now pieces words.force
 
 -- it was put in the place of OUT
-pub record PlacedCorrected (a : StoreAnswers) (words : ArrayWords) (before after : Option Store) (g : Geometry) (c : Counts) : Type 0 where
+pub record PlacedCorrected (a : StoreAnswers) (words : ArrayWords) (before after : Option Store) (g : Geometry) (c : CorrectionCounts) : Type 0 where
   pub pieces : Option (List (List ℕ))
   pub made : MadeCorrected a words g pieces c
   pub put : after ≡ with_kept before words.out.now pieces words.force
 
 -- it was put in the place of OUT, and its map in that of FILE, where one is wanted
-pub record PutCorrected (a : StoreAnswers) (words : ArrayWords) (before after : Option Store) (c : Counts) : Type 0 where
+pub record PutCorrected (a : StoreAnswers) (words : ArrayWords) (before after : Option Store) (c : CorrectionCounts) : Type 0 where
   pub g : Geometry
   pub pieces : Option (List (List ℕ))
   pub made : MadeCorrected a words g pieces c
   pub put : after ≡ with_map (with_kept before words.out.now pieces words.force) words (loss_map_text g c.losses)
 
 -- what is printed
-abbrev pub text_of : ArrayWords → Counts → List ℕ
-text_of words c = correct_text (form_of words.showing) c.turned c.touched c.losses
+abbrev pub text_of : ArrayWords → CorrectionCounts → List ℕ
+text_of words c = correct_text (form_of_showing words.showing) c.turned c.touched c.losses
 
 -- and the report printed
 pub record WroteCorrected (a : StoreAnswers) (words : ArrayWords) (before after : Option Store) (out printed : Option (List ℕ)) : Type 0 where
-  pub counts : Counts
+  pub counts : CorrectionCounts
   pub put : PutCorrected a words before after counts
   pub told : Appends out printed (text_of words counts)
 
@@ -86,7 +86,7 @@ IsUncorrectedBy a words opens opened told =
 pub record PutNoMap (a : StoreAnswers) (words : ArrayWords) (before after : Option Store) (out printed : Option (List ℕ)) (told : LabFault) : Type 0 where
   pub g : Geometry
   pub pieces : Option (List (List ℕ))
-  pub counts : Counts
+  pub counts : CorrectionCounts
   pub made : MadeCorrected a words g pieces counts
   pub put : after ≡ with_kept before words.out.now pieces words.force
   pub silent : Keeps out printed
@@ -97,4 +97,4 @@ abbrev pub IsCorrectFault : StoreAnswers → ArrayWords → Option Store → Opt
 IsCorrectFault a words before after opens opened broke out printed told =
     (LeavesAll before after out printed × IsUncorrectedBy a words opens opened told)
     ⊎ PutNoMap a words before after out printed told
-    ⊎ ((c : Counts) × PutCorrected a words before after c × IsHalfPrinted broke out printed (text_of words c) told)
+    ⊎ ((c : CorrectionCounts) × PutCorrected a words before after c × IsHalfPrinted broke out printed (text_of words c) told)

@@ -28,8 +28,8 @@ pub record StoreAnswers : Type 1 where
   pub taken : List ℕ → Type 0
 
 -- a store of which nothing is known
-abbrev pub unknown : StoreAnswers
-unknown = record {
+abbrev pub unknown_store : StoreAnswers
+unknown_store = record {
   gives = λ path bytes. Unit {0};
   tells = false;
   says = λ path what. Unit {0};
@@ -56,7 +56,7 @@ pub record IsFileOpened (a : StoreAnswers) (path : List ℕ) (known : Option (Li
   pub told : a.tells ≡ true → IsSome known
 
 -- These are the first bytes of a file, at most so many, where they are known.
-pub record IsLoaded (a : StoreAnswers) (path : List ℕ) (most : ℕ) (bytes : List ℕ) : Type 0 where
+pub record IsFrontOfFile (a : StoreAnswers) (path : List ℕ) (most : ℕ) (bytes : List ℕ) : Type 0 where
   pub known : Option (List ℕ)
   pub opened : IsFileOpened a path known
   pub taken : IfSome known (λ all. bytes ≡ take most all)
@@ -94,9 +94,9 @@ made_after store (Ok made) = with_part store
 made_after store (Err fault) = store
 
 -- the files after one more was to be put in its place, by the answer
-abbrev pub kept_after : Option Store → List ℕ → Option (List (List ℕ)) → Bool → Result (Unit {0}) KeepFault → Option Store
-kept_after store path pieces over (Ok done) = with_kept store path pieces over
-kept_after store path pieces over (Err fault) = store
+abbrev pub files_kept_after : Option Store → List ℕ → Option (List (List ℕ)) → Bool → Result (Unit {0}) KeepFault → Option Store
+files_kept_after store path pieces over (Ok done) = with_kept store path pieces over
+files_kept_after store path pieces over (Err fault) = store
 
 -- a file that was put in its place tells what was put there last, where that is known
 abbrev pub IsAsPut : Option Store → List ℕ → Option (List ℕ) → Type 0
@@ -105,6 +105,6 @@ IsAsPut store path known =
     → IfSome last.pieces (λ pieces. known ≡ Some (concat pieces)))
 
 -- why a file does not get its name: a call failed, or another file has it meanwhile, and may not be replaced
-abbrev pub IsUnkept : StoreAnswers → List ℕ → Bool → KeepFault → Type 0
-IsUnkept a path over (keep.Fails fault) = a.fails path fault
-IsUnkept a path over keep.Taken = (over ≡ false) × a.taken path
+abbrev pub IsFileUnkept : StoreAnswers → List ℕ → Bool → KeepFault → Type 0
+IsFileUnkept a path over (keep.Fails fault) = a.fails path fault
+IsFileUnkept a path over keep.Taken = (over ≡ false) × a.taken path

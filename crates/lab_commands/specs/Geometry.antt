@@ -22,7 +22,7 @@ use Rattle.lab_commands.specs.declared.words.GeometryWords.{GeometryWords}
 use Rattle.lab_commands.specs.declared.text.LabFault.{LabFault}
 use Rattle.lab_commands.specs.declared.text.LabFault.TheVariants as fault
 use Rattle.lab_commands.specs.Files.{IsFileOpened, Store, StoreAnswers}
-use Rattle.lab_commands.specs.Undone.{IsHalfPrinted, IsUnread, IsUnroomed, LeavesAll, OpensForReading, form_of}
+use Rattle.lab_commands.specs.Undone.{IsHalfPrinted, IsUnread, IsUnroomed, LeavesAll, OpensForReading, form_of_showing}
 
 -- ---- before the dump is opened
 
@@ -78,7 +78,7 @@ fitting_text form (fitting.Arranged found) = arranged_fit_text form found
 pub record ToldFits (a : StoreAnswers) (words : GeometryWords) (out printed : Option (List ℕ)) : Type 0 where
   pub fitting : Fitting
   pub found : HasFound a words.dump.now fitting
-  pub told : Appends out printed (fitting_text (form_of words.showing) fitting)
+  pub told : Appends out printed (fitting_text (form_of_showing words.showing) fitting)
 
 -- ---- not done
 
@@ -108,11 +108,11 @@ IsUnfitted a path (fault.Read told) = (told.now ≡ path) × OpensForReading a p
 IsUnfitted a path _ = ⊥
 
 -- The first of this order: the dump was not opened; it has no geometries.
-abbrev pub IsUnfound : StoreAnswers → List ℕ → LabFault → Type 0
-IsUnfound a path told = IsUnread a path told ⊎ IsUnfitted a path told
+abbrev pub IsGeometryUnfound : StoreAnswers → List ℕ → LabFault → Type 0
+IsGeometryUnfound a path told = IsUnread a path told ⊎ IsUnfitted a path told
 
 -- Nothing was printed: memory was refused, or for one of these reasons; or a beginning of the list was.
 abbrev pub IsGeometryFault : StoreAnswers → GeometryWords → Option Store → Option Store → (opens opened : Option ℕ) → (broke : Bool) → Option (List ℕ) → Option (List ℕ) → LabFault → Type 0
 IsGeometryFault a words before after opens opened broke out printed told =
-    (LeavesAll before after out printed × (IsUnroomed opens opened told ⊎ IsUnfound a words.dump.now told))
-    ⊎ ((after ≡ before) × ((fitting : Fitting) × HasFound a words.dump.now fitting × IsHalfPrinted broke out printed (fitting_text (form_of words.showing) fitting) told))
+    (LeavesAll before after out printed × (IsUnroomed opens opened told ⊎ IsGeometryUnfound a words.dump.now told))
+    ⊎ ((after ≡ before) × ((fitting : Fitting) × HasFound a words.dump.now fitting × IsHalfPrinted broke out printed (fitting_text (form_of_showing words.showing) fitting) told))

@@ -27,8 +27,8 @@ use Rattle.lab_shapes.specs.Words.{arrangement_words}
 use Rattle.lab_mend.specs.declared.mending.Made.{Made}
 use Rattle.lab_mend.specs.declared.mending.Made.TheVariants as made
 use Rattle.lab_mend.specs.declared.merging.RowTally.{RowTally}
-use Rattle.lab_mend.specs.declared.pairs.Turn.{Turn}
-use Rattle.lab_mend.specs.declared.pairs.Turn.TheVariants as turn
+use Rattle.lab_mend.specs.declared.pairs.BitTurn.{BitTurn}
+use Rattle.lab_mend.specs.declared.pairs.BitTurn.TheVariants as turn
 use Rattle.lab_mend.specs.declared.trial.Trial.{Trial}
 use Rattle.lab_mend.specs.declared.trial.Trial.TheVariants as trial
 use Rattle.lab_commands.specs.declared.lines.Label.{Label}
@@ -74,7 +74,7 @@ made_words made.Sound = codes "mended"
 made_words made.Erased = codes "erased"
 
 -- what came of the page of a row that was to be mended
-abbrev pub turn_words : ℕ → Turn → List ℕ
+abbrev pub turn_words : ℕ → BitTurn → List ℕ
 turn_words row (turn.One t) = made_words t.made ++ (codes " row " ++ (decimal row ++ (codes " bit " ++ decimal t.bit)))
 turn_words row (turn.Two b) = codes "mended row " ++ (decimal row ++ (codes " bits " ++ (decimal b.low ++ (codes " " ++ decimal b.high))))
 turn_words row turn.Tied = codes "tied row " ++ decimal row
@@ -83,8 +83,8 @@ turn_words row turn.Nothing = codes "tried row " ++ decimal row
 -- ---- parts of lines
 
 -- the five numbers of a geometry, as the words of a command write them
-abbrev pub shape_words : Fit → List ℕ
-shape_words f =
+abbrev pub five_numbers_words : Fit → List ℕ
+five_numbers_words f =
     decimal f.data_bytes ++ (codes "," ++ (decimal f.spare_bytes ++ (codes "," ++ (decimal f.pages ++ (codes "," ++ (decimal f.blocks ++ (codes "," ++ decimal f.sectors)))))))
 
 -- the sound pages of those that were looked at, and those neither sound nor erased
@@ -101,11 +101,11 @@ counted_words f = decimal f.looked ++ (codes " sound " ++ (decimal f.sound.0 ++ 
 
 -- a geometry that fits, with all that is told of it
 abbrev pub fit_words : Fit → List ℕ
-fit_words f = codes "geometry " ++ (shape_words f ++ (looked_words f ++ told_words f))
+fit_words f = codes "geometry " ++ (five_numbers_words f ++ (looked_words f ++ told_words f))
 
 -- what comes first where the pages stand with their codes: the command that makes the dump without them, of this geometry
 abbrev pub first_words : Fit → List ℕ
-first_words f = codes " codes hamming: first nandlab correct " ++ (shape_words f ++ codes " DUMP OUT")
+first_words f = codes " codes hamming: first nandlab correct " ++ (five_numbers_words f ++ codes " DUMP OUT")
 
 -- a geometry that fits, as the dump stands or with codes
 abbrev pub found_words : FoundFit → List ℕ
@@ -113,7 +113,7 @@ found_words found = if found.coded then fit_words found.fit ++ first_words found
 
 -- what comes first where the dump stands in another arrangement: the command that puts it in order, of this geometry, but for the words
 abbrev pub arrange_words : Fit → List ℕ
-arrange_words f = codes " arranged: first nandlab arrange " ++ (shape_words f ++ codes " DUMP OUT --from ")
+arrange_words f = codes " arranged: first nandlab arrange " ++ (five_numbers_words f ++ codes " DUMP OUT --from ")
 
 -- a geometry that fits in another arrangement, and its words
 abbrev pub arranged_fit_words : ArrangedFit → List ℕ

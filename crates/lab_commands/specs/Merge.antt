@@ -2,12 +2,11 @@
 use Rattle.std.specs.Prelude.{◌≡◌, ◌⊎◌, ℕ, ◌<◌, Bool, true, false, List, [], length, get_or, Option, None}
 use Rattle.std.specs.Io.KnownBytes.{Appends}
 use Rattle.page_layout.specs.declared.geometry.Geometry.{Geometry}
-use Rattle.lab_dump.specs.Scan.{image_bytes}
+use Rattle.lab_dump.specs.Scan.{image_bytes, Tell}
 use Rattle.lab_mend.specs.declared.merge.MergeFault.{MergeFault}
 use Rattle.lab_mend.specs.declared.merge.MergeFault.TheVariants as merge
 use Rattle.lab_mend.specs.declared.merging.RowTally.{RowTally}
 use Rattle.lab_mend.specs.declared.merging.TriedRow.{TriedRow}
-use Rattle.lab_mend.specs.InStep.{Tell}
 use Rattle.lab_mend.specs.Merged.{IsMerged, IsOwnMerge}
 use Rattle.lab_commands.specs.Reports.{merge_text}
 use Rattle.lab_commands.specs.declared.words.MergeWords.{MergeWords}
@@ -16,7 +15,7 @@ use Rattle.program_words.specs.Met.{texts}
 use Rattle.lab_commands.specs.declared.text.LabFault.{LabFault}
 use Rattle.lab_commands.specs.declared.text.LabFault.TheVariants as fault
 use Rattle.lab_commands.specs.Files.{IsFileOpened, StandsAtPath, Store, StoreAnswers, with_kept}
-use Rattle.lab_commands.specs.Undone.{IsGeometryAt, IsHalfPrinted, IsNoGeometry, IsUnplaced, IsUnread, IsUnroomed, IsUnwritten, LeavesAll, form_of}
+use Rattle.lab_commands.specs.Undone.{IsGeometryAt, IsHalfPrinted, IsNoGeometry, IsUnplaced, IsUnread, IsUnroomed, IsUnwritten, LeavesAll, form_of_showing}
 
 -- ---- the dumps
 
@@ -92,7 +91,7 @@ pub record WroteMerge (a : StoreAnswers) (words : MergeWords) (before after : Op
   pub tried : List TriedRow
   pub tally : RowTally
   pub put : PutMerge a words before after conflicts unsound tried tally
-  pub told : Appends out printed (merge_text (form_of words.showing) conflicts unsound tried tally)
+  pub told : Appends out printed (merge_text (form_of_showing words.showing) conflicts unsound tried tally)
 
 -- ---- not done
 
@@ -146,4 +145,4 @@ abbrev pub IsMergeFault : StoreAnswers → MergeWords → Option Store → Optio
 IsMergeFault a words before after opens opened broke out printed told =
     (LeavesAll before after out printed × IsUnmergedBy a words opens opened told)
     ⊎ ((conflicts : List ℕ) × (unsound : List ℕ) × (tried : List TriedRow) × (tally : RowTally) × PutMerge a words before after conflicts unsound tried tally
-    × IsHalfPrinted broke out printed (merge_text (form_of words.showing) conflicts unsound tried tally) told)
+    × IsHalfPrinted broke out printed (merge_text (form_of_showing words.showing) conflicts unsound tried tally) told)

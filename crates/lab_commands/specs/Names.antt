@@ -39,13 +39,13 @@ abbrev pub is_control : ℕ → Bool
 is_control byte = is_in_range 0 31 byte || (byte == 127)
 
 -- no byte is a control character of ASCII, and no two that stand together are one past ASCII
-pub record IsQuiet (text : List ℕ) : Type 0 where
+pub record HasNoControls (text : List ℕ) : Type 0 where
   pub bytes : (i : ℕ) → i < length text → is_control (get_or text i 0) ≡ false
   pub pairs : (i : ℕ) → is_control_pair (get_or text i 0) (get_or text (suc i) 0) ≡ false
 
 -- What is printed of a name holds no control character, and so no line feed.
-abbrev pub QuietLaw : Type 0
-QuietLaw = (name : List ℕ) → All (λ byte. byte < 256) name → IsQuiet (shown_name name)
+abbrev pub QuietNameLaw : Type 0
+QuietNameLaw = (name : List ℕ) → All (λ byte. byte < 256) name → HasNoControls (shown_name name)
 
 -- Names that are printed alike are the same.
 abbrev pub ApartLaw : Type 0

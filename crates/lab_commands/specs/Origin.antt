@@ -3,14 +3,13 @@ use Rattle.std.specs.Prelude.{◌≡◌, ◌⊎◌, ℕ, ◌<◌, Bool, true, fa
 use Rattle.std.specs.Io.KnownBytes.{Appends}
 use Rattle.page_layout.specs.declared.geometry.Geometry.{Geometry}
 use Rattle.lab_dump.specs.Map.{map_text}
-use Rattle.lab_dump.specs.Scan.{image_bytes}
+use Rattle.lab_dump.specs.Scan.{image_bytes, Tell}
 use Rattle.lab_dump.specs.declared.map_head.Remark.TheVariants as remark
 use Rattle.lab_dump.specs.declared.mark.MapMark.{MapMark}
 use Rattle.lab_origin.specs.declared.readings.ReadingFault.{ReadingFault}
 use Rattle.lab_origin.specs.declared.readings.ReadingFault.TheVariants as reading
 use Rattle.lab_origin.specs.declared.trace.OriginFault.{OriginFault}
 use Rattle.lab_origin.specs.declared.trace.OriginFault.TheVariants as origin
-use Rattle.lab_origin.specs.Tracing.{Tell}
 use Rattle.lab_origin.specs.Traced.{IsTraced}
 use Rattle.program_words.specs.Met.{texts}
 use Rattle.lab_commands.specs.Reports.{origin_text}
@@ -21,7 +20,7 @@ use Rattle.lab_commands.specs.declared.text.LabFault.TheVariants as fault
 use Rattle.lab_commands.specs.Files.{IsFileOpened, StandsAtPath, Store, StoreAnswers, with_kept}
 use Rattle.lab_commands.specs.Merge.{AreOpened, HasSame, IsOneOf, IsSomeUnread, OpensEach}
 use Rattle.lab_commands.specs.Numbers.{IsLastAt, IsNoLast}
-use Rattle.lab_commands.specs.Undone.{IsGeometryAt, IsHalfPrinted, IsNoGeometry, IsUnplaced, IsUnread, IsUnroomed, IsUnwritten, LeavesAll, OpensForReading, OpensOther, form_of}
+use Rattle.lab_commands.specs.Undone.{IsGeometryAt, IsHalfPrinted, IsNoGeometry, IsUnplaced, IsUnread, IsUnroomed, IsUnwritten, LeavesAll, OpensForReading, OpensOther, form_of_showing}
 
 -- the paths of the readings
 abbrev pub readings_of : OriginWords → List (List ℕ)
@@ -46,7 +45,7 @@ MayNotMap a words told = IsUnwritten a words.out.now told ⊎ (StandsAtPath a wo
 
 -- the marks are made of a dump and readings that read so: where the bytes of all are known, they are those of the sectors of the dump that they are, as of a
 -- sequence where one is said
-pub record IsFollowed (a : StoreAnswers) (words : OriginWords) (g : Geometry) (last : Option ℕ) (marks : List MapMark) : Type 0 where
+pub record HasTracedMarks (a : StoreAnswers) (words : OriginWords) (g : Geometry) (last : Option ℕ) (marks : List MapMark) : Type 0 where
   pub known : Option (List ℕ)
   pub readings : List (Option (List ℕ))
   pub opened : IsFileOpened a words.dump.now known
@@ -55,7 +54,7 @@ pub record IsFollowed (a : StoreAnswers) (words : OriginWords) (g : Geometry) (l
 
 -- the marks were followed, and their map was put in the place of OUT
 pub record HasPutMarks (a : StoreAnswers) (words : OriginWords) (before after : Option Store) (g : Geometry) (last : Option ℕ) (marks : List MapMark) : Type 0 where
-  pub followed : IsFollowed a words g last marks
+  pub followed : HasTracedMarks a words g last marks
   pub put : after ≡ with_kept before words.out.now (Some (map_text remark.Readings g marks ∷ [])) words.force
 
 -- the map of these marks was put in the place of OUT
@@ -63,7 +62,7 @@ pub record PutOrigin (a : StoreAnswers) (words : OriginWords) (before after : Op
   pub geometry_is : IsGeometryAt words.geometry.now g
   pub last_is : IsLastAt words.until last
   pub allowed : MayMap a words
-  pub followed : IsFollowed a words g last marks
+  pub followed : HasTracedMarks a words g last marks
   pub put : after ≡ with_kept before words.out.now (Some (map_text remark.Readings g marks ∷ [])) words.force
 
 -- of some geometry, and as of some sequence or all
@@ -78,7 +77,7 @@ pub record WroteOrigin (a : StoreAnswers) (words : OriginWords) (before after : 
   pub last : Option ℕ
   pub marks : List MapMark
   pub put : PutOrigin a words before after g last marks
-  pub told : Appends out printed (origin_text (form_of words.showing) marks)
+  pub told : Appends out printed (origin_text (form_of_showing words.showing) marks)
 
 -- ---- not done
 
@@ -128,4 +127,4 @@ IsUndone a words opens opened told =
 abbrev pub IsOriginFault : StoreAnswers → OriginWords → Option Store → Option Store → (opens opened : Option ℕ) → (broke : Bool) → Option (List ℕ) → Option (List ℕ) → LabFault → Type 0
 IsOriginFault a words before after opens opened broke out printed told =
     (LeavesAll before after out printed × IsUndone a words opens opened told)
-    ⊎ ((g : Geometry) × (last : Option ℕ) × (marks : List MapMark) × PutOrigin a words before after g last marks × IsHalfPrinted broke out printed (origin_text (form_of words.showing) marks) told)
+    ⊎ ((g : Geometry) × (last : Option ℕ) × (marks : List MapMark) × PutOrigin a words before after g last marks × IsHalfPrinted broke out printed (origin_text (form_of_showing words.showing) marks) told)

@@ -7,7 +7,7 @@ use Rattle.lab_commands.specs.declared.parts.Part.TheVariants as part
 use Rattle.lab_commands.specs.declared.pieces.Piece.{Piece}
 use Rattle.lab_commands.specs.declared.pieces.Piece.TheVariants.{Words, Number}
 use Rattle.lab_commands.specs.Document.{head_text, if_text, report_words, tail_text, text_below}
-use Rattle.lab_commands.specs.Reports.{line_at, size_of}
+use Rattle.lab_commands.specs.Reports.{line_at, line_count}
 
 -- the texts of these, one after another
 abbrev pub joined : {A : Type 0} → (A → List ℕ) → List A → List ℕ
@@ -32,7 +32,7 @@ pieces_text pieces = joined piece_text pieces
 abbrev pub part_text : ReportForm → Part → List ℕ
 part_text form (part.Begin report) = head_text form (report_words report)
 part_text form (part.One line) = if_text form line
-part_text form (part.List list) = text_below form (line_at list) (size_of list)
+part_text form (part.List list) = text_below form (line_at list) (line_count list)
 part_text form part.End = tail_text form
 
 -- the parts, one after another

@@ -3,7 +3,7 @@ use Rattle.std.specs.Prelude.{◌≡◌, ◌⊎◌, ℕ, Bool, List, Option, str
 use Rattle.std.specs.Io.KnownBytes.{Appends, Keeps}
 use Rattle.lab_commands.specs.declared.words.Asked.{Asked}
 use Rattle.lab_commands.specs.declared.words.Asked.TheVariants as asked
-use Rattle.lab_commands.specs.Words.{IsAsked, IsNoCommand}
+use Rattle.lab_commands.specs.Words.{AsksLabProgram, IsNoLabCommand}
 use Rattle.lab_commands.specs.declared.text.LabFault.{LabFault}
 use Rattle.lab_commands.specs.declared.text.LabFault.TheVariants.{NoSuchCommand, OutOfMemory}
 use Rattle.lab_commands.specs.Files.{Store, StoreAnswers}
@@ -23,21 +23,21 @@ use Rattle.lab_commands.specs.Undone.{IsHalfPrinted, LeavesAll}
 -- ---- done
 
 -- the words asked for an array, a merge, a repair, a correction, a dump in order or a map, which was written, or for geometries, a survey, a history, a comparison or a text, which was printed
-abbrev pub DoesAsked : StoreAnswers → Asked → Option Store → Option Store → Option (List ℕ) → Option (List ℕ) → Type 0
-DoesAsked a (asked.Geometry read) before after out printed = (after ≡ before) × ToldFits a read out printed
-DoesAsked a (asked.Array read) before after out printed = WroteArray a read before after out printed
-DoesAsked a (asked.History read) before after out printed = (after ≡ before) × ToldHistory a read out printed
-DoesAsked a (asked.Survey read) before after out printed = (after ≡ before) × ToldSurvey a read out printed
-DoesAsked a (asked.Compare read) before after out printed = (after ≡ before) × ToldCompared a read out printed
-DoesAsked a (asked.Merge read) before after out printed = WroteMerge a read before after out printed
-DoesAsked a (asked.Repair read) before after out printed = WroteRepair a read before after out printed
-DoesAsked a (asked.Correct read) before after out printed = WroteCorrected a read before after out printed
-DoesAsked a (asked.Arrange read) before after out printed = WroteArranged a read before after out printed
-DoesAsked a (asked.Origin read) before after out printed = WroteOrigin a read before after out printed
-DoesAsked a (asked.Text text) before after out printed = (after ≡ before) × Appends out printed (string_bytes text)
+abbrev pub WroteOrToldAsked : StoreAnswers → Asked → Option Store → Option Store → Option (List ℕ) → Option (List ℕ) → Type 0
+WroteOrToldAsked a (asked.Geometry read) before after out printed = (after ≡ before) × ToldFits a read out printed
+WroteOrToldAsked a (asked.Array read) before after out printed = WroteArray a read before after out printed
+WroteOrToldAsked a (asked.History read) before after out printed = (after ≡ before) × ToldHistory a read out printed
+WroteOrToldAsked a (asked.Survey read) before after out printed = (after ≡ before) × ToldSurvey a read out printed
+WroteOrToldAsked a (asked.Compare read) before after out printed = (after ≡ before) × ToldCompared a read out printed
+WroteOrToldAsked a (asked.Merge read) before after out printed = WroteMerge a read before after out printed
+WroteOrToldAsked a (asked.Repair read) before after out printed = WroteRepair a read before after out printed
+WroteOrToldAsked a (asked.Correct read) before after out printed = WroteCorrected a read before after out printed
+WroteOrToldAsked a (asked.Arrange read) before after out printed = WroteArranged a read before after out printed
+WroteOrToldAsked a (asked.Origin read) before after out printed = WroteOrigin a read before after out printed
+WroteOrToldAsked a (asked.Text text) before after out printed = (after ≡ before) × Appends out printed (string_bytes text)
 
 abbrev pub Obeyed : StoreAnswers → List (List ℕ) → Option Store → Option Store → Option (List ℕ) → Option (List ℕ) → Type 0
-Obeyed a words before after out printed = (found : Asked) × IsAsked words found × DoesAsked a found before after out printed
+Obeyed a words before after out printed = (found : Asked) × AsksLabProgram words found × WroteOrToldAsked a found before after out printed
 
 -- ---- not done
 
@@ -57,7 +57,7 @@ IsFaultOf a (asked.Text text) before after opens opened broke out printed told =
 
 -- the words are no command, or memory for them was refused, before any file was opened
 abbrev pub IsNoCommandAsked : List (List ℕ) → (opens opened : Option ℕ) → LabFault → Type 0
-IsNoCommandAsked words opens opened NoSuchCommand = IsNoCommand words
+IsNoCommandAsked words opens opened NoSuchCommand = IsNoLabCommand words
 IsNoCommandAsked words opens opened OutOfMemory = opened ≡ opens
 IsNoCommandAsked words opens opened _ = ⊥
 
@@ -65,7 +65,7 @@ IsNoCommandAsked words opens opened _ = ⊥
 abbrev pub IsUnobeyed : StoreAnswers → List (List ℕ) → Option Store → Option Store → (opens opened : Option ℕ) → (broke : Bool) → Option (List ℕ) → Option (List ℕ) → LabFault → Type 0
 IsUnobeyed a words before after opens opened broke out printed told =
     (LeavesAll before after out printed × IsNoCommandAsked words opens opened told)
-    ⊎ ((found : Asked) × IsAsked words found × IsFaultOf a found before after opens opened broke out printed told)
+    ⊎ ((found : Asked) × AsksLabProgram words found × IsFaultOf a found before after opens opened broke out printed told)
 
 -- ---- both
 

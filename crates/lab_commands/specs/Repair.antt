@@ -14,13 +14,13 @@ use Rattle.lab_commands.specs.declared.text.LabFault.{LabFault}
 use Rattle.lab_commands.specs.Files.{IsFileOpened, Store, StoreAnswers, with_kept}
 use Rattle.lab_commands.specs.Bits.{AreBitsAt, AreNoBits}
 use Rattle.lab_commands.specs.Rows.{AreNoRows, AreRowsAt}
-use Rattle.lab_commands.specs.Undone.{IsGeometryAt, IsNoGeometry, IsHalfPrinted, IsFileUnmade, IsUnplaced, IsUnroomed, LeavesAll, MayNotWrite, MayWrite, form_of}
+use Rattle.lab_commands.specs.Undone.{IsGeometryAt, IsNoGeometry, IsHalfPrinted, IsFileUnmade, IsUnplaced, IsUnroomed, LeavesAll, MayNotWrite, MayWrite, form_of_showing}
 
 -- ---- done
 
 -- The pieces are made of a dump that reads so: where its bytes are known the pieces and the list are those of the image that they are.
 -- Whatever it gave, each piece is what is written of a page by what the list names of its row.
-pub record IsMended (a : StoreAnswers) (path : List ℕ) (g : Geometry) (asked : RepairAsked) (pieces : Option (List (List ℕ))) (mends : List Mend) : Type 0 where
+pub record IsRepairOfDump (a : StoreAnswers) (path : List ℕ) (g : Geometry) (asked : RepairAsked) (pieces : Option (List (List ℕ))) (mends : List Mend) : Type 0 where
   pub known : Option (List ℕ)
   pub opened : IsFileOpened a path known
   pub mended : IfSome known (IsRepaired g asked pieces mends)
@@ -43,7 +43,7 @@ pub record AreAsked (words : RepairWords) (g : Geometry) (asked : RepairAsked) :
 -- so asked, the mended dump was put in the place of OUT, and so many pages are told to have been tried
 pub record HasPutMends (a : StoreAnswers) (words : RepairWords) (before after : Option Store) (g : Geometry) (asked : RepairAsked) (tries : ℕ) (mends : List Mend) : Type 0 where
   pub pieces : Option (List (List ℕ))
-  pub made : IsMended a words.dump.now g asked pieces mends
+  pub made : IsRepairOfDump a words.dump.now g asked pieces mends
   pub put : after ≡ with_kept before words.out.now pieces words.force
   pub tried : tries ≡ told_tries asked.bits g mends
 
@@ -57,7 +57,7 @@ pub record PutRepair (a : StoreAnswers) (words : RepairWords) (before after : Op
   pub rows_are : AreRowsAt words.rows g rows
   pub bits_are : AreBitsAt words.bits g bits
   pub allowed : MayWrite a words.dump.now words.out.now words.force
-  pub made : IsMended a words.dump.now g (asked_of rows bits) pieces mends
+  pub made : IsRepairOfDump a words.dump.now g (asked_of rows bits) pieces mends
   pub put : after ≡ with_kept before words.out.now pieces words.force
 
 -- and so many pages are told to have been tried
@@ -69,7 +69,7 @@ pub record HasPutRepair (a : StoreAnswers) (words : RepairWords) (before after :
 pub record WroteRepair (a : StoreAnswers) (words : RepairWords) (before after : Option Store) (out printed : Option (List ℕ)) : Type 0 where
   pub mends : List Mend
   pub put : PutRepair a words before after mends
-  pub told : Appends out printed (repair_text (form_of words.showing) (told_tries put.bits put.g mends) mends)
+  pub told : Appends out printed (repair_text (form_of_showing words.showing) (told_tries put.bits put.g mends) mends)
 
 -- ---- not done
 
@@ -96,4 +96,4 @@ IsUnrepairedBy a words opens opened told =
 abbrev pub IsRepairFault : StoreAnswers → RepairWords → Option Store → Option Store → (opens opened : Option ℕ) → (broke : Bool) → Option (List ℕ) → Option (List ℕ) → LabFault → Type 0
 IsRepairFault a words before after opens opened broke out printed told =
     (LeavesAll before after out printed × IsUnrepairedBy a words opens opened told)
-    ⊎ ((mends : List Mend) × (put : PutRepair a words before after mends) × IsHalfPrinted broke out printed (repair_text (form_of words.showing) (told_tries put.bits put.g mends) mends) told)
+    ⊎ ((mends : List Mend) × (put : PutRepair a words before after mends) × IsHalfPrinted broke out printed (repair_text (form_of_showing words.showing) (told_tries put.bits put.g mends) mends) told)

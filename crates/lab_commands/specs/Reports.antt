@@ -39,8 +39,8 @@ use Rattle.lab_commands.specs.Lines.{age_line, block_line, damaged_line, factory
 -- ---- lists
 
 -- keys that stand one behind another in a list of states, from this place on
-abbrev pub key_at : Label → List KeyState → ℕ → ℕ → Option Line
-key_at of states from n = key_line of n (get_or states (from + n) state.Absent)
+abbrev pub key_line_at : Label → List KeyState → ℕ → ℕ → Option Line
+key_line_at of states from n = key_line of n (get_or states (from + n) state.Absent)
 
 abbrev pub table_at : List KeyState → ℕ → List Bool → ℕ → Option Line
 table_at states from formed u = table_line u (get_or states (from + u) state.Absent) (get_or formed u false)
@@ -49,8 +49,8 @@ abbrev pub state_at : Option (List BlockState) → ℕ → Option BlockState
 state_at None b = None
 state_at (Some states) b = slice_get states b
 
-abbrev pub block_at : Option (List BlockState) → List ℕ → ℕ → Option Line
-block_at states unsound b = block_line b (state_at states b) (get_or unsound b 0)
+abbrev pub block_line_at : Option (List BlockState) → List ℕ → ℕ → Option Line
+block_line_at states unsound b = block_line b (state_at states b) (get_or unsound b 0)
 
 abbrev pub lost_at : List Bool → ℕ → Option Line
 lost_at lost n = lost_line n (get_or lost n false)
@@ -58,8 +58,8 @@ lost_at lost n = lost_line n (get_or lost n false)
 abbrev pub tie_at : List SectorShown → ℕ → Option Line
 tie_at states n = tie_line n (get_or states n shown.Absent)
 
-abbrev pub page_at : Geometry → List SectorPage → ℕ → Option Line
-page_at g pages n = option_map (page_line g) (slice_get pages n)
+abbrev pub page_line_at : Geometry → List SectorPage → ℕ → Option Line
+page_line_at g pages n = option_map (page_line g) (slice_get pages n)
 
 abbrev pub fit_at : List FoundFit → ℕ → Option Line
 fit_at fits n = option_map line.Fit (slice_get fits n)
@@ -67,8 +67,8 @@ fit_at fits n = option_map line.Fit (slice_get fits n)
 abbrev pub mend_at : List Mend → ℕ → Option Line
 mend_at mends n = option_map (λ m. line.Mended m.row m.turn) (slice_get mends n)
 
-abbrev pub loss_at : List Loss → ℕ → Option Line
-loss_at losses n = option_map (λ l. line.LostRow l.row l.chunks) (slice_get losses n)
+abbrev pub lost_row_at : List Loss → ℕ → Option Line
+lost_row_at losses n = option_map (λ l. line.LostRow l.row l.chunks) (slice_get losses n)
 
 abbrev pub differ_at : List ℕ → ℕ → Option Line
 differ_at rows n = option_map line.Differ (slice_get rows n)
@@ -93,15 +93,15 @@ some_at lines n = get_or lines n None
 -- the line of each number of a list
 abbrev pub line_at : Lines → ℕ → Option Line
 line_at (lists.Fixed lines) = some_at lines.now
-line_at (lists.Keys of states from count) = key_at of states.now from
+line_at (lists.Keys of states from count) = key_line_at of states.now from
 line_at (lists.Tables states from formed count) = table_at states.now from formed.now
-line_at (lists.Blocks survey count) = block_at (option_map (λ states. states.items) survey.now.blocks) survey.now.unsound.items
+line_at (lists.Blocks survey count) = block_line_at (option_map (λ states. states.items) survey.now.blocks) survey.now.unsound.items
 line_at (lists.Losses lost count) = lost_at lost.now
 line_at (lists.Ties held count) = tie_at (map shown_in held.now)
-line_at (lists.Pages g pages) = page_at g.now pages.now
+line_at (lists.Pages g pages) = page_line_at g.now pages.now
 line_at (lists.Fits fits) = fit_at fits.now
 line_at (lists.Mends mends) = mend_at mends.now
-line_at (lists.LostRows losses) = loss_at losses.now
+line_at (lists.LostRows losses) = lost_row_at losses.now
 line_at (lists.Conflicts rows) = differ_at rows.now
 line_at (lists.Unsound rows) = unsound_at rows.now
 line_at (lists.Tried rows) = tried_at rows.now
@@ -109,22 +109,22 @@ line_at (lists.Said pages) = said_at pages.now
 line_at (lists.Newer last pages) = newer_at last pages.now
 
 -- how many numbers there are
-abbrev pub size_of : Lines → ℕ
-size_of (lists.Fixed lines) = length lines.now
-size_of (lists.Keys of states from count) = count
-size_of (lists.Tables states from formed count) = count
-size_of (lists.Blocks survey count) = count
-size_of (lists.Losses lost count) = count
-size_of (lists.Ties held count) = count
-size_of (lists.Pages g pages) = length pages.now
-size_of (lists.Fits fits) = length fits.now
-size_of (lists.Mends mends) = length mends.now
-size_of (lists.LostRows losses) = length losses.now
-size_of (lists.Conflicts rows) = length rows.now
-size_of (lists.Unsound rows) = length rows.now
-size_of (lists.Tried rows) = length rows.now
-size_of (lists.Said pages) = length pages.now
-size_of (lists.Newer last pages) = length pages.now
+abbrev pub line_count : Lines → ℕ
+line_count (lists.Fixed lines) = length lines.now
+line_count (lists.Keys of states from count) = count
+line_count (lists.Tables states from formed count) = count
+line_count (lists.Blocks survey count) = count
+line_count (lists.Losses lost count) = count
+line_count (lists.Ties held count) = count
+line_count (lists.Pages g pages) = length pages.now
+line_count (lists.Fits fits) = length fits.now
+line_count (lists.Mends mends) = length mends.now
+line_count (lists.LostRows losses) = length losses.now
+line_count (lists.Conflicts rows) = length rows.now
+line_count (lists.Unsound rows) = length rows.now
+line_count (lists.Tried rows) = length rows.now
+line_count (lists.Said pages) = length pages.now
+line_count (lists.Newer last pages) = length pages.now
 
 abbrev pub some_text : ReportForm → List (Option Line) → List ℕ
 some_text form lines = text_below form (some_at lines) (length lines)
@@ -162,11 +162,11 @@ first_table g = g.sectors + translation_pages g
 unfoldable pub keys_text : ReportForm → Geometry → List KeyState → List Bool → List ℕ
 keys_text form g states formed =
     text_below form (table_at states (first_table g) formed) (table_pages g)
-    ++ (text_below form (key_at label.Sector states 0) g.sectors
-    ++ (text_below form (key_at label.Translation states g.sectors) (translation_pages g) ++ text_below form (key_at label.Table states (first_table g)) (table_pages g)))
+    ++ (text_below form (key_line_at label.Sector states 0) g.sectors
+    ++ (text_below form (key_line_at label.Translation states g.sectors) (translation_pages g) ++ text_below form (key_line_at label.Table states (first_table g)) (table_pages g)))
 
 abbrev pub blocks_text : ReportForm → Geometry → DieSurvey → List ℕ
-blocks_text form g s = text_below form (block_at (option_map (λ states. states.items) s.blocks) s.unsound.items) g.blocks
+blocks_text form g s = text_below form (block_line_at (option_map (λ states. states.items) s.blocks) s.unsound.items) g.blocks
 
 -- its last lines: what the dump leaves open, or where some rows alone were looked at, how many of them are neither erased nor sound
 abbrev pub age_text : ReportForm → Option Rows → DieSurvey → List ℕ
@@ -205,7 +205,7 @@ array_text form g last states left = head_text form (codes "array") ++ (ties_tex
 -- of the sound pages of a sector, beside so many pages that are neither erased nor sound
 abbrev pub history_text : ReportForm → Geometry → List SectorPage → ℕ → List ℕ
 history_text form g pages unsound =
-    head_text form (codes "history") ++ (text_below form (page_at g pages) (length pages) ++ (line_text form (line.History (length pages) unsound) ++ tail_text form))
+    head_text form (codes "history") ++ (text_below form (page_line_at g pages) (length pages) ++ (line_text form (line.History (length pages) unsound) ++ tail_text form))
 
 abbrev pub fits_text : ReportForm → List FoundFit → Option ArrangedFit → List ℕ
 fits_text form fits turned =
@@ -223,7 +223,7 @@ repair_text form tries mends =
 
 abbrev pub correct_text : ReportForm → ℕ → ℕ → List Loss → List ℕ
 correct_text form turned touched losses =
-    head_text form (codes "correct") ++ (text_below form (loss_at losses) (length losses) ++ (line_text form (line.Corrected turned touched (length losses)) ++ tail_text form))
+    head_text form (codes "correct") ++ (text_below form (lost_row_at losses) (length losses) ++ (line_text form (line.Corrected turned touched (length losses)) ++ tail_text form))
 
 -- how many sectors are shown of a page that no reading has, by the mark of each
 abbrev pub origin_text : ReportForm → List MapMark → List ℕ

@@ -97,10 +97,10 @@ abbrev pub IsUnroomed : (opens opened : Option ℕ) → LabFault → Type 0
 IsUnroomed opens opened told = (told ≡ fault.OutOfMemory) × (opened ≡ opens)
 
 -- Why a dump that was opened was not taken as a whole: a read failed, or it has another length. No want of memory is one.
-abbrev pub IsUntaken : StoreAnswers → Geometry → List ℕ → LabFault → Type 0
-IsUntaken a g path fault.WrongLength = OpensOther a g path
-IsUntaken a g path (fault.Read told) = (told.now ≡ path) × OpensForReading a path × a.reads_fail
-IsUntaken a g path _ = ⊥
+abbrev pub IsDumpUntaken : StoreAnswers → Geometry → List ℕ → LabFault → Type 0
+IsDumpUntaken a g path fault.WrongLength = OpensOther a g path
+IsDumpUntaken a g path (fault.Read told) = (told.now ≡ path) × OpensForReading a path × a.reads_fail
+IsDumpUntaken a g path _ = ⊥
 
 -- a file beside that of a path was not made or not written whole, of a dump that was opened
 abbrev pub IsUnfilled : StoreAnswers → List ℕ → List ℕ → LabFault → Type 0
@@ -109,11 +109,11 @@ IsUnfilled a dump path _ = ⊥
 
 -- the dump was not opened or not taken as a whole, or the file beside the path was not written or not put in its place
 abbrev pub IsFileUnmade : StoreAnswers → Geometry → List ℕ → List ℕ → LabFault → Type 0
-IsFileUnmade a g dump path told = IsUnread a dump told ⊎ IsUntaken a g dump told ⊎ IsUnwritten a path told ⊎ IsUnfilled a dump path told
+IsFileUnmade a g dump path told = IsUnread a dump told ⊎ IsDumpUntaken a g dump told ⊎ IsUnwritten a path told ⊎ IsUnfilled a dump path told
 
 -- the dump was not opened, or the file beside the path was not made
-abbrev pub IsUnbegun : StoreAnswers → List ℕ → List ℕ → LabFault → Type 0
-IsUnbegun a dump path told = IsUnread a dump told ⊎ IsUnwritten a path told
+abbrev pub IsFileUnbegun : StoreAnswers → List ℕ → List ℕ → LabFault → Type 0
+IsFileUnbegun a dump path told = IsUnread a dump told ⊎ IsUnwritten a path told
 
 -- how it is told that no file was made of a dump
 abbrev pub unmade_as : MakeFault → Bor (List ℕ) → Bor (List ℕ) → LabFault
@@ -134,10 +134,10 @@ TellsPrint unwritten (fault.Write told) = told.now ≡ codes "-"
 TellsPrint _ _ = ⊥
 
 -- how a command ends, by whether its document was printed
-abbrev pub EndsAs : {T S : Type 0} → Result T OutputFault → Result S LabFault → Type 0
-EndsAs (Ok printed) (Ok done) = Unit {0}
-EndsAs (Err unwritten) (Err told) = TellsPrint unwritten told
-EndsAs _ _ = ⊥
+abbrev pub EndsAsPrinted : {T S : Type 0} → Result T OutputFault → Result S LabFault → Type 0
+EndsAsPrinted (Ok printed) (Ok done) = Unit {0}
+EndsAsPrinted (Err unwritten) (Err told) = TellsPrint unwritten told
+EndsAsPrinted _ _ = ⊥
 
 -- standard output failed, so that of what was due a part stands there and never all
 abbrev pub IsHalfPrinted : (broke : Bool) → Option (List ℕ) → Option (List ℕ) → List ℕ → LabFault → Type 0
@@ -145,5 +145,5 @@ IsHalfPrinted broke before after due (fault.Write told) = (told.now ≡ codes "-
 IsHalfPrinted broke before after due _ = ⊥
 
 -- the form that was asked for
-abbrev pub form_of : Showing → ReportForm
-form_of showing = if showing.json then Json else Text
+abbrev pub form_of_showing : Showing → ReportForm
+form_of_showing showing = if showing.json then Json else Text

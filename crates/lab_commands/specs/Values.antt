@@ -15,8 +15,8 @@ use Rattle.lab_shapes.specs.Words.{arrangement_words}
 use Rattle.serde_json.specs.Written.{members_text}
 use Rattle.lab_mend.specs.declared.merging.RowTally.{RowTally}
 use Rattle.lab_mend.specs.declared.pairs.BitPair.{BitPair}
-use Rattle.lab_mend.specs.declared.pairs.Turn.{Turn}
-use Rattle.lab_mend.specs.declared.pairs.Turn.TheVariants as turn
+use Rattle.lab_mend.specs.declared.pairs.BitTurn.{BitTurn}
+use Rattle.lab_mend.specs.declared.pairs.BitTurn.TheVariants as turn
 use Rattle.lab_mend.specs.declared.trial.Trial.{Trial}
 use Rattle.lab_mend.specs.declared.trial.Trial.TheVariants as trial
 use Rattle.lab_mend.specs.declared.mending.Made.{Made}
@@ -73,13 +73,13 @@ abbrev pub lost_data : ℕ → Data
 lost_data n = object (member (codes "line") (text (codes "lost")) (member (codes "sector") (count n) no_members))
 
 -- the five numbers of a geometry
-abbrev pub shape_data : Fit → Data
-shape_data f = array (item (count f.data_bytes) (item (count f.spare_bytes) (item (count f.pages) (item (count f.blocks) (item (count f.sectors) no_items)))))
+abbrev pub geometry_data : Fit → Data
+geometry_data f = array (item (count f.data_bytes) (item (count f.spare_bytes) (item (count f.pages) (item (count f.blocks) (item (count f.sectors) no_items)))))
 
 -- its members behind the first one and the one of codes
 abbrev pub fit_members : Fit → Members
 fit_members f =
-    member (codes "geometry") (shape_data f) (member (codes "line") (text (codes "geometry")) (
+    member (codes "geometry") (geometry_data f) (member (codes "line") (text (codes "geometry")) (
     member (codes "looked") (count f.looked) (member (codes "sectors_told") (count f.sectors_told) (member (codes "sound") (count f.sound.0) (
     member (codes "table") (text (says_words f.table)) (member (codes "unsound") (count f.unsound) no_members))))))
 
@@ -154,7 +154,7 @@ pair_data row b =
     object (member (codes "bits") (array (item (count b.low) (item (count b.high) no_items))) (member (codes "line") (text (codes "mended")) (member (codes "row") (count row) no_members)))
 
 -- what came of the page of a row that was to be mended
-abbrev pub turn_data : ℕ → Turn → Data
+abbrev pub turn_data : ℕ → BitTurn → Data
 turn_data row (turn.One t) = mended_data t.made row t.bit
 turn_data row (turn.Two b) = pair_data row b
 turn_data row turn.Tied = row_data (codes "tied_row") row

@@ -3,7 +3,7 @@ use Rattle.std.specs.Prelude.{◌≡◌, ◌≤◌, ℕ, List, [], ◌∷◌, le
 use Rattle.std.specs.Borrow.{Bor}
 use Rattle.clap.specs.declared.builder.action.ArgAction.TheVariants.{Append}
 use Rattle.clap.specs.Words.{App, Row, Rule, Shape, all_of, first_of, count_of}
-use Rattle.program_words.specs.Grammar.{command_of, flag, option, place, place_of, program_of}
+use Rattle.program_words.specs.Grammar.{command_with_words, flag, option, place, wanted_word, program_of}
 use Rattle.program_words.specs.Met.{AsksText, NamesCommand, stood, texts}
 use Rattle.program_words.specs.Met as met
 use Rattle.lab_commands.specs.declared.arrange_words.ArrangeWords.{ArrangeWords}
@@ -29,41 +29,41 @@ abbrev pub showing : List Rule
 showing = flag (codes "json") ∷ flag (codes "progress") ∷ option (codes "report") ∷ []
 
 abbrev pub geometry : Shape
-geometry = command_of (codes "geometry") (place (codes "DUMP") ∷ showing)
+geometry = command_with_words (codes "geometry") (place (codes "DUMP") ∷ showing)
 
 abbrev pub survey : Shape
-survey = command_of (codes "survey") (place (codes "GEOM") ∷ place (codes "DUMP") ∷ option (codes "rows") ∷ showing)
+survey = command_with_words (codes "survey") (place (codes "GEOM") ∷ place (codes "DUMP") ∷ option (codes "rows") ∷ showing)
 
 abbrev pub array : Shape
-array = command_of (codes "array") (place (codes "GEOM") ∷ place (codes "DUMP") ∷ place (codes "OUT") ∷ flag (codes "force") ∷ option (codes "map") ∷ option (codes "until") ∷ flag (codes "damaged") ∷ showing)
+array = command_with_words (codes "array") (place (codes "GEOM") ∷ place (codes "DUMP") ∷ place (codes "OUT") ∷ flag (codes "force") ∷ option (codes "map") ∷ option (codes "until") ∷ flag (codes "damaged") ∷ showing)
 
 abbrev pub history : Shape
-history = command_of (codes "history") (place (codes "GEOM") ∷ place (codes "DUMP") ∷ place (codes "SECTOR") ∷ showing)
+history = command_with_words (codes "history") (place (codes "GEOM") ∷ place (codes "DUMP") ∷ place (codes "SECTOR") ∷ showing)
 
 abbrev pub compare : Shape
-compare = command_of (codes "compare") (place (codes "GEOM") ∷ place (codes "CERT") ∷ place (codes "DUMP") ∷ showing)
+compare = command_with_words (codes "compare") (place (codes "GEOM") ∷ place (codes "CERT") ∷ place (codes "DUMP") ∷ showing)
 
 abbrev pub merge : Shape
-merge = command_of (codes "merge") (place (codes "GEOM") ∷ place (codes "OUT") ∷ place_of Append (codes "DUMP") ∷ flag (codes "force") ∷ showing)
+merge = command_with_words (codes "merge") (place (codes "GEOM") ∷ place (codes "OUT") ∷ wanted_word Append (codes "DUMP") ∷ flag (codes "force") ∷ showing)
 
 abbrev pub repair : Shape
-repair = command_of (codes "repair") (place (codes "GEOM") ∷ place (codes "DUMP") ∷ place (codes "OUT") ∷ flag (codes "force") ∷ option (codes "rows") ∷ option (codes "bits") ∷ showing)
+repair = command_with_words (codes "repair") (place (codes "GEOM") ∷ place (codes "DUMP") ∷ place (codes "OUT") ∷ flag (codes "force") ∷ option (codes "rows") ∷ option (codes "bits") ∷ showing)
 
 abbrev pub correct : Shape
-correct = command_of (codes "correct") (place (codes "GEOM") ∷ place (codes "DUMP") ∷ place (codes "OUT") ∷ flag (codes "force") ∷ option (codes "map") ∷ showing)
+correct = command_with_words (codes "correct") (place (codes "GEOM") ∷ place (codes "DUMP") ∷ place (codes "OUT") ∷ flag (codes "force") ∷ option (codes "map") ∷ showing)
 
 abbrev pub arrange : Shape
-arrange = command_of (codes "arrange") (place (codes "GEOM") ∷ place (codes "DUMP") ∷ place (codes "OUT") ∷ flag (codes "force") ∷ option (codes "from") ∷ showing)
+arrange = command_with_words (codes "arrange") (place (codes "GEOM") ∷ place (codes "DUMP") ∷ place (codes "OUT") ∷ flag (codes "force") ∷ option (codes "from") ∷ showing)
 
 abbrev pub verify : Shape
-verify = command_of (codes "verify") (place (codes "REPORT") ∷ flag (codes "json") ∷ flag (codes "progress") ∷ [])
+verify = command_with_words (codes "verify") (place (codes "REPORT") ∷ flag (codes "json") ∷ flag (codes "progress") ∷ [])
 
 abbrev pub origin : Shape
-origin = command_of (codes "origin") (place (codes "GEOM") ∷ place (codes "OUT") ∷ place (codes "DUMP") ∷ place_of Append (codes "READING") ∷ flag (codes "force") ∷ option (codes "until") ∷ showing)
+origin = command_with_words (codes "origin") (place (codes "GEOM") ∷ place (codes "OUT") ∷ place (codes "DUMP") ∷ wanted_word Append (codes "READING") ∷ flag (codes "force") ∷ option (codes "until") ∷ showing)
 
 -- the commands that the program has
-abbrev pub grammar : App
-grammar = program_of (codes "nandlab") (geometry ∷ survey ∷ array ∷ history ∷ compare ∷ merge ∷ repair ∷ correct ∷ arrange ∷ origin ∷ verify ∷ [])
+abbrev pub lab_grammar : App
+lab_grammar = program_of (codes "nandlab") (geometry ∷ survey ∷ array ∷ history ∷ compare ∷ merge ∷ repair ∷ correct ∷ arrange ∷ origin ∷ verify ∷ [])
 
 -- ---- what the words ask for
 
@@ -148,33 +148,33 @@ pub record IsOriginAt (rows : List Row) (read : OriginWords) : Type 0 where
   pub until_is : first_of (codes "until") rows ≡ option_map (λ word. word.now) read.until
 
 -- the command of this name with these entries asks for that
-abbrev pub IsAt : List ℕ → List Row → Asked → Type 0
-IsAt name rows (asked.Geometry read) = (name ≡ codes "geometry") × IsGeometryAt rows read
-IsAt name rows (asked.Array read) = (name ≡ codes "array") × IsUntilAt rows read
-IsAt name rows (asked.History read) = (name ≡ codes "history") × IsHistoryAt rows read
-IsAt name rows (asked.Survey read) = (name ≡ codes "survey") × IsSurveyAt rows read
-IsAt name rows (asked.Compare read) = (name ≡ codes "compare") × IsCompareAt rows read
-IsAt name rows (asked.Merge read) = (name ≡ codes "merge") × IsMergeAt rows read
-IsAt name rows (asked.Repair read) = (name ≡ codes "repair") × IsRepairAt rows read
-IsAt name rows (asked.Correct read) = (name ≡ codes "correct") × IsArrayAt rows read
-IsAt name rows (asked.Arrange read) = (name ≡ codes "arrange") × IsArrangeAt rows read
-IsAt name rows (asked.Origin read) = (name ≡ codes "origin") × IsOriginAt rows read
-IsAt name rows (asked.Text text) = ⊥
+abbrev pub IsLabCommandAt : List ℕ → List Row → Asked → Type 0
+IsLabCommandAt name rows (asked.Geometry read) = (name ≡ codes "geometry") × IsGeometryAt rows read
+IsLabCommandAt name rows (asked.Array read) = (name ≡ codes "array") × IsUntilAt rows read
+IsLabCommandAt name rows (asked.History read) = (name ≡ codes "history") × IsHistoryAt rows read
+IsLabCommandAt name rows (asked.Survey read) = (name ≡ codes "survey") × IsSurveyAt rows read
+IsLabCommandAt name rows (asked.Compare read) = (name ≡ codes "compare") × IsCompareAt rows read
+IsLabCommandAt name rows (asked.Merge read) = (name ≡ codes "merge") × IsMergeAt rows read
+IsLabCommandAt name rows (asked.Repair read) = (name ≡ codes "repair") × IsRepairAt rows read
+IsLabCommandAt name rows (asked.Correct read) = (name ≡ codes "correct") × IsArrayAt rows read
+IsLabCommandAt name rows (asked.Arrange read) = (name ≡ codes "arrange") × IsArrangeAt rows read
+IsLabCommandAt name rows (asked.Origin read) = (name ≡ codes "origin") × IsOriginAt rows read
+IsLabCommandAt name rows (asked.Text text) = ⊥
 
 -- Of the words as `clap` reads them: they name a command, with these words, or they ask for help or for the version.
-abbrev pub IsAsked : List (List ℕ) → Asked → Type 0
-IsAsked words (asked.Geometry read) = NamesCommand IsAt grammar words (asked.Geometry read)
-IsAsked words (asked.Array read) = NamesCommand IsAt grammar words (asked.Array read)
-IsAsked words (asked.History read) = NamesCommand IsAt grammar words (asked.History read)
-IsAsked words (asked.Survey read) = NamesCommand IsAt grammar words (asked.Survey read)
-IsAsked words (asked.Compare read) = NamesCommand IsAt grammar words (asked.Compare read)
-IsAsked words (asked.Merge read) = NamesCommand IsAt grammar words (asked.Merge read)
-IsAsked words (asked.Repair read) = NamesCommand IsAt grammar words (asked.Repair read)
-IsAsked words (asked.Correct read) = NamesCommand IsAt grammar words (asked.Correct read)
-IsAsked words (asked.Arrange read) = NamesCommand IsAt grammar words (asked.Arrange read)
-IsAsked words (asked.Origin read) = NamesCommand IsAt grammar words (asked.Origin read)
-IsAsked words (asked.Text text) = AsksText grammar words
+abbrev pub AsksLabProgram : List (List ℕ) → Asked → Type 0
+AsksLabProgram words (asked.Geometry read) = NamesCommand IsLabCommandAt lab_grammar words (asked.Geometry read)
+AsksLabProgram words (asked.Array read) = NamesCommand IsLabCommandAt lab_grammar words (asked.Array read)
+AsksLabProgram words (asked.History read) = NamesCommand IsLabCommandAt lab_grammar words (asked.History read)
+AsksLabProgram words (asked.Survey read) = NamesCommand IsLabCommandAt lab_grammar words (asked.Survey read)
+AsksLabProgram words (asked.Compare read) = NamesCommand IsLabCommandAt lab_grammar words (asked.Compare read)
+AsksLabProgram words (asked.Merge read) = NamesCommand IsLabCommandAt lab_grammar words (asked.Merge read)
+AsksLabProgram words (asked.Repair read) = NamesCommand IsLabCommandAt lab_grammar words (asked.Repair read)
+AsksLabProgram words (asked.Correct read) = NamesCommand IsLabCommandAt lab_grammar words (asked.Correct read)
+AsksLabProgram words (asked.Arrange read) = NamesCommand IsLabCommandAt lab_grammar words (asked.Arrange read)
+AsksLabProgram words (asked.Origin read) = NamesCommand IsLabCommandAt lab_grammar words (asked.Origin read)
+AsksLabProgram words (asked.Text text) = AsksText lab_grammar words
 
 -- `clap` finds another fault in them, or they name no command with its words
-abbrev pub IsNoCommand : List (List ℕ) → Type 0
-IsNoCommand words = met.IsNoCommand IsAt grammar words
+abbrev pub IsNoLabCommand : List (List ℕ) → Type 0
+IsNoLabCommand words = met.IsNoCommand IsLabCommandAt lab_grammar words

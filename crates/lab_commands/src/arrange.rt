@@ -3,7 +3,7 @@ ghost use Rattle.std.specs.Prelude.{◌≡◌, OnOk, OnErr, IfOk, IfErr};
 ghost use Rattle.lab_arrange.specs.Place.{IsFitting};
 ghost use Rattle.lab_arrange.specs.Rooms.{IsArrangeRoom};
 ghost use Rattle.lab_commands.specs.Files.{AnswersNoMore, without_part};
-ghost use Rattle.lab_commands.specs.Arrange.{AreSaid, AreUnsaid, HasPutInOrder, IsArrangeFault, IsInOrder, IsSaid, IsUnarrangedBy, IsUnordered, IsUnput, IsUnsaid, PutArranged, WroteArranged, unordered_as};
+ghost use Rattle.lab_commands.specs.Arrange.{AreSaid, AreUnsaid, HasPutInOrder, IsArrangeFault, IsMadeInOrder, SaysArrangement, IsUnarrangedBy, IsUnordered, IsUnput, IsUnsaid, PutArranged, WroteArranged, unordered_as};
 
 use crate::arrange_words::ArrangeWords;
 use crate::files::LabFiles;
@@ -20,7 +20,7 @@ use std::alloc::Global;
 
 // The arrangement that a word says; in order, where there is none.
 fn arrangement_of<'a>(word: Option<&'a str>) -> Result<Arrangement, LabFault<'a>>
-    ensures ok { IfOk result (IsSaid word.entry) }
+    ensures ok { IfOk result (SaysArrangement word.entry) }
     ensures fault { IfErr result (IsUnsaid word.entry) }
 {
     let Some(word) = word else {
@@ -66,7 +66,7 @@ fn put_in_order<'a, F: LabFiles>(
 ) -> Result<F::Target, LabFault<'a>>
     requires fits { IsFitting geometry.now arrangement.now }
     requires room { IsArrangeRoom geometry.now room }
-    ensures made { IfOk result (λ target. IsInOrder (F.answers files.old) words.now.dump.now geometry.now arrangement.now (F.Target.pieces target)) }
+    ensures made { IfOk result (λ target. IsMadeInOrder (F.answers files.old) words.now.dump.now geometry.now arrangement.now (F.Target.pieces target)) }
     ensures fault { IfErr result (IsUnordered (F.answers files.old) geometry.now arrangement.now words.now.dump.now words.now.out.now) }
     ensures no_more { AnswersNoMore (F.answers files.old) (F.answers files.new) }
     ensures beside { OnOk result (without_part (F.kept files.new) ≡ F.kept files.old) }

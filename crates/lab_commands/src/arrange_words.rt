@@ -1,6 +1,6 @@
 //! The words of the command `arrange`.
 ghost use Rattle.std.specs.Prelude.{◌≡◌, IfSome, None};
-ghost use Rattle.program_words.specs.Met.{entries_of};
+ghost use Rattle.program_words.specs.Met.{command_entries};
 ghost use Rattle.lab_commands.specs.declared.arrange_words.ArrangeWords.{ArrangeWords};
 ghost use Rattle.lab_commands.specs.Words.{IsArrangeAt};
 
@@ -22,8 +22,8 @@ pub struct ArrangeWords<'a> {
 
 /// The words of the command `arrange`, where they are given.
 pub(crate) fn arrange_words<'a>(found: &CommandWords<'a>) -> Option<ArrangeWords<'a>>
-    ensures some { IfSome result (IsArrangeAt (entries_of found.now)) }
-    ensures none { result ≡ None → (read : ArrangeWords) → ¬ IsArrangeAt (entries_of found.now) read }
+    ensures some { IfSome result (IsArrangeAt (command_entries found.now)) }
+    ensures none { result ≡ None → (read : ArrangeWords) → ¬ IsArrangeAt (command_entries found.now) read }
 {
     let file = out_words(found)?;
     Some(ArrangeWords {

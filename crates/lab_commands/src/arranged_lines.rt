@@ -1,7 +1,7 @@
 //! A geometry that fits a dump in another arrangement, as plain text and as a JSON value.
 ghost use Rattle.std.specs.Prelude.{◌≡◌, ◌∷◌, ◌||◌, None, is_some};
 ghost use Rattle.serde_json.specs.Written.{compact_text};
-ghost use Rattle.lab_shapes.specs.Words.{around_words, arrangement_words, cut_words, flag_words, order_words, spares_words};
+ghost use Rattle.lab_shapes.specs.Words.{around_words, arrangement_words, cut_words, flag_words, byte_order_words, spares_words};
 ghost use Rattle.lab_commands.specs.Document.{Prints};
 ghost use Rattle.lab_commands.specs.Lines.{arranged_fit_words, arrange_words, fit_words};
 ghost use Rattle.lab_commands.specs.Values.{arranged_fit_data, arranged_rest};
@@ -123,7 +123,7 @@ fn put_order<W: Output>(
     before: bool,
     arrangement: &Arrangement,
 ) -> Result<(), OutputFault>
-    ensures { Prints (W.failed out.new) (W.contents out.old) (W.contents out.new) (order_words before arrangement.now) result }
+    ensures { Prints (W.failed out.new) (W.contents out.old) (W.contents out.new) (byte_order_words before arrangement.now) result }
 {
     let spares = behind_spares(before, arrangement);
     let first = behind_first(before, arrangement);

@@ -6,7 +6,7 @@ ghost use Rattle.lab_dump.specs.Held.{mark_in};
 ghost use Rattle.lab_dump.specs.Map.{map_text};
 ghost use Rattle.lab_dump.specs.Rooms.{IsArrayRoom};
 ghost use Rattle.lab_dump.specs.Unmade as made;
-ghost use Rattle.lab_dump.specs.Written.{IsWritten};
+ghost use Rattle.lab_dump.specs.Written.{IsArrayWritten};
 ghost use Rattle.lab_commands.specs.Files.{AnswersNoMore, without_part};
 ghost use Rattle.lab_commands.specs.Undone.{IsFileUnmade, MayWrite};
 ghost use Rattle.lab_commands.specs.Array.{AreAllowed, AreNotAllowed, HasPutSectors, IsArrayFault, IsArrayMade, IsMapNotAllowed, IsUndone, IsUnmapped, IsUnput, PlacedArray, WroteArray, as_map, with_map};
@@ -104,7 +104,7 @@ fn write_sectors<R: DumpReader, T: DamagedTarget + Drop>(
 ) -> Result<ArrayWritten<T>, Unwritten<T>>
     requires room { IsArrayRoom geometry.now room }
     requires pieces { IfSome (T.pieces target) (λ ps. ps ≡ replicate geometry.now.sectors (zeros geometry.now)) }
-    ensures ok { IfOk result (λ written. IfSome (R.remaining dump.old) (IsWritten geometry.now last damaged (T.pieces written.target) written.held.items written.left)) }
+    ensures ok { IfOk result (λ written. IfSome (R.remaining dump.old) (IsArrayWritten geometry.now last damaged (T.pieces written.target) written.held.items written.left)) }
     ensures sized { IfOk result (λ written. length written.held.items ≡ geometry.now.sectors) }
     ensures err { IfErr result (λ unwritten. IfSome (R.remaining dump.old) (made.IsUnmade geometry.now unwritten.fault)) }
     ensures source { IfErr result (λ unwritten. unwritten.fault ≡ MakeFault.Source → R.failed dump.new ≡ true) }

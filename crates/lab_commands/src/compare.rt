@@ -3,7 +3,7 @@ ghost use Rattle.std.specs.Prelude.{◌≡◌, suc, option_map, OnOk, IfOk, IfEr
 ghost use Rattle.certificate.specs.Claim.{sizes_of};
 ghost use Rattle.lab_dump.specs.Rooms.{IsCompareRoom};
 ghost use Rattle.lab_commands.specs.Files.{AnswersNoMore};
-ghost use Rattle.lab_commands.specs.Compare.{HasCompared, HasNone, IsCertificateAt, IsCompareFault, IsCompared, IsDumpUnheld, IsUncompared, ToldCompared};
+ghost use Rattle.lab_commands.specs.Compare.{HasCompared, IsNoCertificateAt, IsCertificateAt, IsCompareFault, IsCompared, IsDumpUnheld, IsUncomparedBy, ToldCompared};
 
 use crate::files::{LabFileFault, LabFiles};
 use crate::opening::{geometry_at, open_file, progress_of};
@@ -27,7 +27,7 @@ fn load_certificate<'a, F: LabFiles>(
     files: &mut F,
 ) -> Result<Certificate, LabFault<'a>>
     ensures ok { IfOk result (IsCertificateAt (F.answers files.old) path.now) }
-    ensures fault { IfErr result (HasNone (F.answers files.old) path.now) }
+    ensures fault { IfErr result (IsNoCertificateAt (F.answers files.old) path.now) }
     ensures opened { F.opened files.new ≡ option_map suc (F.opened files.old) }
     ensures no_more { AnswersNoMore (F.answers files.old) (F.answers files.new) }
     ensures kept { F.kept files.new ≡ F.kept files.old }
@@ -81,7 +81,7 @@ fn hold<'a, F: LabFiles>(
     files: &mut F,
 ) -> Result<Comparison, LabFault<'a>>
     ensures ok { IfOk result (λ held. HasCompared (F.answers files.old) words.now held.geometry held.compared) }
-    ensures fault { IfErr result (IsUncompared (F.answers files.old) words.now (F.opened files.old) (F.opened files.new)) }
+    ensures fault { IfErr result (IsUncomparedBy (F.answers files.old) words.now (F.opened files.old) (F.opened files.new)) }
     ensures kept { F.kept files.new ≡ F.kept files.old }
 {
     let geometry = geometry_at(words.geometry)?;

@@ -6,7 +6,7 @@ ghost use Rattle.lab_correct.specs.Rooms.{IsCorrectRoom};
 ghost use Rattle.lab_commands.specs.Files.{AnswersNoMore, without_part};
 ghost use Rattle.lab_commands.specs.Undone.{IsFileUnmade};
 ghost use Rattle.lab_commands.specs.Array.{IsUnmapped, IsUnput, with_map};
-ghost use Rattle.lab_commands.specs.Correct.{HasPutRight, IsCorrectFault, IsNoChip, IsPutRight, IsUncorrectedBy, PlacedCorrected, WroteCorrected};
+ghost use Rattle.lab_commands.specs.Correct.{HasPutRight, IsCorrectFault, IsNoChip, ArePiecesPutRight, IsUncorrectedBy, PlacedCorrected, WroteCorrected};
 
 use crate::array::allow_both;
 use crate::files::LabFiles;
@@ -60,7 +60,7 @@ fn put_right<'a, F: LabFiles>(
 ) -> Result<DumpCorrected<F::Target>, LabFault<'a>>
     requires chip { IsChipOf geometry.now chip.now.raw }
     requires room { IsCorrectRoom geometry.now chip.now.raw room }
-    ensures made { IfOk result (λ told. IsPutRight (F.answers files.old) words.now.dump.now geometry.now chip.now.raw (F.Target.pieces told.target) (record { turned = told.turned; touched = told.touched; losses = told.losses.items })) }
+    ensures made { IfOk result (λ told. ArePiecesPutRight (F.answers files.old) words.now.dump.now geometry.now chip.now.raw (F.Target.pieces told.target) (record { turned = told.turned; touched = told.touched; losses = told.losses.items })) }
     ensures fault { IfErr result (IsFileUnmade (F.answers files.old) chip.now.raw words.now.dump.now words.now.out.now) }
     ensures no_more { AnswersNoMore (F.answers files.old) (F.answers files.new) }
     ensures beside { OnOk result (without_part (F.kept files.new) ≡ F.kept files.old) }

@@ -112,7 +112,7 @@ fn put_head<W: Output>(out: &mut W, report: Report) -> Result<(), OutputFault>
 impl Printer {
     ghost use Rattle.std.specs.Prelude.{◌≡◌};
     ghost use Rattle.lab_commands.specs.Document.{Prints, head_text, if_text, line_text, report_words, tail_text, text_below};
-    ghost use Rattle.lab_commands.specs.Reports.{line_at, size_of};
+    ghost use Rattle.lab_commands.specs.Reports.{line_at, line_count};
 
     /// One that prints in this form.
     pub fn new(alloc: Global, form: ReportForm) -> Printer
@@ -144,7 +144,7 @@ impl Printer {
 
     /// Prints the lines of a list, in their order.
     pub(crate) fn list<W: Output>(self, out: &mut W, list: &Lines<'_>) -> Result<(), OutputFault>
-        ensures { Prints (W.failed out.new) (W.contents out.old) (W.contents out.new) (text_below self.form (line_at list.now) (size_of list.now)) result }
+        ensures { Prints (W.failed out.new) (W.contents out.old) (W.contents out.new) (text_below self.form (line_at list.now) (line_count list.now)) result }
     {
         for number in 0..list.count() {
             self.line(out, list.line(number))?;

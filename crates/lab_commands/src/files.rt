@@ -72,7 +72,7 @@ pub trait MapText {
 /// The files that the words name, by their paths as written: those of the system, or some in memory.
 pub trait LabFiles {
     ghost use Rattle.std.specs.Prelude.{◌≡◌, List, [], ◌∷◌, ℕ, suc, Option, Some, true, Result, IfOk, IfErr, IfSome, option_map, replicate};
-    ghost use Rattle.lab_commands.specs.Files.{AnswersNoMore, IsAsPut, IsFileOpened, IsLoaded, IsUnkept, Store, StoreAnswers, kept_after, made_after, without_part};
+    ghost use Rattle.lab_commands.specs.Files.{AnswersNoMore, IsAsPut, IsFileOpened, IsFrontOfFile, IsFileUnkept, Store, StoreAnswers, files_kept_after, made_after, without_part};
 
     /// What reads a file piece by piece.
     type Reader: DumpReader + Drop;
@@ -120,7 +120,7 @@ pub trait LabFiles {
 
     /// The first bytes of a file, at most so many. No file is changed.
     fn load(&mut self, path: &str, most: u64) -> Result<Vec<u8>, LabFileFault>
-        ensures bytes { IfOk result (λ bytes. IsLoaded (answers self.old) path.now most bytes.items) }
+        ensures bytes { IfOk result (λ bytes. IsFrontOfFile (answers self.old) path.now most bytes.items) }
         ensures failed { IfErr result ((answers self.old).fails path.now) }
         ensures no_more { AnswersNoMore (answers self.old) (answers self.new) }
         ensures kept { kept self.new ≡ kept self.old }
@@ -152,16 +152,16 @@ pub trait LabFiles {
     /// Puts a file that was made in the place of this path, once all of it is stored. Where that fails what stood there still does, and the file
     /// that was made is removed. Only where it may stand over another one does it replace what has the name.
     fn keep(&mut self, path: &str, target: Self::Target, over: bool) -> Result<(), KeepFault>
-        ensures done { kept self.new ≡ kept_after (without_part (kept self.old)) path.now (Self.Target.pieces target) over result }
-        ensures failed { IfErr result (IsUnkept (answers self.old) path.now over) }
+        ensures done { kept self.new ≡ files_kept_after (without_part (kept self.old)) path.now (Self.Target.pieces target) over result }
+        ensures failed { IfErr result (IsFileUnkept (answers self.old) path.now over) }
         ensures no_more { AnswersNoMore (answers self.old) (answers self.new) };
 
     /// Puts a file of this map's bytes in the place of this path, once all of it is stored. Where that fails what stood there still does. Only where
     /// it may stand over another one does it replace what has the name.
     fn store<M: MapText>(&mut self, path: &str, map: &M, over: bool) -> Result<(), KeepFault>
         requires { M.whole map.now }
-        ensures done { kept self.new ≡ kept_after (kept self.old) path.now (Some (M.text map.now ∷ [])) over result }
-        ensures failed { IfErr result (IsUnkept (answers self.old) path.now over) };
+        ensures done { kept self.new ≡ files_kept_after (kept self.old) path.now (Some (M.text map.now ∷ [])) over result }
+        ensures failed { IfErr result (IsFileUnkept (answers self.old) path.now over) };
 
     /// Removes a file that was made.
     fn discard(&mut self, target: Self::Target)

@@ -1,8 +1,8 @@
 //! The command `geometry DUMP`.
 ghost use Rattle.std.specs.Prelude.{◌≡◌, OnOk, OnErr, IfOk, IfErr, IfSome, true};
 ghost use Rattle.lab_shapes.specs.Arranged.{IsPossibleAs};
-ghost use Rattle.lab_shapes.specs.Rooms.{HasRoom};
-ghost use Rattle.lab_commands.specs.Geometry.{ToldFits, FitNothing, FitsAre, HasFound, HasRooms, IsGeometryFault, IsTurned, IsUnfound, fitting_text};
+ghost use Rattle.lab_shapes.specs.Rooms.{HasRoomForLargestPage};
+ghost use Rattle.lab_commands.specs.Geometry.{ToldFits, FitNothing, FitsAre, HasFound, HasRooms, IsGeometryFault, IsTurned, IsGeometryUnfound, fitting_text};
 ghost use Rattle.lab_commands.specs.Document.{Prints};
 
 use crate::document::Printer;
@@ -57,7 +57,7 @@ fn turn_best<D: Dump>(
     dump: &mut D,
     fits: &[FoundFit],
 ) -> Result<Option<ArrangedFit>, DumpFault>
-    requires { HasRoom room }
+    requires { HasRoomForLargestPage room }
     ensures turned { IfOk result (IsTurned (D.bytes dump.old) fits.now) }
     ensures possible { IfOk result (λ turned. IfSome turned IsPossibleAs) }
     ensures source { OnErr result (D.failed dump.new ≡ true) }
@@ -107,7 +107,7 @@ fn find_fits<'a, F: LabFiles>(
 ) -> Result<Fitting, LabFault<'a>>
     requires { HasRooms rooms }
     ensures found { IfOk result (HasFound (F.answers files.old) path.now) }
-    ensures fault { IfErr result (IsUnfound (F.answers files.old) path.now) }
+    ensures fault { IfErr result (IsGeometryUnfound (F.answers files.old) path.now) }
     ensures kept { F.kept files.new ≡ F.kept files.old }
 {
     let mut dump = open_dump(files, path, progress_of(showing))?;

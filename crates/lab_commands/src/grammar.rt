@@ -229,7 +229,7 @@ static GRAMMAR: Grammar<'static> = Grammar {
 
 /// The commands that the program has.
 pub(crate) fn grammar() -> Grammar<'static>
-    ensures { program_app result ≡ told.grammar }
+    ensures { program_app result ≡ told.lab_grammar }
 {
     GRAMMAR
 }

@@ -2,7 +2,7 @@
 ghost use Rattle.std.specs.Prelude.{◌≡◌, OnOk, IfOk, IfErr};
 ghost use Rattle.lab_dump.specs.Rooms.{IsHistoryRoom};
 ghost use Rattle.lab_commands.specs.History.{HasHistory, IsHistoryFault, IsHistoryUntold, IsRecalled, ToldHistory};
-ghost use Rattle.lab_commands.specs.Survey.{IsUnsurveyed};
+ghost use Rattle.lab_commands.specs.Survey.{IsDumpUnsurveyed};
 
 use crate::files::LabFiles;
 use crate::numbers::sector_at;
@@ -27,7 +27,7 @@ fn history_of<'a, F: LabFiles>(
 ) -> Result<History, LabFault<'a>>
     requires { IsHistoryRoom geometry.now room }
     ensures recalled { IfOk result (IsRecalled (F.answers files.old) dump.now geometry.now sector) }
-    ensures fault { IfErr result (IsUnsurveyed (F.answers files.old) geometry.now dump.now) }
+    ensures fault { IfErr result (IsDumpUnsurveyed (F.answers files.old) geometry.now dump.now) }
     ensures kept { F.kept files.new ≡ F.kept files.old }
 {
     let mut reader = open_file(files, dump, progress_of(showing))?;

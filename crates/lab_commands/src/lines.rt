@@ -3,7 +3,7 @@ ghost use Rattle.std.specs.Prelude.{◌≡◌, ◌++◌, codes};
 ghost use Rattle.std.specs.Fmt.{decimal};
 ghost use Rattle.lab_commands.specs.Document.{Prints};
 ghost use Rattle.lab_commands.specs.Lines.{class_words, label_words, made_words};
-ghost use Rattle.lab_commands.specs.Lines.{counted_words, says_words, shape_words, sort_words};
+ghost use Rattle.lab_commands.specs.Lines.{counted_words, says_words, five_numbers_words, sort_words};
 ghost use Rattle.lab_commands.specs.Lines.{age_words, block_words, corrected_words, first_words, fit_words, found_words, history_words, kind_words};
 ghost use Rattle.lab_commands.specs.Lines.{damaged_words, legible_words, line_words, moved_words, newer_words, page_words, said_words, tally_words};
 ghost use Rattle.lab_commands.specs.Lines.{until_words, whole_words, wrote_words, tries_words, trial_words, turned_words};
@@ -17,7 +17,7 @@ use crate::turn_lines::put_turn;
 use certificate::BlockState;
 use lab_correct::FoundFit;
 use lab_dump::{Doubts, Fit, Rows, SaidPage, SectorPage, TableSays, Wrote};
-use lab_mend::{Made, RowTally, Trial, Turn};
+use lab_mend::{BitTurn, Made, RowTally, Trial};
 use lab_shapes::ArrangedFit;
 use page_layout::record::Kind;
 
@@ -70,7 +70,7 @@ pub enum Line {
     /// A geometry that fits in another arrangement.
     ArrangedFit(ArrangedFit),
     /// What came of the page of a row that was to be mended.
-    Mended(u32, Turn),
+    Mended(u32, BitTurn),
     /// So many pages were mended.
     MendedCount(u64),
     /// A row has so many lost chunks.
@@ -276,7 +276,7 @@ pub(crate) fn put_shaped<'x, W: Output>(
     fit: Fit,
     behind: &'x str,
 ) -> Result<(), OutputFault>
-    ensures { Prints (W.failed out.new) (W.contents out.old) (W.contents out.new) (before.now ++ (shape_words fit ++ behind.now)) result }
+    ensures { Prints (W.failed out.new) (W.contents out.old) (W.contents out.new) (before.now ++ (five_numbers_words fit ++ behind.now)) result }
 {
     put_pieces(
         out,

@@ -3,7 +3,7 @@ ghost use Rattle.std.specs.Prelude.{◌≡◌, ◌<◌, get_or, map, option_map}
 ghost use Rattle.lab_dump.specs.declared.held.SectorShown.TheVariants as shown;
 ghost use Rattle.lab_dump.specs.declared.held.KeyState.TheVariants.{Absent};
 ghost use Rattle.lab_dump.specs.Held.{shown_in};
-ghost use Rattle.lab_commands.specs.Reports.{differ_at, fit_at, loss_at, mend_at, newer_at, page_at, said_at, some_at, state_at, tried_at, unsound_at};
+ghost use Rattle.lab_commands.specs.Reports.{differ_at, fit_at, lost_row_at, mend_at, newer_at, page_line_at, said_at, some_at, state_at, tried_at, unsound_at};
 
 use crate::lines::{Label, Line};
 use crate::told_lines::{
@@ -106,7 +106,7 @@ fn fixed_line(lines: &[Option<Line>], number: usize) -> Option<Line>
 }
 
 fn sector_page(geometry: &Geometry, pages: &[SectorPage], number: usize) -> Option<Line>
-    ensures { result ≡ page_at geometry.now pages.now number }
+    ensures { result ≡ page_line_at geometry.now pages.now number }
 {
     let page = *pages.get(number)?;
     Some(page_line(geometry, page))
@@ -127,7 +127,7 @@ fn mend_line(mends: &[Mend], number: usize) -> Option<Line>
 }
 
 fn loss_line(losses: &[Loss], number: usize) -> Option<Line>
-    ensures { result ≡ loss_at losses.now number }
+    ensures { result ≡ lost_row_at losses.now number }
 {
     let loss = *losses.get(number)?;
     Some(Line::LostRow(loss.row, loss.chunks))
@@ -170,11 +170,11 @@ fn newer_page(last: Option<u64>, pages: &[SaidPage], number: usize) -> Option<Li
 
 impl Lines<'_> {
     ghost use Rattle.std.specs.Prelude.{◌≡◌, ◌<◌};
-    ghost use Rattle.lab_commands.specs.Reports.{line_at, size_of};
+    ghost use Rattle.lab_commands.specs.Reports.{line_at, line_count};
 
     /// How many numbers there are.
     pub(crate) fn count(&self) -> usize
-        ensures { result ≡ size_of self.now }
+        ensures { result ≡ line_count self.now }
     {
         match *self {
             Lines::Fixed(lines) => lines.len(),
@@ -195,7 +195,7 @@ impl Lines<'_> {
 
     /// The line of a number.
     pub(crate) fn line(&self, number: usize) -> Option<Line>
-        requires { number < size_of self.now }
+        requires { number < line_count self.now }
         ensures { result ≡ line_at self.now number }
     {
         match *self {

@@ -2,13 +2,13 @@
 ghost use Rattle.std.specs.Prelude.{◌≡◌, ◌<◌, ◌∷◌, suc, length, get_or, true, OnErr};
 ghost use Rattle.std.specs.Char.{digit_char};
 ghost use Rattle.lab_commands.specs.Names as told;
-ghost use Rattle.lab_commands.specs.Output.{Puts};
+ghost use Rattle.lab_commands.specs.Output.{AppendsAllOrPart};
 
 use crate::output::{Output, OutputFault};
 
 /// What is printed of a name holds no control character, and so no line feed; and names that differ are printed differently.
 pub fn name_laws()
-    ensures quiet { told.QuietLaw }
+    ensures quiet { told.QuietNameLaw }
     ensures apart { told.ApartLaw }
 {}
 
@@ -49,7 +49,7 @@ pub fn digit(value: u8) -> u8
 
 // Writes a byte of a name, by those before and behind it.
 fn put_byte<W: Output>(out: &mut W, before: u8, byte: u8, behind: u8) -> Result<(), OutputFault>
-    ensures bytes { Puts (W.contents out.old) (W.contents out.new) (told.shown_byte before byte behind) result }
+    ensures bytes { AppendsAllOrPart (W.contents out.old) (W.contents out.new) (told.shown_byte before byte behind) result }
     ensures failed { OnErr result (W.failed out.new ≡ true) }
 {
     if is_hidden(before, byte, behind) {
@@ -88,7 +88,7 @@ fn byte_behind(name: &[u8], place: usize) -> u8
 
 /// Writes a name as it is printed.
 pub fn put_name<W: Output>(out: &mut W, name: &str) -> Result<(), OutputFault>
-    ensures bytes { Puts (W.contents out.old) (W.contents out.new) (told.shown_name name.now) result }
+    ensures bytes { AppendsAllOrPart (W.contents out.old) (W.contents out.new) (told.shown_name name.now) result }
     ensures failed { OnErr result (W.failed out.new ≡ true) }
 {
     let bytes = name.as_bytes();

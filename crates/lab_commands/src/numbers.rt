@@ -1,6 +1,6 @@
 //! Numbers that a command is given: a sequence, and a sector.
 ghost use Rattle.std.specs.Prelude.{◌≡◌, IfOk, IfErr};
-ghost use Rattle.lab_commands.specs.Numbers.{IsNoLast, IsNoSector, IsLastAt, IsSectorAt, sequence_of};
+ghost use Rattle.lab_commands.specs.Numbers.{IsNoLast, IsNoSector, IsLastAt, IsSectorAt, sequence_of_word};
 
 use crate::text::LabFault;
 use page_layout::geometry::Geometry;
@@ -8,7 +8,7 @@ use program_words::number;
 
 // The number so far with one more digit.
 fn next_value(value: u64, digit: u8) -> Option<u64>
-    ensures { result ≡ Rattle.lab_commands.specs.Numbers.next_value value digit }
+    ensures { result ≡ Rattle.lab_commands.specs.Numbers.sequence_with_digit value digit }
 {
     if !digit.is_ascii_digit() {
         return None;
@@ -18,7 +18,7 @@ fn next_value(value: u64, digit: u8) -> Option<u64>
 
 // The sequence that a word writes: at least one digit, digits alone, below 2^64.
 fn sequence_of(word: &str) -> Option<u64>
-    ensures { result ≡ sequence_of word.now }
+    ensures { result ≡ sequence_of_word word.now }
 {
     let digits = word.as_bytes();
     if digits.is_empty() {

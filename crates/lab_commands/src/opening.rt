@@ -3,7 +3,7 @@ ghost use Rattle.std.specs.Prelude.{◌≡◌, ◌≢◌, [], ◌∷◌, Some, t
 ghost use Rattle.page_layout.specs.Geometry.{row_count};
 ghost use Rattle.lab_commands.specs.declared.files.Standing.TheVariants.{Nothing};
 ghost use Rattle.lab_commands.specs.Files.{AnswersNoMore, IsFileOpened, with_kept, without_part};
-ghost use Rattle.lab_commands.specs.Undone.{IsGeometryAt, IsKeptThere, IsMapUnplaced, IsNoGeometry, IsReplaceable, IsUnbegun, IsUnplaced, IsUnread, IsUnwritten, MayNotWrite, MayWrite, unmade_as};
+ghost use Rattle.lab_commands.specs.Undone.{IsGeometryAt, IsKeptThere, IsMapUnplaced, IsNoGeometry, IsReplaceable, IsFileUnbegun, IsUnplaced, IsUnread, IsUnwritten, MayNotWrite, MayWrite, unmade_as};
 
 use crate::files::{KeepFault, LabFileFault, LabFiles, MapText, Progress, Standing};
 use crate::text::LabFault;
@@ -225,7 +225,7 @@ pub(crate) fn begin_file<'a, F: LabFiles>(
     ensures reads { OnOk result ((reader : F.Reader) → F.Reader.failed reader ≡ true → (F.answers files.old).reads_fail) }
     ensures blank { IfOk result (λ begun. IfSome (F.Target.pieces begun.1) (λ ps. ps ≡ replicate count (replicate size 0))) }
     ensures writes { OnOk result ((target : F.Target) → F.Target.failed target ≡ true → (F.answers files.old).writes_fail) }
-    ensures fault { IfErr result (IsUnbegun (F.answers files.old) dump.now path.now) }
+    ensures fault { IfErr result (IsFileUnbegun (F.answers files.old) dump.now path.now) }
     ensures no_more { AnswersNoMore (F.answers files.old) (F.answers files.new) }
     ensures made { OnOk result (without_part (F.kept files.new) ≡ F.kept files.old) }
     ensures kept { OnErr result (F.kept files.new ≡ F.kept files.old) }
@@ -247,7 +247,7 @@ pub(crate) fn begin_pages<'a, F: LabFiles>(
     ensures reads { OnOk result ((reader : F.Reader) → F.Reader.failed reader ≡ true → (F.answers files.old).reads_fail) }
     ensures pages { IfOk result (λ begun. IfSome (F.Target.pieces begun.1) (λ ps. length ps ≡ row_count geometry.now)) }
     ensures writes { OnOk result ((target : F.Target) → F.Target.failed target ≡ true → (F.answers files.old).writes_fail) }
-    ensures fault { IfErr result (IsUnbegun (F.answers files.old) dump.now path.now) }
+    ensures fault { IfErr result (IsFileUnbegun (F.answers files.old) dump.now path.now) }
     ensures no_more { AnswersNoMore (F.answers files.old) (F.answers files.new) }
     ensures made { OnOk result (without_part (F.kept files.new) ≡ F.kept files.old) }
     ensures kept { OnErr result (F.kept files.new ≡ F.kept files.old) }

@@ -3,12 +3,12 @@ ghost use Rattle.std.specs.Prelude.{◌≡◌, ◌≤◌, [], ◌∷◌, Some, l
 ghost use Rattle.program_words.specs.Met.{texts};
 ghost use Rattle.lab_dump.specs.declared.map_head.Remark.TheVariants as remark;
 ghost use Rattle.lab_dump.specs.Map.{map_text};
-ghost use Rattle.lab_origin.specs.Traced.{IsOfReading, IsOfSome};
+ghost use Rattle.lab_origin.specs.Traced.{NamesOneOfReadings, IsOfSome};
 ghost use Rattle.lab_origin.specs.Tracing.{IsOriginRoom};
 ghost use Rattle.lab_commands.specs.Files.{AnswersNoMore, with_kept};
 ghost use Rattle.lab_commands.specs.Merge.{AreOpened, IsSomeUnread};
 ghost use Rattle.lab_commands.specs.Undone.{IsUnplaced};
-ghost use Rattle.lab_commands.specs.Origin.{HasPutMarks, HasPutOrigin, IsFollowed, IsOriginFault, IsUndone, IsUnfollowed, IsUnput, MayMap, MayNotMap, TellsOrigin, TellsReading, WroteOrigin};
+ghost use Rattle.lab_commands.specs.Origin.{HasPutMarks, HasPutOrigin, HasTracedMarks, IsOriginFault, IsUndone, IsUnfollowed, IsUnput, MayMap, MayNotMap, TellsOrigin, TellsReading, WroteOrigin};
 
 use crate::files::{LabFiles, Progress, Standing};
 use crate::maps::OriginMap;
@@ -68,7 +68,7 @@ fn open_readings<'a, F: LabFiles>(
 
 // How it is told that a reading was not held beside the dump.
 fn reading_told<'a>(fault: ReadingFault, readings: &[&'a str]) -> LabFault<'a>
-    requires { IsOfReading (length readings.now) fault }
+    requires { NamesOneOfReadings (length readings.now) fault }
     ensures { TellsReading fault (texts readings.now) result }
 {
     match fault {
@@ -124,7 +124,7 @@ fn follow_by<'a, F: LabFiles>(
     requires room { IsOriginRoom geometry.now room }
     requires none { readings.old.items ≡ [] }
     requires places { length words.now.readings.items ≤ vec_capacity readings.old }
-    ensures followed { IfOk result (λ marks. IsFollowed (F.answers files.old) words.now geometry.now last marks.items) }
+    ensures followed { IfOk result (λ marks. HasTracedMarks (F.answers files.old) words.now geometry.now last marks.items) }
     ensures sized { IfOk result (λ marks. length marks.items ≡ geometry.now.sectors) }
     ensures fault { IfErr result (IsUnfollowed (F.answers files.old) words.now geometry.now) }
     ensures no_more { AnswersNoMore (F.answers files.old) (F.answers files.new) }
@@ -149,7 +149,7 @@ fn follow<'a, F: LabFiles>(
     requires origin { IsOriginRoom geometry.now room.origin }
     requires none { room.readings.items ≡ [] }
     requires places { length words.now.readings.items ≤ vec_capacity room.readings }
-    ensures followed { IfOk result (λ marks. IsFollowed (F.answers files.old) words.now geometry.now last marks.items) }
+    ensures followed { IfOk result (λ marks. HasTracedMarks (F.answers files.old) words.now geometry.now last marks.items) }
     ensures sized { IfOk result (λ marks. length marks.items ≡ geometry.now.sectors) }
     ensures fault { IfErr result (IsUnfollowed (F.answers files.old) words.now geometry.now) }
     ensures no_more { AnswersNoMore (F.answers files.old) (F.answers files.new) }

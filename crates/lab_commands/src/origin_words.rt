@@ -2,10 +2,10 @@
 ghost use Rattle.std.specs.Prelude.{◌≡◌, List, ℕ, IfOk, IfSome, None, Some, Err, codes};
 ghost use Rattle.std.specs.Borrow.{Bor};
 ghost use Rattle.clap.specs.Words.{all_of};
-ghost use Rattle.program_words.specs.Met.{entries_of, texts};
+ghost use Rattle.program_words.specs.Met.{command_entries, texts};
 ghost use Rattle.lab_commands.specs.declared.origin_words.OriginWords.{OriginWords};
 ghost use Rattle.lab_commands.specs.declared.words.Asked.{Asked};
-ghost use Rattle.lab_commands.specs.Words.{IsAt, IsOriginAt};
+ghost use Rattle.lab_commands.specs.Words.{IsLabCommandAt, IsOriginAt};
 
 use crate::words::{Asked, Showing, source_words};
 use program_words::{CommandWords, GrammarFault};
@@ -28,17 +28,17 @@ pub struct OriginWords<'a> {
 
 // The readings, where they are given.
 fn reading_words<'b, 'a>(found: &'b CommandWords<'a>) -> Option<&'b [&'a str]>
-    ensures some { IfSome result (λ readings. all_of (codes "READING") (entries_of found.now) ≡ Some (texts readings.now)) }
-    ensures none { result ≡ None → (readings : List (Bor (List ℕ))) → ¬ (all_of (codes "READING") (entries_of found.now) ≡ Some (texts readings)) }
+    ensures some { IfSome result (λ readings. all_of (codes "READING") (command_entries found.now) ≡ Some (texts readings.now)) }
+    ensures none { result ≡ None → (readings : List (Bor (List ℕ))) → ¬ (all_of (codes "READING") (command_entries found.now) ≡ Some (texts readings)) }
 {
     found.words("READING")
 }
 
 // The words, where they are given: these readings, and the others.
 fn origin_others<'a>(found: &CommandWords<'a>, readings: Vec<&'a str>) -> Option<OriginWords<'a>>
-    requires { all_of (codes "READING") (entries_of found.now) ≡ Some (texts readings.items) }
-    ensures some { IfSome result (IsOriginAt (entries_of found.now)) }
-    ensures none { result ≡ None → (read : OriginWords) → ¬ IsOriginAt (entries_of found.now) read }
+    requires { all_of (codes "READING") (command_entries found.now) ≡ Some (texts readings.items) }
+    ensures some { IfSome result (IsOriginAt (command_entries found.now)) }
+    ensures none { result ≡ None → (read : OriginWords) → ¬ IsOriginAt (command_entries found.now) read }
 {
     let source = source_words(found)?;
     Some(OriginWords {
@@ -57,8 +57,8 @@ pub(crate) fn origin_asked<'a>(
     alloc: Global,
     found: &CommandWords<'a>,
 ) -> Result<Asked<'a>, GrammarFault>
-    ensures some { IfOk result (IsAt (codes "origin") (entries_of found.now)) }
-    ensures none { result ≡ Err GrammarFault.NoSuchCommand → (asked : Asked) → ¬ IsAt (codes "origin") (entries_of found.now) asked }
+    ensures some { IfOk result (IsLabCommandAt (codes "origin") (command_entries found.now)) }
+    ensures none { result ≡ Err GrammarFault.NoSuchCommand → (asked : Asked) → ¬ IsLabCommandAt (codes "origin") (command_entries found.now) asked }
 {
     let Some(readings) = reading_words(found) else {
         return Err(GrammarFault::NoSuchCommand);

@@ -11,7 +11,7 @@ pub struct OutputFault;
 /// What lines are written to: standard output, standard error, or bytes in memory. (This project's.)
 pub trait Output {
     ghost use Rattle.std.specs.Prelude.{◌≡◌, ℕ, List, Option, Bool, true, OnErr};
-    ghost use Rattle.lab_commands.specs.Output.{Puts};
+    ghost use Rattle.lab_commands.specs.Output.{AppendsAllOrPart};
 
     /// The bytes that it holds, where they are known.
     ghost contents: { Self → Option (List ℕ) };
@@ -21,7 +21,7 @@ pub trait Output {
 
     /// Writes bytes, all of them.
     fn put(&mut self, bytes: &[u8]) -> Result<(), OutputFault>
-        ensures bytes { Puts (contents self.old) (contents self.new) bytes.now result }
+        ensures bytes { AppendsAllOrPart (contents self.old) (contents self.new) bytes.now result }
         ensures failed { OnErr result (failed self.new ≡ true) };
 }
 

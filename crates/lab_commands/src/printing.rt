@@ -1,6 +1,6 @@
 //! How a command prints what it has to say.
 ghost use Rattle.std.specs.Prelude.{◌≡◌};
-ghost use Rattle.lab_commands.specs.Undone.{EndsAs, form_of};
+ghost use Rattle.lab_commands.specs.Undone.{EndsAsPrinted, form_of_showing};
 
 use crate::document::{Printer, ReportForm};
 use crate::output::OutputFault;
@@ -10,7 +10,7 @@ use std::alloc::Global;
 
 /// What prints in the form that is asked for.
 pub(crate) fn printer(alloc: Global, showing: Showing) -> Printer
-    ensures { result.form ≡ form_of showing }
+    ensures { result.form ≡ form_of_showing showing }
 {
     Printer::new(
         alloc,
@@ -24,7 +24,7 @@ pub(crate) fn printer(alloc: Global, showing: Showing) -> Printer
 
 /// How a command ends once its report was due: it was printed, or standard output did not take all of it.
 pub(crate) fn ended<'a>(printed: Result<(), OutputFault>) -> Result<(), LabFault<'a>>
-    ensures { EndsAs printed result }
+    ensures { EndsAsPrinted printed result }
 {
     match printed {
         Ok(()) => Ok(()),

@@ -25,7 +25,7 @@ use std::alloc::Global;
 
 /// The commands that the program has. What the word `report` asks for, and the command `verify`, are of the crate above.
 pub fn commands_grammar() -> Grammar<'static>
-    ensures { program_app result ≡ told.grammar }
+    ensures { program_app result ≡ told.lab_grammar }
 {
     grammar()
 }

@@ -3,7 +3,7 @@ ghost use Rattle.std.specs.Prelude.{◌≡◌, OnOk, OnErr, IfOk, IfErr};
 ghost use Rattle.lab_mend.specs.Rooms.{IsRepairRoom};
 ghost use Rattle.lab_commands.specs.Files.{AnswersNoMore, without_part};
 ghost use Rattle.lab_commands.specs.Undone.{IsFileUnmade};
-ghost use Rattle.lab_commands.specs.Repair.{AreAsked, AreUnasked, HasPutMends, HasPutRepair, IsMended, IsRepairFault, IsUnput, IsUnrepairedBy, WroteRepair, told_tries};
+ghost use Rattle.lab_commands.specs.Repair.{AreAsked, AreUnasked, HasPutMends, HasPutRepair, IsRepairOfDump, IsRepairFault, IsUnput, IsUnrepairedBy, WroteRepair, told_tries};
 
 use crate::bits::bits_at;
 use crate::files::LabFiles;
@@ -27,7 +27,7 @@ fn mend<'a, F: LabFiles>(
     files: &mut F,
 ) -> Result<Repaired<F::Target>, LabFault<'a>>
     requires { IsRepairRoom geometry.now room }
-    ensures made { IfOk result (λ told. IsMended (F.answers files.old) words.now.dump.now geometry.now asked (F.Target.pieces told.target) told.mends.items) }
+    ensures made { IfOk result (λ told. IsRepairOfDump (F.answers files.old) words.now.dump.now geometry.now asked (F.Target.pieces told.target) told.mends.items) }
     ensures fault { IfErr result (IsFileUnmade (F.answers files.old) geometry.now words.now.dump.now words.now.out.now) }
     ensures no_more { AnswersNoMore (F.answers files.old) (F.answers files.new) }
     ensures beside { OnOk result (without_part (F.kept files.new) ≡ F.kept files.old) }

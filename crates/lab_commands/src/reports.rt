@@ -7,7 +7,7 @@ ghost use Rattle.lab_mend.specs.Repairing.{mended_count};
 ghost use Rattle.lab_mend.specs.Tries.{tries_in};
 ghost use Rattle.lab_origin.specs.Origin.{is_mended};
 ghost use Rattle.lab_commands.specs.Lines.{tries_line};
-ghost use Rattle.lab_commands.specs.Reports.{age_text, arrange_text, arranged_fit_text, array_text, blocks_text, compare_text, correct_text, count_lines, doubts_text, ending_text, fits_text, history_text, key_at, keys_text, left_text, losses_text, merge_text, origin_text};
+ghost use Rattle.lab_commands.specs.Reports.{age_text, arrange_text, arranged_fit_text, array_text, blocks_text, compare_text, correct_text, count_lines, doubts_text, ending_text, fits_text, history_text, key_line_at, keys_text, left_text, losses_text, merge_text, origin_text};
 ghost use Rattle.lab_commands.specs.Reports.{repair_text, some_text, survey_lines, survey_text, table_at, ties_text};
 
 use crate::document::{Printer, Report};

@@ -1,7 +1,7 @@
 //! The command `survey GEOM DUMP`.
 ghost use Rattle.std.specs.Prelude.{◌≡◌, OnOk, IfOk, IfErr};
 ghost use Rattle.lab_dump.specs.Rooms.{IsSurveyRoom};
-ghost use Rattle.lab_commands.specs.Survey.{HasSurvey, IsSeen, IsSurveyFault, IsUnseen, IsUnsurveyed, ToldSurvey};
+ghost use Rattle.lab_commands.specs.Survey.{HasSurvey, IsSurveyOfDump, IsSurveyFault, IsUnseen, IsDumpUnsurveyed, ToldSurvey};
 
 use crate::files::LabFiles;
 use crate::opening::{geometry_at, open_file, progress_of};
@@ -25,8 +25,8 @@ fn survey_of<'a, F: LabFiles>(
     files: &mut F,
 ) -> Result<DieSurvey, LabFault<'a>>
     requires { IsSurveyRoom geometry.now room }
-    ensures seen { IfOk result (IsSeen (F.answers files.old) dump.now geometry.now rows) }
-    ensures fault { IfErr result (IsUnsurveyed (F.answers files.old) geometry.now dump.now) }
+    ensures seen { IfOk result (IsSurveyOfDump (F.answers files.old) dump.now geometry.now rows) }
+    ensures fault { IfErr result (IsDumpUnsurveyed (F.answers files.old) geometry.now dump.now) }
     ensures kept { F.kept files.new ≡ F.kept files.old }
 {
     let mut reader = open_file(files, dump, progress_of(showing))?;

@@ -1,7 +1,9 @@
 //! What the program says when a command ends before it is done: one line, and the exit status.
 ghost use Rattle.std.specs.Prelude.{◌≡◌, ◌∷◌, [], ◌++◌, true, OnErr};
-ghost use Rattle.lab_commands.specs.Output.{Puts};
-ghost use Rattle.lab_commands.specs.Text.{IsLabFaultTold, lengths_words, line_of, nearest_words, rest_words, status_of, told_line};
+ghost use Rattle.page_layout.specs.Faults.{broken_limit_words};
+ghost use Rattle.certificate.specs.Faults.{certificate_words};
+ghost use Rattle.lab_commands.specs.Output.{AppendsAllOrPart};
+ghost use Rattle.lab_commands.specs.Text.{IsLabFaultTold, lengths_words, lab_fault_line, nearest_words, rest_words, lab_exit_status, told_lab_line};
 
 use crate::lines::kind_text;
 use crate::names::put_name;
@@ -92,11 +94,11 @@ impl From<AllocError> for LabFault<'_> {
 
 impl LabFault<'_> {
     ghost use Rattle.std.specs.Prelude.{◌≡◌};
-    ghost use Rattle.lab_commands.specs.Text.{status_of};
+    ghost use Rattle.lab_commands.specs.Text.{lab_exit_status};
 
     /// The exit status: 2 where the words are no command or a word is no numbers, 3 where a file or standard output failed, else 1.
     pub fn status(&self) -> u8
-        ensures { result ≡ status_of self.now }
+        ensures { result ≡ lab_exit_status self.now }
     {
         match self {
             LabFault::NoSuchCommand | LabFault::BadNumber(_) | LabFault::BadArrangement(_) => USAGE,
@@ -128,7 +130,7 @@ impl LabFault<'_> {
 
 // A broken limit by its number and its name.
 fn limit(fault: GeometryFault) -> &'static str
-    ensures { result.now ≡ Rattle.lab_commands.specs.Text.limit_words fault }
+    ensures { result.now ≡ broken_limit_words fault }
 {
     match fault {
         GeometryFault::DataSize => "1 DataSize",
@@ -141,7 +143,7 @@ fn limit(fault: GeometryFault) -> &'static str
 
 // Why bytes are no certificate, by its number and its name.
 fn certificate_text(broken: CertFault) -> &'static str
-    ensures { result.now ≡ Rattle.lab_commands.specs.Text.certificate_words broken }
+    ensures { result.now ≡ certificate_words broken }
 {
     match broken {
         CertFault::Magic => "1 Magic",
@@ -179,7 +181,7 @@ enum Rest<'a> {
 
 // The line of a fault, without its line feed: its first words, and the rest.
 fn line<'a>(fault: &LabFault<'a>) -> (&'static str, Rest<'a>)
-    ensures { result.0.now ++ rest_words result.1 ≡ line_of fault.now }
+    ensures { result.0.now ++ rest_words result.1 ≡ lab_fault_line fault.now }
 {
     match *fault {
         LabFault::NoSuchCommand => (
@@ -225,7 +227,7 @@ fn line<'a>(fault: &LabFault<'a>) -> (&'static str, Rest<'a>)
 
 // Writes how many bytes were wanted, and how many were found.
 fn put_lengths<W: Output>(out: &mut W, wanted: u64, found: u64) -> Result<(), OutputFault>
-    ensures bytes { Puts (W.contents out.old) (W.contents out.new) (lengths_words wanted found) result }
+    ensures bytes { AppendsAllOrPart (W.contents out.old) (W.contents out.new) (lengths_words wanted found) result }
     ensures failed { OnErr result (W.failed out.new ≡ true) }
 {
     put_pieces(
@@ -241,7 +243,7 @@ fn put_lengths<W: Output>(out: &mut W, wanted: u64, found: u64) -> Result<(), Ou
 
 // Writes what can be read at a byte.
 fn put_nearest<W: Output>(out: &mut W, found: Legible) -> Result<(), OutputFault>
-    ensures bytes { Puts (W.contents out.old) (W.contents out.new) (nearest_words found) result }
+    ensures bytes { AppendsAllOrPart (W.contents out.old) (W.contents out.new) (nearest_words found) result }
     ensures failed { OnErr result (W.failed out.new ≡ true) }
 {
     put_pieces(
@@ -261,7 +263,7 @@ fn put_nearest<W: Output>(out: &mut W, found: Legible) -> Result<(), OutputFault
 
 // Writes the rest of a line.
 fn put_rest<W: Output>(out: &mut W, rest: Rest<'_>) -> Result<(), OutputFault>
-    ensures bytes { Puts (W.contents out.old) (W.contents out.new) (rest_words rest.entry) result }
+    ensures bytes { AppendsAllOrPart (W.contents out.old) (W.contents out.new) (rest_words rest.entry) result }
     ensures failed { OnErr result (W.failed out.new ≡ true) }
 {
     match rest {
@@ -274,7 +276,7 @@ fn put_rest<W: Output>(out: &mut W, rest: Rest<'_>) -> Result<(), OutputFault>
 
 // Writes a line of first words and the rest, and a line feed.
 fn put_line<W: Output>(out: &mut W, area: &str, rest: Rest<'_>) -> Result<(), OutputFault>
-    ensures bytes { Puts (W.contents out.old) (W.contents out.new) ((area.now ++ rest_words rest.entry) ++ (10 ∷ [])) result }
+    ensures bytes { AppendsAllOrPart (W.contents out.old) (W.contents out.new) ((area.now ++ rest_words rest.entry) ++ (10 ∷ [])) result }
     ensures failed { OnErr result (W.failed out.new ≡ true) }
 {
     out.put(area.as_bytes())?;
@@ -284,7 +286,7 @@ fn put_line<W: Output>(out: &mut W, area: &str, rest: Rest<'_>) -> Result<(), Ou
 
 // Writes the line of a fault, with a line feed: at once, where memory for it is found.
 fn send_line<E: Output>(alloc: Global, fault: &LabFault<'_>, err: &mut E) -> Result<(), OutputFault>
-    ensures bytes { Puts (E.contents err.old) (E.contents err.new) (told_line fault.now) result }
+    ensures bytes { AppendsAllOrPart (E.contents err.old) (E.contents err.new) (told_lab_line fault.now) result }
     ensures failed { OnErr result (E.failed err.new ≡ true) }
 {
     let (area, rest) = line(fault);

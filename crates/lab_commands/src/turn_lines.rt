@@ -10,7 +10,7 @@ use crate::lines::made_text;
 use crate::output::{Output, OutputFault};
 use crate::pieces::Piece::{Number, Words};
 use crate::pieces::{put_count_between, put_pieces};
-use lab_mend::{BitPair, Made, Turn};
+use lab_mend::{BitPair, BitTurn, Made};
 
 // A page that was mended, what it is now, and the bit that was turned.
 fn put_mended<W: Output>(out: &mut W, made: Made, row: u32, bit: u32) -> Result<(), OutputFault>
@@ -53,14 +53,14 @@ fn put_row<W: Output>(out: &mut W, words: &str, row: u32) -> Result<(), OutputFa
 }
 
 /// Prints what came of the page of a row as plain text, without its line feed.
-pub(crate) fn put_turn<W: Output>(out: &mut W, row: u32, turn: Turn) -> Result<(), OutputFault>
+pub(crate) fn put_turn<W: Output>(out: &mut W, row: u32, turn: BitTurn) -> Result<(), OutputFault>
     ensures { Prints (W.failed out.new) (W.contents out.old) (W.contents out.new) (turn_words row turn) result }
 {
     match turn {
-        Turn::One(turned) => put_mended(out, turned.made, row, turned.bit),
-        Turn::Two(pair) => put_pair(out, row, pair),
-        Turn::Tied => put_row(out, "tied row ", row),
-        Turn::Nothing => put_row(out, "tried row ", row),
+        BitTurn::One(turned) => put_mended(out, turned.made, row, turned.bit),
+        BitTurn::Two(pair) => put_pair(out, row, pair),
+        BitTurn::Tied => put_row(out, "tied row ", row),
+        BitTurn::Nothing => put_row(out, "tried row ", row),
     }
 }
 
@@ -122,13 +122,17 @@ fn put_tried_data<W: Output>(out: &mut W, row: u32) -> Result<(), OutputFault>
 }
 
 /// Prints what came of the page of a row as a JSON value.
-pub(crate) fn put_turn_data<W: Output>(out: &mut W, row: u32, turn: Turn) -> Result<(), OutputFault>
+pub(crate) fn put_turn_data<W: Output>(
+    out: &mut W,
+    row: u32,
+    turn: BitTurn,
+) -> Result<(), OutputFault>
     ensures { Prints (W.failed out.new) (W.contents out.old) (W.contents out.new) (compact_text (turn_data row turn)) result }
 {
     match turn {
-        Turn::One(turned) => put_mended_data(out, turned.made, row, turned.bit),
-        Turn::Two(pair) => put_pair_data(out, row, pair),
-        Turn::Tied => put_tied_data(out, row),
-        Turn::Nothing => put_tried_data(out, row),
+        BitTurn::One(turned) => put_mended_data(out, turned.made, row, turned.bit),
+        BitTurn::Two(pair) => put_pair_data(out, row, pair),
+        BitTurn::Tied => put_tied_data(out, row),
+        BitTurn::Nothing => put_tried_data(out, row),
     }
 }

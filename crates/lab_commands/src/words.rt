@@ -1,7 +1,7 @@
 //! The words of the command line: one level of subcommands, with help and a version.
 ghost use Rattle.std.specs.Prelude.{◌≡◌, ◌≢◌, List, ℕ, IfOk, IfSome, None, Err, codes};
 ghost use Rattle.std.specs.Borrow.{Bor};
-ghost use Rattle.program_words.specs.Met.{entries_of, texts};
+ghost use Rattle.program_words.specs.Met.{command_entries, texts};
 ghost use Rattle.lab_commands.specs.declared.words.ArrayWords.{ArrayWords};
 ghost use Rattle.lab_commands.specs.declared.words.CompareWords.{CompareWords};
 ghost use Rattle.lab_commands.specs.declared.words.GeometryWords.{GeometryWords};
@@ -14,7 +14,7 @@ ghost use Rattle.lab_commands.specs.declared.words.SourceWords.{SourceWords};
 ghost use Rattle.lab_commands.specs.declared.words.SurveyWords.{SurveyWords};
 ghost use Rattle.lab_commands.specs.declared.words.UntilWords.{UntilWords};
 ghost use Rattle.lab_commands.specs.declared.words.Asked.{Asked};
-ghost use Rattle.lab_commands.specs.Words.{AreDumpsAt, IsArrayAt, IsAsked, IsAt, IsCompareAt, IsOutAt, IsGeometryAt, IsHistoryAt, IsMergeAt, IsNoCommand, IsRepairAt, IsShowingAt, IsSourceAt, IsSurveyAt, IsUntilAt};
+ghost use Rattle.lab_commands.specs.Words.{AreDumpsAt, IsArrayAt, AsksLabProgram, IsLabCommandAt, IsCompareAt, IsOutAt, IsGeometryAt, IsHistoryAt, IsMergeAt, IsNoLabCommand, IsRepairAt, IsShowingAt, IsSourceAt, IsSurveyAt, IsUntilAt};
 
 use crate::arrange_words::{ArrangeWords, arrange_words};
 use crate::grammar::grammar;
@@ -164,7 +164,7 @@ pub enum Asked<'a> {
 
 /// How a command tells what it does.
 pub(crate) fn showing_words(found: &CommandWords<'_>) -> Showing
-    ensures { IsShowingAt (entries_of found.now) result }
+    ensures { IsShowingAt (command_entries found.now) result }
 {
     Showing {
         json: found.stands("json"),
@@ -174,8 +174,8 @@ pub(crate) fn showing_words(found: &CommandWords<'_>) -> Showing
 
 // The words of the command `geometry`, where they are given.
 fn geometry_words<'a>(found: &CommandWords<'a>) -> Option<GeometryWords<'a>>
-    ensures some { IfSome result (IsGeometryAt (entries_of found.now)) }
-    ensures none { result ≡ None → (read : GeometryWords) → ¬ IsGeometryAt (entries_of found.now) read }
+    ensures some { IfSome result (IsGeometryAt (command_entries found.now)) }
+    ensures none { result ≡ None → (read : GeometryWords) → ¬ IsGeometryAt (command_entries found.now) read }
 {
     Some(GeometryWords {
         dump: found.word("DUMP")?,
@@ -185,8 +185,8 @@ fn geometry_words<'a>(found: &CommandWords<'a>) -> Option<GeometryWords<'a>>
 
 /// The words GEOM and DUMP, where they are given.
 pub(crate) fn source_words<'a>(found: &CommandWords<'a>) -> Option<SourceWords<'a>>
-    ensures some { IfSome result (IsSourceAt (entries_of found.now)) }
-    ensures none { result ≡ None → (read : SourceWords) → ¬ IsSourceAt (entries_of found.now) read }
+    ensures some { IfSome result (IsSourceAt (command_entries found.now)) }
+    ensures none { result ≡ None → (read : SourceWords) → ¬ IsSourceAt (command_entries found.now) read }
 {
     Some(SourceWords {
         geometry: found.word("GEOM")?,
@@ -197,8 +197,8 @@ pub(crate) fn source_words<'a>(found: &CommandWords<'a>) -> Option<SourceWords<'
 
 /// The words of a command that makes a file of a dump, where they are given.
 pub(crate) fn out_words<'a>(found: &CommandWords<'a>) -> Option<OutWords<'a>>
-    ensures some { IfSome result (IsOutAt (entries_of found.now)) }
-    ensures none { result ≡ None → (read : OutWords) → ¬ IsOutAt (entries_of found.now) read }
+    ensures some { IfSome result (IsOutAt (command_entries found.now)) }
+    ensures none { result ≡ None → (read : OutWords) → ¬ IsOutAt (command_entries found.now) read }
 {
     let source = source_words(found)?;
     Some(OutWords {
@@ -212,8 +212,8 @@ pub(crate) fn out_words<'a>(found: &CommandWords<'a>) -> Option<OutWords<'a>>
 
 // The words of the command `correct`, where they are given.
 fn array_words<'a>(found: &CommandWords<'a>) -> Option<ArrayWords<'a>>
-    ensures some { IfSome result (IsArrayAt (entries_of found.now)) }
-    ensures none { result ≡ None → (read : ArrayWords) → ¬ IsArrayAt (entries_of found.now) read }
+    ensures some { IfSome result (IsArrayAt (command_entries found.now)) }
+    ensures none { result ≡ None → (read : ArrayWords) → ¬ IsArrayAt (command_entries found.now) read }
 {
     let file = out_words(found)?;
     Some(ArrayWords {
@@ -228,8 +228,8 @@ fn array_words<'a>(found: &CommandWords<'a>) -> Option<ArrayWords<'a>>
 
 // The words of the command `array`, where they are given.
 fn until_words<'a>(found: &CommandWords<'a>) -> Option<UntilWords<'a>>
-    ensures some { IfSome result (IsUntilAt (entries_of found.now)) }
-    ensures none { result ≡ None → (read : UntilWords) → ¬ IsUntilAt (entries_of found.now) read }
+    ensures some { IfSome result (IsUntilAt (command_entries found.now)) }
+    ensures none { result ≡ None → (read : UntilWords) → ¬ IsUntilAt (command_entries found.now) read }
 {
     Some(UntilWords {
         array: array_words(found)?,
@@ -240,8 +240,8 @@ fn until_words<'a>(found: &CommandWords<'a>) -> Option<UntilWords<'a>>
 
 // The words of the command `history`, where they are given.
 fn history_words<'a>(found: &CommandWords<'a>) -> Option<HistoryWords<'a>>
-    ensures some { IfSome result (IsHistoryAt (entries_of found.now)) }
-    ensures none { result ≡ None → (read : HistoryWords) → ¬ IsHistoryAt (entries_of found.now) read }
+    ensures some { IfSome result (IsHistoryAt (command_entries found.now)) }
+    ensures none { result ≡ None → (read : HistoryWords) → ¬ IsHistoryAt (command_entries found.now) read }
 {
     let source = source_words(found)?;
     Some(HistoryWords {
@@ -254,8 +254,8 @@ fn history_words<'a>(found: &CommandWords<'a>) -> Option<HistoryWords<'a>>
 
 // The words of the command `survey`, where they are given.
 fn survey_words<'a>(found: &CommandWords<'a>) -> Option<SurveyWords<'a>>
-    ensures some { IfSome result (IsSurveyAt (entries_of found.now)) }
-    ensures none { result ≡ None → (read : SurveyWords) → ¬ IsSurveyAt (entries_of found.now) read }
+    ensures some { IfSome result (IsSurveyAt (command_entries found.now)) }
+    ensures none { result ≡ None → (read : SurveyWords) → ¬ IsSurveyAt (command_entries found.now) read }
 {
     let source = source_words(found)?;
     Some(SurveyWords {
@@ -268,8 +268,8 @@ fn survey_words<'a>(found: &CommandWords<'a>) -> Option<SurveyWords<'a>>
 
 // The words of the command `compare`, where they are given.
 fn compare_words<'a>(found: &CommandWords<'a>) -> Option<CompareWords<'a>>
-    ensures some { IfSome result (IsCompareAt (entries_of found.now)) }
-    ensures none { result ≡ None → (read : CompareWords) → ¬ IsCompareAt (entries_of found.now) read }
+    ensures some { IfSome result (IsCompareAt (command_entries found.now)) }
+    ensures none { result ≡ None → (read : CompareWords) → ¬ IsCompareAt (command_entries found.now) read }
 {
     let source = source_words(found)?;
     Some(CompareWords {
@@ -282,8 +282,8 @@ fn compare_words<'a>(found: &CommandWords<'a>) -> Option<CompareWords<'a>>
 
 // The words of the command `repair`, where they are given.
 fn repair_words<'a>(found: &CommandWords<'a>) -> Option<RepairWords<'a>>
-    ensures some { IfSome result (IsRepairAt (entries_of found.now)) }
-    ensures none { result ≡ None → (read : RepairWords) → ¬ IsRepairAt (entries_of found.now) read }
+    ensures some { IfSome result (IsRepairAt (command_entries found.now)) }
+    ensures none { result ≡ None → (read : RepairWords) → ¬ IsRepairAt (command_entries found.now) read }
 {
     let file = out_words(found)?;
     Some(RepairWords {
@@ -299,8 +299,8 @@ fn repair_words<'a>(found: &CommandWords<'a>) -> Option<RepairWords<'a>>
 
 // The dumps of the command `merge`, where there are two or more.
 fn dump_words<'b, 'a>(found: &'b CommandWords<'a>) -> Option<&'b [&'a str]>
-    ensures some { IfSome result (λ dumps. AreDumpsAt (entries_of found.now) dumps.now) }
-    ensures none { result ≡ None → (dumps : List (Bor (List ℕ))) → ¬ AreDumpsAt (entries_of found.now) dumps }
+    ensures some { IfSome result (λ dumps. AreDumpsAt (command_entries found.now) dumps.now) }
+    ensures none { result ≡ None → (dumps : List (Bor (List ℕ))) → ¬ AreDumpsAt (command_entries found.now) dumps }
 {
     let dumps = found.words("DUMP")?;
     if dumps.len() < 2 { None } else { Some(dumps) }
@@ -308,9 +308,9 @@ fn dump_words<'b, 'a>(found: &'b CommandWords<'a>) -> Option<&'b [&'a str]>
 
 // The words of the command `merge`, where they are given: these dumps, and the others.
 fn merge_others<'a>(found: &CommandWords<'a>, dumps: Vec<&'a str>) -> Option<MergeWords<'a>>
-    requires { AreDumpsAt (entries_of found.now) dumps.items }
-    ensures some { IfSome result (IsMergeAt (entries_of found.now)) }
-    ensures none { result ≡ None → (read : MergeWords) → ¬ IsMergeAt (entries_of found.now) read }
+    requires { AreDumpsAt (command_entries found.now) dumps.items }
+    ensures some { IfSome result (IsMergeAt (command_entries found.now)) }
+    ensures none { result ≡ None → (read : MergeWords) → ¬ IsMergeAt (command_entries found.now) read }
 {
     Some(MergeWords {
         geometry: found.word("GEOM")?,
@@ -323,8 +323,8 @@ fn merge_others<'a>(found: &CommandWords<'a>, dumps: Vec<&'a str>) -> Option<Mer
 
 // What the command `merge` asks for, with these words.
 fn merge_asked<'a>(alloc: Global, found: &CommandWords<'a>) -> Result<Asked<'a>, GrammarFault>
-    ensures some { IfOk result (IsAt (codes "merge") (entries_of found.now)) }
-    ensures none { result ≡ Err GrammarFault.NoSuchCommand → (asked : Asked) → ¬ IsAt (codes "merge") (entries_of found.now) asked }
+    ensures some { IfOk result (IsLabCommandAt (codes "merge") (command_entries found.now)) }
+    ensures none { result ≡ Err GrammarFault.NoSuchCommand → (asked : Asked) → ¬ IsLabCommandAt (codes "merge") (command_entries found.now) asked }
 {
     let Some(dumps) = dump_words(found) else {
         return Err(GrammarFault::NoSuchCommand);
@@ -339,8 +339,8 @@ fn merge_asked<'a>(alloc: Global, found: &CommandWords<'a>) -> Result<Asked<'a>,
 
 // What the command of this name asks for, with these words, but for `merge` and `origin`.
 fn other_asked<'a>(name: &str, found: &CommandWords<'a>) -> Option<Asked<'a>>
-    ensures some { IfSome result (IsAt name.now (entries_of found.now)) }
-    ensures none { result ≡ None → name.now ≢ codes "merge" → name.now ≢ codes "origin" → (asked : Asked) → ¬ IsAt name.now (entries_of found.now) asked }
+    ensures some { IfSome result (IsLabCommandAt name.now (command_entries found.now)) }
+    ensures none { result ≡ None → name.now ≢ codes "merge" → name.now ≢ codes "origin" → (asked : Asked) → ¬ IsLabCommandAt name.now (command_entries found.now) asked }
 {
     match name {
         "geometry" => geometry_words(found).map(Asked::Geometry),
@@ -361,8 +361,8 @@ fn asked_at<'a>(
     name: &str,
     found: &CommandWords<'a>,
 ) -> Result<Asked<'a>, GrammarFault>
-    ensures some { IfOk result (IsAt name.now (entries_of found.now)) }
-    ensures none { result ≡ Err GrammarFault.NoSuchCommand → (asked : Asked) → ¬ IsAt name.now (entries_of found.now) asked }
+    ensures some { IfOk result (IsLabCommandAt name.now (command_entries found.now)) }
+    ensures none { result ≡ Err GrammarFault.NoSuchCommand → (asked : Asked) → ¬ IsLabCommandAt name.now (command_entries found.now) asked }
 {
     match name {
         "merge" => merge_asked(alloc, found),
@@ -382,8 +382,8 @@ fn asked_at<'a>(
 /// `NoSuchCommand` where `clap` refuses the words for another reason than that they ask for help or the version, or where they name no command
 /// with its words. `OutOfMemory` where a growth was refused.
 pub fn parse<'a>(alloc: Global, words: &'a [&'a str]) -> Result<Asked<'a>, GrammarFault>
-    ensures ok { IfOk result (IsAsked (texts words.now)) }
-    ensures none { result ≡ Err GrammarFault.NoSuchCommand → IsNoCommand (texts words.now) }
+    ensures ok { IfOk result (AsksLabProgram (texts words.now)) }
+    ensures none { result ≡ Err GrammarFault.NoSuchCommand → IsNoLabCommand (texts words.now) }
 {
     match read_words(alloc, &grammar(), words) {
         Ok(Met::Command { name, words }) => asked_at(alloc, name, &words),

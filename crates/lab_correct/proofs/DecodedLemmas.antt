@@ -19,11 +19,12 @@ use Rattle.page_code.proofs.Rights.{find_fits}
 use Rattle.page_code.proofs.Puts.{put_right_law}
 use Rattle.std.proofs.lemmas.Bool.{eqb-true}
 use Rattle.page_layout.specs.Sound.{record_of, is_filled}
-use Rattle.lab_dump.specs.declared.look.Look.TheVariants.{Unsound}
-use Rattle.lab_dump.specs.Look.{look_of}
+use Rattle.page_layout.specs.declared.look.PageLook.TheVariants.{Unsound}
+use Rattle.page_layout.specs.PageLook.{look_of}
 use Rattle.lab_dump.proofs.PieceLemmas.{piece_of, pieces_size}
 use Rattle.lab_correct.specs.CodedLaws.{LostPageLaw, NearPageLaw}
-use Rattle.lab_dump.specs.Pages.{page_in, page_at}
+use Rattle.lab_dump.specs.PageBytes.{page_from_bytes}
+use Rattle.lab_dump.specs.Pages.{dump_page_at}
 use Rattle.lab_correct.specs.Decoded.{decoded, decoded_at, decoded_bytes, raw_size}
 
 -- ---- sizes
@@ -88,8 +89,8 @@ within raw size row l =
     let few : size / raw * raw ≤ size = omega arith in
     omega arith
 
-row_sized : (d s row : ℕ) (all : List ℕ) → row < length all / raw_size d s → HasSizes d s (page_at d (outer_size d s) all row)
-unfolding page_at
+row_sized : (d s row : ℕ) (all : List ℕ) → row < length all / raw_size d s → HasSizes d s (dump_page_at d (outer_size d s) all row)
+unfolding dump_page_at
 row_sized d s row all l =
     let raw = raw_size d s in
     let end = within raw (length all) row l in
@@ -103,7 +104,7 @@ piece d s all row = bytes_of_page (decoded_at d s all row)
 
 piece_sized : (d s row : ℕ) (all : List ℕ) → row < length all / raw_size d s → length (piece d s all row) ≡ d + s
 piece_sized d s row all l =
-    let p = decoded_sized d s (page_at d (outer_size d s) all row) (row_sized d s row all l) in
+    let p = decoded_sized d s (dump_page_at d (outer_size d s) all row) (row_sized d s row all l) in
     omega (arith, length-append (decoded_at d s all row).body (decoded_at d s all row).spare, p.body, p.spare)
 
 pub length-decoded_bytes : (d s : ℕ) (all : List ℕ) → length (decoded_bytes d s all) ≡ length all / raw_size d s * (d + s)
@@ -111,26 +112,26 @@ unfolding decoded_bytes
 length-decoded_bytes d s all = pieces_size (piece d s all) (d + s) 0 (length all / raw_size d s) (λ r l. piece_sized d s r all (omega arith))
 
 -- THE PAGE OF A ROW of the dump without the codes is that of the chip, so read
-pub decoded_page : (d s row : ℕ) (all : List ℕ) → row < length all / raw_size d s → page_at d s (decoded_bytes d s all) row ≡ decoded_at d s all row
-unfolding decoded_bytes page_at
+pub decoded_page : (d s row : ℕ) (all : List ℕ) → row < length all / raw_size d s → dump_page_at d s (decoded_bytes d s all) row ≡ decoded_at d s all row
+unfolding decoded_bytes dump_page_at
 decoded_page d s row all l =
     let p : Page = decoded_at d s all row in
-    let sized = decoded_sized d s (page_at d (outer_size d s) all row) (row_sized d s row all l) in
+    let sized = decoded_sized d s (dump_page_at d (outer_size d s) all row) (row_sized d s row all l) in
     let one : row * (d + s) + (d + s) - row * (d + s) ≡ d + s = omega arith in
-    ap (page_in d) (ap (λ k. take k (drop (row * (d + s)) (concat (map (piece d s all) (range_with_len 0 (length all / raw_size d s)))))) one
+    ap (page_from_bytes d) (ap (λ k. take k (drop (row * (d + s)) (concat (map (piece d s all) (range_with_len 0 (length all / raw_size d s)))))) one
     ∙ piece_of (piece d s all) (d + s) (length all / raw_size d s) row (λ r i. piece_sized d s r all i) l)
     ∙ (ap (λ b. page b (drop d (p.body ++ p.spare))) (take_at p.body p.spare d sized.body) ∙ ap (page p.body) (drop_at p.body p.spare d sized.body))
 
 -- a page that was read of a row of the chip, and what it was made into
-pub read_is : (d s m n row at : ℕ) (all raw bytes : List ℕ) → m ≡ raw_size d s → n ≡ raw_size d s → at ≡ row → raw ≡ slice_range all (at * m) (at * m + n) → bytes ≡ bytes_of_page (decoded d s (page_in d raw)) → row < length all / raw_size d s
-    → page_in d bytes ≡ page_at d s (decoded_bytes d s all) row
-unfolding page_at
+pub read_is : (d s m n row at : ℕ) (all raw bytes : List ℕ) → m ≡ raw_size d s → n ≡ raw_size d s → at ≡ row → raw ≡ slice_range all (at * m) (at * m + n) → bytes ≡ bytes_of_page (decoded d s (page_from_bytes d raw)) → row < length all / raw_size d s
+    → page_from_bytes d bytes ≡ dump_page_at d s (decoded_bytes d s all) row
+unfolding dump_page_at
 read_is d s m n row at all raw bytes size whole place is made l =
-    let there : page_in d raw ≡ page_at d (outer_size d s) all row =
-    ap (page_in d) (is ∙ (ap (λ k. slice_range all (at * m) (at * m + k)) whole ∙ (ap (λ k. slice_range all (at * k) (at * k + raw_size d s)) size ∙ ap (λ k. slice_range all (k * raw_size d s) (k * raw_size d s + raw_size d s)) place))) in
+    let there : page_from_bytes d raw ≡ dump_page_at d (outer_size d s) all row =
+    ap (page_from_bytes d) (is ∙ (ap (λ k. slice_range all (at * m) (at * m + k)) whole ∙ (ap (λ k. slice_range all (at * k) (at * k + raw_size d s)) size ∙ ap (λ k. slice_range all (k * raw_size d s) (k * raw_size d s + raw_size d s)) place))) in
     let p : Page = decoded_at d s all row in
-    let sized = decoded_sized d s (page_at d (outer_size d s) all row) (row_sized d s row all l) in
-    ap (page_in d) (made ∙ ap (λ r. bytes_of_page (decoded d s r)) there)
+    let sized = decoded_sized d s (dump_page_at d (outer_size d s) all row) (row_sized d s row all l) in
+    ap (page_from_bytes d) (made ∙ ap (λ r. bytes_of_page (decoded d s r)) there)
     ∙ ((ap (λ b. page b (drop d (p.body ++ p.spare))) (take_at p.body p.spare d sized.body) ∙ ap (page p.body) (drop_at p.body p.spare d sized.body)) ∙ sym (decoded_page d s row all l))
 
 -- ---- what it is

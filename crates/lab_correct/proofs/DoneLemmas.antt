@@ -14,15 +14,15 @@ use Rattle.page_code.specs.Corrected.{lost_chunks, IsPutRight, AreBytesOf}
 use Rattle.page_code.proofs.Puts.{put_right_law}
 use Rattle.lab_dump.specs.Scan.{IsTaken}
 use Rattle.lab_correct.specs.declared.correcting.Loss.{Loss}
-use Rattle.lab_correct.specs.Correcting.{piece_of, loss_at, losses_from, Shows, CorrectingStands}
+use Rattle.lab_correct.specs.Correcting.{corrected_piece, loss_at, losses_from, ShowsCorrected, CorrectingStands}
 use Rattle.lab_correct.proofs.ChipLemmas.{rows_same}
 use Rattle.lab_correct.specs.Corrected.{IsCorrectedOf, IsCorrected, IsOwnCorrected, CorrectedLaw}
 
-all_pieces : (g : Geometry) (all : ℕ) (seen : Image) (pieces : Option (List (List ℕ))) → IfSome pieces (λ ps. length ps ≡ all) → IfSome pieces (λ ps. take all ps ≡ map (piece_of g) seen) → IfSome pieces (λ ps. ps ≡ map (piece_of g) seen)
+all_pieces : (g : Geometry) (all : ℕ) (seen : Image) (pieces : Option (List (List ℕ))) → IfSome pieces (λ ps. length ps ≡ all) → IfSome pieces (λ ps. take all ps ≡ map (corrected_piece g) seen) → IfSome pieces (λ ps. ps ≡ map (corrected_piece g) seen)
 all_pieces g all seen None size h = tt
 all_pieces g all seen (Some ps) size h = sym (take_all all ps (omega arith)) ∙ h
 
-all_of : (g : Geometry) (all : ℕ) (seen : Image) (pieces : Option (List (List ℕ))) (turned touched : ℕ) (losses : List Loss) → IfSome pieces (λ ps. length ps ≡ all) → Shows g all seen pieces turned touched losses → IsCorrectedOf g seen pieces turned touched losses
+all_of : (g : Geometry) (all : ℕ) (seen : Image) (pieces : Option (List (List ℕ))) (turned touched : ℕ) (losses : List Loss) → IfSome pieces (λ ps. length ps ≡ all) → ShowsCorrected g all seen pieces turned touched losses → IsCorrectedOf g seen pieces turned touched losses
 all_of g all seen pieces turned touched losses size h = record {
   pieces_are = all_pieces g all seen pieces size h.pieces_are;
   turned_is = h.turned_is;
@@ -40,11 +40,11 @@ own_done g chip scratch turned touched losses capacity pieces h = record {
 }
 
 pub done : (g chip : Geometry) (scratch : List ℕ) (turned touched : ℕ) (losses : List Loss) (capacity : ℕ) (pieces : Option (List (List ℕ))) (bytes : List ℕ) → CorrectingStands g chip (row_count chip) scratch turned touched losses capacity pieces
-    → IsTaken chip (λ image. Shows g (row_count chip) (take (row_count chip) image) pieces turned touched losses) bytes → IsCorrected g chip pieces turned touched losses bytes
+    → IsTaken chip (λ image. ShowsCorrected g (row_count chip) (take (row_count chip) image) pieces turned touched losses) bytes → IsCorrected g chip pieces turned touched losses bytes
 done g chip scratch turned touched losses capacity pieces bytes h taken = record {
   whole = taken.whole;
   pages = all_of g (row_count chip) (raw_image chip bytes) pieces turned touched losses h.sized
-      (subst (λ (seen : Image). Shows g (row_count chip) seen pieces turned touched losses) (take_all (row_count chip) (raw_image chip bytes) (omega (arith, length-raw_image chip bytes))) taken.shown);
+      (subst (λ (seen : Image). ShowsCorrected g (row_count chip) seen pieces turned touched losses) (take_all (row_count chip) (raw_image chip bytes) (omega (arith, length-raw_image chip bytes))) taken.shown);
 }
 
 -- ---- the law
@@ -62,11 +62,11 @@ none_from g at (r ∷ rs) h =
 
 pub corrected_law : CorrectedLaw
 corrected_law g chip image pieces turned touched losses bytes of whole fits h near = record {
-  pieces_are = h.pages.pieces_are ∙ same_lists (map (piece_of g) pages) (map bytes_of_page image) (length-map pages (piece_of g) ∙ (size ∙ sym (length-map image bytes_of_page)))
+  pieces_are = h.pages.pieces_are ∙ same_lists (map (corrected_piece g) pages) (map bytes_of_page image) (length-map pages (corrected_piece g) ∙ (size ∙ sym (length-map image bytes_of_page)))
       (λ k d l. (
-      let here : k < length pages = omega (arith, length-map pages (piece_of g)) in
+      let here : k < length pages = omega (arith, length-map pages (corrected_piece g)) in
       let there : k < length image = omega (arith, size) in
-      get_or-map (piece_of g) pages k (page [] []) d here ∙ (ap bytes_of_page (put k here there).page_is ∙ sym (get_or-map bytes_of_page image k (page [] []) d there))));
+      get_or-map (corrected_piece g) pages k (page [] []) d here ∙ (ap bytes_of_page (put k here there).page_is ∙ sym (get_or-map bytes_of_page image k (page [] []) d there))));
   none_lost = h.pages.losses_are ∙ none_from g 0 pages (λ row r at.
       let here = slice_get_within pages row r at in
       let there : row < length image = omega (arith, size) in

@@ -5,7 +5,7 @@ use Rattle.std.proofs.KnownBytes.{Appends-nil, Appends-trans}
 use Rattle.std.proofs.lemmas.List.{get_or-map}
 use Rattle.lab_dump.specs.declared.mark.MapMark.TheVariants.{Finished}
 use Rattle.lab_correct.specs.declared.correcting.Loss.{Loss}
-use Rattle.lab_correct.specs.Map.{parts_below, part_text, loss_text, next_row, row_at}
+use Rattle.lab_correct.specs.Map.{parts_below, rows_text, loss_text, next_row, row_at}
 
 pub parts_none : (size : ℕ) (losses : List Loss) (o : Option (List ℕ)) → Appends o o (parts_below size losses 0)
 unfolding parts_below
@@ -23,5 +23,5 @@ parts_then size losses n next row a b d e f before here =
     subst (λ t. Appends a d t) (parts_more size losses n)
     (Appends-trans a b d _ _ before (subst (λ t. Appends b d t) (ap (λ k. loss_text size k row) e ∙ ap (λ k. loss_text size (next_row losses n) k) f) here))
 
-pub part_is : (size first first' end end' : ℕ) → first ≡ first' → end ≡ end' → part_text size first end Finished ≡ part_text size first' end' Finished
-part_is size first first' end end' e f = ap (λ k. part_text size k end Finished) e ∙ ap (λ k. part_text size first' k Finished) f
+pub part_is : (size first first' end end' : ℕ) → first ≡ first' → end ≡ end' → rows_text size first end Finished ≡ rows_text size first' end' Finished
+part_is size first first' end end' e f = ap (λ k. rows_text size k end Finished) e ∙ ap (λ k. rows_text size first' k Finished) f

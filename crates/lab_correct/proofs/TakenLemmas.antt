@@ -13,7 +13,7 @@ use Rattle.page_code.specs.Chip.{IsChipOf}
 use Rattle.page_code.specs.Near.{HasChipSizes}
 use Rattle.page_code.specs.Corrected.{turned_bits, lost_chunks}
 use Rattle.lab_correct.specs.declared.correcting.Loss.{Loss}
-use Rattle.lab_correct.specs.Correcting.{IsPieceMade, piece_of, touches, loss_at, losses_from, noted, Shows, CorrectingStands}
+use Rattle.lab_correct.specs.Correcting.{IsPieceMade, corrected_piece, touches, loss_at, losses_from, losses_with_row, ShowsCorrected, CorrectingStands}
 
 -- ---- lists
 
@@ -32,7 +32,7 @@ cons_few : (o : Option Loss) → length (cons_option o []) ≤ 1
 cons_few None = omega arith
 cons_few (Some x) = omega arith
 
-losses_more : (g : Geometry) (at rows : ℕ) (seen : Image) (r : Page) → at + length seen ≡ rows → losses_from g at (seen ++ r ∷ []) ≡ noted (losses_from g at seen) rows (lost_chunks g r)
+losses_more : (g : Geometry) (at rows : ℕ) (seen : Image) (r : Page) → at + length seen ≡ rows → losses_from g at (seen ++ r ∷ []) ≡ losses_with_row (losses_from g at seen) rows (lost_chunks g r)
 losses_more g at rows [] r e = let same : at ≡ rows = omega arith in ap (λ k. cons_option (loss_at k (lost_chunks g r)) []) same
 losses_more g at rows (x ∷ xs) r e =
     ap (λ z. cons_option (loss_at at (lost_chunks g x)) z) (losses_more g (at + 1) rows xs r (omega arith))
@@ -43,34 +43,34 @@ sum_more f seen r = omega (arith, sum_by-append f seen (r ∷ []))
 
 -- ---- one page more
 
-pieces_more : (g : Geometry) (rows all : ℕ) (seen : Image) (r : Page) (pieces : Option (List (List ℕ))) (scratch : List ℕ) → rows < all → IfSome pieces (λ ps. length ps ≡ all) → IfSome pieces (λ ps. take rows ps ≡ map (piece_of g) seen)
-    → scratch ≡ piece_of g r → IfSome (option_map (λ ps. set ps rows scratch) pieces) (λ ps. take (rows + 1) ps ≡ map (piece_of g) (seen ++ r ∷ []))
+pieces_more : (g : Geometry) (rows all : ℕ) (seen : Image) (r : Page) (pieces : Option (List (List ℕ))) (scratch : List ℕ) → rows < all → IfSome pieces (λ ps. length ps ≡ all) → IfSome pieces (λ ps. take rows ps ≡ map (corrected_piece g) seen)
+    → scratch ≡ corrected_piece g r → IfSome (option_map (λ ps. set ps rows scratch) pieces) (λ ps. take (rows + 1) ps ≡ map (corrected_piece g) (seen ++ r ∷ []))
 pieces_more g rows all seen r None scratch l size h is = tt
 pieces_more g rows all seen r (Some ps) scratch l size h is =
-    take_more_set ps rows scratch (omega arith) ∙ (ap (λ z. z ++ scratch ∷ []) h ∙ (ap (λ b. map (piece_of g) seen ++ b ∷ []) is ∙ sym (map-append (piece_of g) seen (r ∷ []))))
+    take_more_set ps rows scratch (omega arith) ∙ (ap (λ z. z ++ scratch ∷ []) h ∙ (ap (λ b. map (corrected_piece g) seen ++ b ∷ []) is ∙ sym (map-append (corrected_piece g) seen (r ∷ []))))
 
 -- what is counted of one page
 pub record IsNoted (g : Geometry) (row : ℕ) (r : Page) (turned touched : ℕ) (losses : List Loss) (turned' touched' : ℕ) (losses' : List Loss) : Type 0 where
   pub turned_is : turned' ≡ turned + turned_bits g r
   pub touched_is : touched' ≡ touched + touches (turned_bits g r)
-  pub losses_are : losses' ≡ noted losses row (lost_chunks g r)
+  pub losses_are : losses' ≡ losses_with_row losses row (lost_chunks g r)
 
 pub shows_more : (g : Geometry) (rows all : ℕ) (seen : Image) (r : Page) (pieces : Option (List (List ℕ))) (scratch : List ℕ) (turned touched : ℕ) (losses : List Loss) (turned' touched' : ℕ) (losses' : List Loss)
-    → rows < all → IfSome pieces (λ ps. length ps ≡ all) → length seen ≡ rows → scratch ≡ piece_of g r → IsNoted g rows r turned touched losses turned' touched' losses' → Shows g rows seen pieces turned touched losses
-    → Shows g (rows + 1) (seen ++ r ∷ []) (option_map (λ ps. set ps rows scratch) pieces) turned' touched' losses'
+    → rows < all → IfSome pieces (λ ps. length ps ≡ all) → length seen ≡ rows → scratch ≡ corrected_piece g r → IsNoted g rows r turned touched losses turned' touched' losses' → ShowsCorrected g rows seen pieces turned touched losses
+    → ShowsCorrected g (rows + 1) (seen ++ r ∷ []) (option_map (λ ps. set ps rows scratch) pieces) turned' touched' losses'
 shows_more g rows all seen r pieces scratch turned touched losses turned' touched' losses' l size count is counted h = record {
   pieces_are = pieces_more g rows all seen r pieces scratch l size h.pieces_are is;
   turned_is = counted.turned_is ∙ (ap (λ n. n + turned_bits g r) h.turned_is ∙ sym (sum_more (turned_bits g) seen r));
   touched_is = counted.touched_is ∙ (ap (λ n. n + touches (turned_bits g r)) h.touched_is ∙ sym (sum_more (λ p. touches (turned_bits g p)) seen r));
-  losses_are = counted.losses_are ∙ (ap (λ xs. noted xs rows (lost_chunks g r)) h.losses_are ∙ sym (losses_more g 0 rows seen r (omega arith)));
+  losses_are = counted.losses_are ∙ (ap (λ xs. losses_with_row xs rows (lost_chunks g r)) h.losses_are ∙ sym (losses_more g 0 rows seen r (omega arith)));
 }
 
 -- the same of an image whose next page it is
 pub shows_next : (g : Geometry) (rows all : ℕ) (image : Image) (r : Page) (pieces : Option (List (List ℕ))) (scratch : List ℕ) (turned touched : ℕ) (losses : List Loss) (turned' touched' : ℕ) (losses' : List Loss)
-    → rows < all → IfSome pieces (λ ps. length ps ≡ all) → scratch ≡ piece_of g r → IsNoted g rows r turned touched losses turned' touched' losses' → Shows g rows (take rows image) pieces turned touched losses → slice_get image rows ≡ Some r
-    → Shows g (rows + 1) (take (rows + 1) image) (option_map (λ ps. set ps rows scratch) pieces) turned' touched' losses'
+    → rows < all → IfSome pieces (λ ps. length ps ≡ all) → scratch ≡ corrected_piece g r → IsNoted g rows r turned touched losses turned' touched' losses' → ShowsCorrected g rows (take rows image) pieces turned touched losses → slice_get image rows ≡ Some r
+    → ShowsCorrected g (rows + 1) (take (rows + 1) image) (option_map (λ ps. set ps rows scratch) pieces) turned' touched' losses'
 shows_next g rows all image r pieces scratch turned touched losses turned' touched' losses' l size is counted h at =
-    subst (λ (seen : Image). Shows g (rows + 1) seen (option_map (λ ps. set ps rows scratch) pieces) turned' touched' losses') (sym (one_more image rows r at))
+    subst (λ (seen : Image). ShowsCorrected g (rows + 1) seen (option_map (λ ps. set ps rows scratch) pieces) turned' touched' losses') (sym (one_more image rows r at))
     (shows_more g rows all (take rows image) r pieces scratch turned touched losses turned' touched' losses' l size (few_taken image rows r at) is counted h)
 
 touches_few : (n : ℕ) → touches n ≤ 1
@@ -88,7 +88,7 @@ one_all : (g : Geometry) (r : Page) → HasChipSizes g r → All (HasChipSizes g
 one_all g r h = All-cons (HasChipSizes g) r [] h (All-nil (HasChipSizes g))
 
 pub stands_more : (g chip : Geometry) (rows : ℕ) (r : Page) (scratch scratch' : List ℕ) (turned touched : ℕ) (losses : List Loss) (turned' touched' : ℕ) (losses' : List Loss) (capacity capacity' : ℕ) (pieces : Option (List (List ℕ)))
-    → rows < row_count chip → HasChipSizes g r → scratch' ≡ piece_of g r → length scratch' ≡ page_bytes g → turned_bits g r ≤ 32 → capacity' ≡ capacity → IsNoted g rows r turned touched losses turned' touched' losses'
+    → rows < row_count chip → HasChipSizes g r → scratch' ≡ corrected_piece g r → length scratch' ≡ page_bytes g → turned_bits g r ≤ 32 → capacity' ≡ capacity → IsNoted g rows r turned touched losses turned' touched' losses'
     → CorrectingStands g chip rows scratch turned touched losses capacity pieces → CorrectingStands g chip (rows + 1) scratch' turned' touched' losses' capacity' (option_map (λ ps. set ps rows scratch') pieces)
 stands_more g chip rows r scratch scratch' turned touched losses turned' touched' losses' capacity capacity' pieces l sizes is size few same counted h = record {
   of = h.of;
@@ -108,11 +108,11 @@ stands_more g chip rows r scratch scratch' turned touched losses turned' touched
 
 -- ---- before the first page
 
-none_pieces : (g : Geometry) (pieces : Option (List (List ℕ))) → IfSome pieces (λ ps. take 0 ps ≡ map (piece_of g) [])
+none_pieces : (g : Geometry) (pieces : Option (List (List ℕ))) → IfSome pieces (λ ps. take 0 ps ≡ map (corrected_piece g) [])
 none_pieces g None = tt
 none_pieces g (Some ps) = refl
 
-pub shows_none : (g : Geometry) (pieces : Option (List (List ℕ))) (losses : List Loss) → losses ≡ [] → Shows g 0 [] pieces 0 0 losses
+pub shows_none : (g : Geometry) (pieces : Option (List (List ℕ))) (losses : List Loss) → losses ≡ [] → ShowsCorrected g 0 [] pieces 0 0 losses
 shows_none g pieces losses e = record { pieces_are = none_pieces g pieces; turned_is = refl; touched_is = refl; losses_are = e }
 
 pub stands_none : (g chip : Geometry) (scratch : List ℕ) (losses : List Loss) (capacity : ℕ) (pieces : Option (List (List ℕ))) → IsChipOf g chip → length scratch ≡ page_bytes g → losses ≡ [] → row_count chip ≤ capacity
@@ -131,16 +131,16 @@ stands_none g chip scratch losses capacity pieces of size none room sized = reco
 -- ---- as a taker has it
 
 noted_as : (g : Geometry) (row : ℕ) (r : Page) (scratch : List ℕ) (here lost turned touched : ℕ) (losses : List Loss) (turned' touched' : ℕ) (losses' : List Loss) → IsPieceMade g r here lost scratch → turned' ≡ turned + here → touched' ≡ touched + touches here
-    → losses' ≡ noted losses row lost → IsNoted g row r turned touched losses turned' touched' losses'
+    → losses' ≡ losses_with_row losses row lost → IsNoted g row r turned touched losses turned' touched' losses'
 noted_as g row r scratch here lost turned touched losses turned' touched' losses' made e f h = record {
   turned_is = e ∙ ap (λ n. turned + n) made.turned_is;
   touched_is = f ∙ ap (λ n. touched + touches n) made.turned_is;
-  losses_are = h ∙ ap (noted losses row) made.lost_is;
+  losses_are = h ∙ ap (losses_with_row losses row) made.lost_is;
 }
 
 pub stands_put : (g g' chip : Geometry) (row : ℕ) (r : Page) (scratch scratch' bytes : List ℕ) (turned touched : ℕ) (losses : List Loss) (turned' touched' : ℕ) (losses' : List Loss) (capacity : ℕ) (capacity' here lost : ℕ) (pieces pieces' : Option (List (List ℕ)))
     → g' ≡ g → scratch' ≡ scratch → pieces' ≡ option_map (λ ps. set ps row bytes) pieces → bytes ≡ scratch' → row < row_count chip → here ≤ 32 → HasChipSizes g r → capacity' ≡ capacity → turned' ≡ turned + here → touched' ≡ touched + touches here
-    → losses' ≡ noted losses row lost → IsPieceMade g r here lost scratch → CorrectingStands g chip row scratch turned touched losses capacity pieces → CorrectingStands g' chip (row + 1) scratch' turned' touched' losses' capacity' pieces'
+    → losses' ≡ losses_with_row losses row lost → IsPieceMade g r here lost scratch → CorrectingStands g chip row scratch turned touched losses capacity pieces → CorrectingStands g' chip (row + 1) scratch' turned' touched' losses' capacity' pieces'
 stands_put g g' chip row r scratch scratch' bytes turned touched losses turned' touched' losses' capacity capacity' here lost pieces pieces' same kept put is l few sizes room e f h made stands =
     let counted = noted_as g row r scratch here lost turned touched losses turned' touched' losses' made e f h in
     let after = stands_more g chip row r scratch scratch turned touched losses turned' touched' losses' capacity capacity' pieces l sizes made.piece stands.scratch_size (let t = made.turned_is in omega arith) room counted stands in
@@ -150,15 +150,15 @@ stands_put g g' chip row r scratch scratch' bytes turned touched losses turned' 
 
 pub shows_put : (g g' chip : Geometry) (row : ℕ) (image : Image) (r : Page) (scratch scratch' bytes : List ℕ) (turned touched : ℕ) (losses : List Loss) (turned' touched' : ℕ) (losses' : List Loss) (here lost : ℕ) (pieces pieces' : Option (List (List ℕ)))
     → g' ≡ g → scratch' ≡ scratch → pieces' ≡ option_map (λ ps. set ps row bytes) pieces → bytes ≡ scratch' → row < row_count chip → IfSome pieces (λ ps. length ps ≡ row_count chip) → turned' ≡ turned + here → touched' ≡ touched + touches here
-    → losses' ≡ noted losses row lost → IsPieceMade g r here lost scratch → Shows g row (take row image) pieces turned touched losses → slice_get image row ≡ Some r → Shows g' (row + 1) (take (row + 1) image) pieces' turned' touched' losses'
+    → losses' ≡ losses_with_row losses row lost → IsPieceMade g r here lost scratch → ShowsCorrected g row (take row image) pieces turned touched losses → slice_get image row ≡ Some r → ShowsCorrected g' (row + 1) (take (row + 1) image) pieces' turned' touched' losses'
 shows_put g g' chip row image r scratch scratch' bytes turned touched losses turned' touched' losses' here lost pieces pieces' same kept put is l size e f h made shown at =
     let counted = noted_as g row r scratch here lost turned touched losses turned' touched' losses' made e f h in
     let after = shows_next g row (row_count chip) image r pieces scratch turned touched losses turned' touched' losses' l size made.piece counted shown at in
     let file : pieces' ≡ option_map (λ ps. set ps row scratch) pieces = put ∙ ap (λ b. option_map (λ ps. set ps row b) pieces) (is ∙ kept) in
-    subst (λ (k : Geometry). Shows k (row + 1) (take (row + 1) image) pieces' turned' touched' losses') (sym same)
-    (subst (λ x. Shows g (row + 1) (take (row + 1) image) x turned' touched' losses') (sym file) after)
+    subst (λ (k : Geometry). ShowsCorrected k (row + 1) (take (row + 1) image) pieces' turned' touched' losses') (sym same)
+    (subst (λ x. ShowsCorrected g (row + 1) (take (row + 1) image) x turned' touched' losses') (sym file) after)
 
-pub made_by : (g : Geometry) (body spare : List ℕ) (turned lost : ℕ) (scratch : List ℕ) → scratch ≡ piece_of g (page body spare) → turned ≡ turned_bits g (page body spare) → lost ≡ lost_chunks g (page body spare) → IsPieceMade g (page body spare) turned lost scratch
+pub made_by : (g : Geometry) (body spare : List ℕ) (turned lost : ℕ) (scratch : List ℕ) → scratch ≡ corrected_piece g (page body spare) → turned ≡ turned_bits g (page body spare) → lost ≡ lost_chunks g (page body spare) → IsPieceMade g (page body spare) turned lost scratch
 made_by g body spare turned lost scratch e f h = record { piece = e; turned_is = f; lost_is = h }
 
 pub sizes_by : (g chip : Geometry) (body spare : List ℕ) → IsChipOf g chip → length body ≡ chip.data_bytes → length spare ≡ chip.spare_bytes → HasChipSizes g (page body spare)

@@ -4,9 +4,9 @@ use Rattle.page_layout.specs.declared.geometry.Geometry.{Geometry}
 use Rattle.page_layout.specs.Page.{Page, IsPage}
 use Rattle.page_code.specs.Near.{IsNear, HasChipSizes}
 use Rattle.page_code.specs.Corrected.{AreBytesOf, lost_chunks}
-use Rattle.lab_dump.specs.declared.look.Look.TheVariants.{Unsound}
-use Rattle.lab_dump.specs.Look.{look_of}
-use Rattle.lab_dump.specs.Pages.{page_at}
+use Rattle.page_layout.specs.declared.look.PageLook.TheVariants.{Unsound}
+use Rattle.page_layout.specs.PageLook.{look_of}
+use Rattle.lab_dump.specs.Pages.{dump_page_at}
 use Rattle.lab_correct.specs.Decoded.{decoded, decoded_at, decoded_bytes, raw_size}
 
 -- a page with at most one wrong bit in each chunk is as good as one without: it is read as it was written
@@ -23,4 +23,4 @@ DecodedSizeLaw = (data_bytes spare_bytes : ℕ) (all : List ℕ) → length (dec
 
 -- and that is the chip's, so read
 abbrev pub DecodedRowLaw : Type 0
-DecodedRowLaw = (data_bytes spare_bytes row : ℕ) (all : List ℕ) → row < length all / raw_size data_bytes spare_bytes → page_at data_bytes spare_bytes (decoded_bytes data_bytes spare_bytes all) row ≡ decoded_at data_bytes spare_bytes all row
+DecodedRowLaw = (data_bytes spare_bytes row : ℕ) (all : List ℕ) → row < length all / raw_size data_bytes spare_bytes → dump_page_at data_bytes spare_bytes (decoded_bytes data_bytes spare_bytes all) row ≡ decoded_at data_bytes spare_bytes all row

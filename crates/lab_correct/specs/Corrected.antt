@@ -9,12 +9,12 @@ use Rattle.page_code.specs.Chip.{IsChipOf}
 use Rattle.page_code.specs.Near.{IsNear, HasChipSizes}
 use Rattle.lab_dump.specs.Scan.{image_bytes}
 use Rattle.lab_correct.specs.declared.correcting.Loss.{Loss}
-use Rattle.lab_correct.specs.Correcting.{piece_of, turned_in, touched_in, losses_from}
+use Rattle.lab_correct.specs.Correcting.{corrected_piece, turned_in_image, touched_in, losses_from}
 
 -- the pieces are those of the chip's pages, each put right, and the counts are theirs
 pub record IsCorrectedOf (g : Geometry) (pages : Image) (pieces : Option (List (List ℕ))) (turned touched : ℕ) (losses : List Loss) : Type 0 where
-  pub pieces_are : IfSome pieces (λ ps. ps ≡ map (piece_of g) pages)
-  pub turned_is : turned ≡ turned_in g pages
+  pub pieces_are : IfSome pieces (λ ps. ps ≡ map (corrected_piece g) pages)
+  pub turned_is : turned ≡ turned_in_image g pages
   pub touched_is : touched ≡ touched_in g pages
   pub losses_are : losses ≡ losses_from g 0 pages
 

@@ -13,8 +13,8 @@ use Rattle.lab_correct.specs.declared.correcting.Loss.{Loss}
 -- ---- of a page
 
 -- the bytes that are written of a page of the chip
-abbrev pub piece_of : Geometry → Page → List ℕ
-piece_of g r = bytes_of_page (corrected_page g r)
+abbrev pub corrected_piece : Geometry → Page → List ℕ
+corrected_piece g r = bytes_of_page (corrected_page g r)
 
 -- one where some bit was turned back
 abbrev pub touches : ℕ → ℕ
@@ -26,15 +26,15 @@ loss_at row chunks = if chunks == 0 then None else Some (record { row = row; chu
 
 -- these bytes and counts are those of a page
 pub record IsPieceMade (g : Geometry) (r : Page) (turned lost : ℕ) (scratch : List ℕ) : Type 0 where
-  pub piece : scratch ≡ piece_of g r
+  pub piece : scratch ≡ corrected_piece g r
   pub turned_is : turned ≡ turned_bits g r
   pub lost_is : lost ≡ lost_chunks g r
 
 -- ---- of all pages
 
 -- how many bits are turned back, and of how many pages
-abbrev pub turned_in : Geometry → Image → ℕ
-turned_in g image = sum_by (turned_bits g) image
+abbrev pub turned_in_image : Geometry → Image → ℕ
+turned_in_image g image = sum_by (turned_bits g) image
 
 abbrev pub touched_in : Geometry → Image → ℕ
 touched_in g image = sum_by (λ r. touches (turned_bits g r)) image
@@ -45,15 +45,15 @@ losses_from g row [] = []
 losses_from g row (r ∷ rs) = cons_option (loss_at row (lost_chunks g r)) (losses_from g (row + 1) rs)
 
 -- a list of losses with one row more
-abbrev pub noted : List Loss → ℕ → ℕ → List Loss
-noted losses row chunks = losses ++ cons_option (loss_at row chunks) []
+abbrev pub losses_with_row : List Loss → ℕ → ℕ → List Loss
+losses_with_row losses row chunks = losses ++ cons_option (loss_at row chunks) []
 
 -- ---- as they are taken
 
 -- the first pieces are those of these pages, and the counts are theirs
-pub record Shows (g : Geometry) (rows : ℕ) (seen : Image) (pieces : Option (List (List ℕ))) (turned touched : ℕ) (losses : List Loss) : Type 0 where
-  pub pieces_are : IfSome pieces (λ ps. take rows ps ≡ map (piece_of g) seen)
-  pub turned_is : turned ≡ turned_in g seen
+pub record ShowsCorrected (g : Geometry) (rows : ℕ) (seen : Image) (pieces : Option (List (List ℕ))) (turned touched : ℕ) (losses : List Loss) : Type 0 where
+  pub pieces_are : IfSome pieces (λ ps. take rows ps ≡ map (corrected_piece g) seen)
+  pub turned_is : turned ≡ turned_in_image g seen
   pub touched_is : touched ≡ touched_in g seen
   pub losses_are : losses ≡ losses_from g 0 seen
 
@@ -62,7 +62,7 @@ pub record HasSeen (g : Geometry) (rows : ℕ) (pieces : Option (List (List ℕ)
   pub seen : Image
   pub count : length seen ≡ rows
   pub sized : All (HasChipSizes g) seen
-  pub shows : Shows g rows seen pieces turned touched losses
+  pub shows : ShowsCorrected g rows seen pieces turned touched losses
 
 pub record CorrectingStands (g chip : Geometry) (rows : ℕ) (scratch : List ℕ) (turned touched : ℕ) (losses : List Loss) (capacity : ℕ) (pieces : Option (List (List ℕ))) : Type 0 where
   pub of : IsChipOf g chip

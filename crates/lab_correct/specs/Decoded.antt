@@ -5,7 +5,7 @@ use Rattle.page_layout.specs.Page.{Page, page}
 use Rattle.page_layout.specs.Raw.{bytes_of_page}
 use Rattle.page_code.specs.Layout.{outer_size}
 use Rattle.page_code.specs.Corrected.{corrected_areas, lost_areas}
-use Rattle.lab_dump.specs.Pages.{page_at}
+use Rattle.lab_dump.specs.Pages.{dump_page_at}
 
 -- A page of a chip, put right where none of its chunks is lost; else one of 00h bytes, which is neither erased nor sound. The sizes are those of
 -- its areas without the codes.
@@ -18,7 +18,7 @@ raw_size data_bytes spare_bytes = data_bytes + outer_size data_bytes spare_bytes
 
 -- the page of a row of the chip, so read
 abbrev pub decoded_at : ℕ → ℕ → List ℕ → ℕ → Page
-decoded_at data_bytes spare_bytes all row = decoded data_bytes spare_bytes (page_at data_bytes (outer_size data_bytes spare_bytes) all row)
+decoded_at data_bytes spare_bytes all row = decoded data_bytes spare_bytes (dump_page_at data_bytes (outer_size data_bytes spare_bytes) all row)
 
 -- THE DUMP WITHOUT THE CODES: the pages of the chip, so read, one behind another
 unfoldable pub decoded_bytes : ℕ → ℕ → List ℕ → List ℕ

@@ -9,12 +9,12 @@ use Rattle.lab_dump.specs.Map.{area_words, map_head}
 use Rattle.lab_correct.specs.declared.correcting.Loss.{Loss}
 
 -- the line of the rows from the first one to the one before the end, if there are any, of pages of this size
-abbrev pub part_text : ℕ → ℕ → ℕ → MapMark → List ℕ
-part_text size first end mark = if nat_le end first then [] else area_words (first * size) ((end - first) * size) mark ++ (10 ∷ [])
+abbrev pub rows_text : ℕ → ℕ → ℕ → MapMark → List ℕ
+rows_text size first end mark = if nat_le end first then [] else area_words (first * size) ((end - first) * size) mark ++ (10 ∷ [])
 
 -- the lines of a lost row, and of the rows since this one
 abbrev pub loss_text : ℕ → ℕ → ℕ → List ℕ
-loss_text size next row = part_text size next row Finished ++ part_text size row (row + 1) Bad
+loss_text size next row = rows_text size next row Finished ++ rows_text size row (row + 1) Bad
 
 -- the row of a loss
 abbrev pub row_at : List Loss → ℕ → ℕ
@@ -32,4 +32,4 @@ parts_below size losses (suc n) = parts_below size losses n ++ loss_text size (n
 -- THE MAP of a dump with these losses
 abbrev pub loss_map_text : Geometry → List Loss → List ℕ
 loss_map_text g losses =
-    map_head Dump ++ (parts_below (page_bytes g) losses (length losses) ++ part_text (page_bytes g) (next_row losses (length losses)) (row_count g) Finished)
+    map_head Dump ++ (parts_below (page_bytes g) losses (length losses) ++ rows_text (page_bytes g) (next_row losses (length losses)) (row_count g) Finished)

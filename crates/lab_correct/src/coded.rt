@@ -1,7 +1,7 @@
 //! The geometries that fit a dump whose pages stand with their codes.
 ghost use Rattle.std.specs.Prelude.{◌≡◌, ◌++◌, ◌+◌, ◌*◌, ◌/◌, ◌≤◌, List, ℕ, length, vec_capacity, IfSome, IfNone, OnOk, OnErr, Some, false, true};
 ghost use Rattle.page_layout.specs.Limits.{IsDataSize, IsSpareSize};
-ghost use Rattle.lab_dump.specs.Fits.{Adds};
+ghost use Rattle.lab_dump.specs.Fits.{AddsFits};
 ghost use Rattle.page_code.specs.Layout.{outer_size};
 ghost use Rattle.lab_correct.specs.Decoded.{raw_size};
 ghost use Rattle.lab_correct.specs.Coded.{are_coded_pages, coded_area_fits, coded_data_fits, coded_fits};
@@ -43,7 +43,7 @@ fn add_coded_areas<D: Dump>(
     requires page_room { 4352 ≤ length page.old }
     requires place { length fits.old.items + 7 ≤ vec_capacity fits.old }
     ensures added { OnOk result ((all : List ℕ) → D.bytes dump.old ≡ Some all → size ≡ length all → fits.new.items ≡ fits.old.items ++ coded_area_fits all data_bytes spare_bytes) }
-    ensures any { OnOk result (Adds 7 fits.old.items fits.new.items) }
+    ensures any { OnOk result (AddsFits 7 fits.old.items fits.new.items) }
     ensures places { OnOk result (vec_capacity fits.new ≡ vec_capacity fits.old) }
     ensures source { OnErr result (D.failed dump.new ≡ true) }
     ensures same { D.bytes dump.new ≡ D.bytes dump.old }
@@ -79,7 +79,7 @@ fn add_coded_data<D: Dump>(
     requires page_room { 4352 ≤ length page.old }
     requires place { length fits.old.items + 1575 ≤ vec_capacity fits.old }
     ensures added { OnOk result ((all : List ℕ) → D.bytes dump.old ≡ Some all → size ≡ length all → fits.new.items ≡ fits.old.items ++ coded_data_fits all data_bytes) }
-    ensures any { OnOk result (Adds 1575 fits.old.items fits.new.items) }
+    ensures any { OnOk result (AddsFits 1575 fits.old.items fits.new.items) }
     ensures places { OnOk result (vec_capacity fits.new ≡ vec_capacity fits.old) }
     ensures source { OnErr result (D.failed dump.new ≡ true) }
     ensures same { D.bytes dump.new ≡ D.bytes dump.old }
@@ -102,7 +102,7 @@ pub(crate) fn add_coded<D: Dump>(
     requires page_room { 4352 ≤ length page.old }
     requires place { length fits.old.items + 11025 ≤ vec_capacity fits.old }
     ensures added { OnOk result ((all : List ℕ) → D.bytes dump.old ≡ Some all → size ≡ length all → fits.new.items ≡ fits.old.items ++ coded_fits all) }
-    ensures any { OnOk result (Adds 11025 fits.old.items fits.new.items) }
+    ensures any { OnOk result (AddsFits 11025 fits.old.items fits.new.items) }
     ensures source { OnErr result (D.failed dump.new ≡ true) }
     ensures same { D.bytes dump.new ≡ D.bytes dump.old }
 {

@@ -3,7 +3,8 @@ ghost use Rattle.std.specs.Prelude.{◌≡◌, ◌+◌, ◌*◌, ◌/◌, ◌≤
 ghost use Rattle.page_layout.specs.Geometry.{page_bytes};
 ghost use Rattle.page_layout.specs.Raw.{bytes_of_page};
 ghost use Rattle.page_code.specs.Layout.{outer_size};
-ghost use Rattle.lab_dump.specs.Pages.{page_at, page_in};
+ghost use Rattle.lab_dump.specs.PageBytes.{page_from_bytes};
+ghost use Rattle.lab_dump.specs.Pages.{dump_page_at};
 ghost use Rattle.lab_correct.specs.Decoded.{decoded, decoded_bytes, raw_size};
 
 use lab_dump::{Dump, DumpFault};
@@ -30,7 +31,7 @@ fn clear(page: &mut [u8])
 fn decode(geometry: &Geometry, raw: &[u8], page: &mut [u8])
     requires raw_whole { length raw.now ≡ raw_size geometry.now.data_bytes geometry.now.spare_bytes }
     requires page_whole { length page.old ≡ page_bytes geometry.now }
-    ensures { page.new ≡ bytes_of_page (decoded geometry.now.data_bytes geometry.now.spare_bytes (page_in geometry.now.data_bytes raw.now)) }
+    ensures { page.new ≡ bytes_of_page (decoded geometry.now.data_bytes geometry.now.spare_bytes (page_from_bytes geometry.now.data_bytes raw.now)) }
 {
     let (body, outer) = raw.split_at(geometry.data_bytes());
     let tally = correct_page(geometry, body, outer, page);
@@ -50,7 +51,7 @@ pub(crate) fn read_decoded<D: Dump>(
     requires raw_whole { length raw.old ≡ raw_size geometry.now.data_bytes geometry.now.spare_bytes }
     requires page_whole { length page.old ≡ page_bytes geometry.now }
     ensures read { OnOk result ((all : List ℕ) → D.bytes dump.old ≡ Some all → row < length all / raw_size geometry.now.data_bytes geometry.now.spare_bytes
-        → page_in geometry.now.data_bytes page.new ≡ page_at geometry.now.data_bytes geometry.now.spare_bytes (decoded_bytes geometry.now.data_bytes geometry.now.spare_bytes all) row) }
+        → page_from_bytes geometry.now.data_bytes page.new ≡ dump_page_at geometry.now.data_bytes geometry.now.spare_bytes (decoded_bytes geometry.now.data_bytes geometry.now.spare_bytes all) row) }
     ensures failed { OnErr result (D.failed dump.new ≡ true) }
     ensures same { D.bytes dump.new ≡ D.bytes dump.old }
 {

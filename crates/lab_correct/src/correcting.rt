@@ -3,7 +3,7 @@ ghost use Rattle.std.specs.Prelude.{◌≡◌, ◌<◌, ◌≤◌, ◌+◌, ◌^
 ghost use Rattle.page_layout.specs.Geometry.{row_count};
 ghost use Rattle.page_layout.specs.Page.{Page, Image};
 ghost use Rattle.page_code.specs.Near.{HasChipSizes};
-ghost use Rattle.lab_correct.specs.Correcting.{CorrectingStands, IsPieceMade, Shows, noted, touches};
+ghost use Rattle.lab_correct.specs.Correcting.{CorrectingStands, IsPieceMade, ShowsCorrected, losses_with_row, touches};
 
 use lab_dump::{Areas, PageTarget, Stopped, Taker};
 use page_code::{Tally, correct_page};
@@ -35,7 +35,7 @@ pub struct Correcting<T> {
 // Lists a row where chunks of it are lost. The list has room for it.
 fn list_loss(losses: &mut Vec<Loss>, row: u32, chunks: u32)
     requires { length losses.old.items < vec_capacity losses.old }
-    ensures noted { losses.new.items ≡ noted losses.old.items row chunks }
+    ensures noted { losses.new.items ≡ losses_with_row losses.old.items row chunks }
     ensures room { vec_capacity losses.new ≡ vec_capacity losses.old }
 {
     if chunks > 0 {
@@ -51,7 +51,7 @@ impl<T: PageTarget> Correcting<T> {
         requires room { length self.old.losses.items < vec_capacity self.old.losses }
         ensures turned { self.new.turned ≡ self.old.turned + tally.turned }
         ensures touched { self.new.touched ≡ self.old.touched + touches tally.turned }
-        ensures losses { self.new.losses.items ≡ noted self.old.losses.items row tally.lost }
+        ensures losses { self.new.losses.items ≡ losses_with_row self.old.losses.items row tally.lost }
         ensures room { vec_capacity self.new.losses ≡ vec_capacity self.old.losses }
         ensures geometry { self.new.geometry ≡ self.old.geometry }
         ensures scratch { self.new.scratch ≡ self.old.scratch }
@@ -72,9 +72,9 @@ impl<T: PageTarget> Correcting<T> {
         ensures failed { OnErr result (T.failed self.new.target ≡ true) }
         ensures stands { OnOk result ((r : Page) → HasChipSizes self.old.geometry r → IsPieceMade self.old.geometry r tally.turned tally.lost self.old.scratch.items
             → CorrectingStands self.new.geometry chip.now (row + 1) self.new.scratch.items self.new.turned self.new.touched self.new.losses.items (vec_capacity self.new.losses) (T.pieces self.new.target)) }
-        ensures shows { OnOk result ((image : Image) (r : Page) → Shows self.old.geometry row (take row image) (T.pieces self.old.target) self.old.turned self.old.touched self.old.losses.items → slice_get image row ≡ Some r
+        ensures shows { OnOk result ((image : Image) (r : Page) → ShowsCorrected self.old.geometry row (take row image) (T.pieces self.old.target) self.old.turned self.old.touched self.old.losses.items → slice_get image row ≡ Some r
             → IsPieceMade self.old.geometry r tally.turned tally.lost self.old.scratch.items
-            → Shows self.new.geometry (row + 1) (take (row + 1) image) (T.pieces self.new.target) self.new.turned self.new.touched self.new.losses.items) }
+            → ShowsCorrected self.new.geometry (row + 1) (take (row + 1) image) (T.pieces self.new.target) self.new.turned self.new.touched self.new.losses.items) }
     {
         self.note(row, tally);
         match self.target.put_page(row, &self.scratch) {
@@ -88,11 +88,11 @@ impl<T: PageTarget> Taker for Correcting<T> {
     ghost use Rattle.std.specs.Prelude.{◌≡◌, ◌<◌, ◌+◌, ℕ, length, slice_get, take, true, vec_capacity, OnOk, OnErr, Some};
     ghost use Rattle.page_layout.specs.Geometry.{row_count};
     ghost use Rattle.page_layout.specs.Page.{Image, page};
-    ghost use Rattle.lab_correct.specs.Correcting.{CorrectingStands, Shows};
+    ghost use Rattle.lab_correct.specs.Correcting.{CorrectingStands, ShowsCorrected};
 
     ghost stands = { λ s chip rows. CorrectingStands s.geometry chip rows s.scratch.items s.turned s.touched s.losses.items (vec_capacity s.losses) (T.pieces s.target) };
 
-    ghost shows = { λ s chip rows image. Shows s.geometry rows (take rows image) (T.pieces s.target) s.turned s.touched s.losses.items };
+    ghost shows = { λ s chip rows image. ShowsCorrected s.geometry rows (take rows image) (T.pieces s.target) s.turned s.touched s.losses.items };
 
     ghost stopped = { λ s. T.failed s.target ≡ true };
 

@@ -2,7 +2,7 @@
 ghost use Rattle.std.specs.Prelude.{◌≡◌, ◌+◌, ◌*◌, ◌<◌, ◌≤◌, true, OnOk, OnErr, length};
 ghost use Rattle.std.specs.Io.KnownBytes.{Appends};
 ghost use Rattle.page_layout.specs.Geometry.{page_bytes};
-ghost use Rattle.lab_correct.specs.Map.{loss_map_text, next_row, part_text, parts_below, row_at, loss_text};
+ghost use Rattle.lab_correct.specs.Map.{loss_map_text, next_row, rows_text, parts_below, row_at, loss_text};
 
 use crate::correcting::Loss;
 use lab_dump::{Area, LineFault, MapMark, MapWriter, Remark, print_map_head};
@@ -25,7 +25,7 @@ fn print_part<W: MapWriter>(
     mark: MapMark,
 ) -> Result<(), LineFault>
     requires { end ≤ 4294967296 }
-    ensures printed { OnOk result (Appends (W.contents out.old) (W.contents out.new) (part_text (page_bytes geometry.now) first end mark)) }
+    ensures printed { OnOk result (Appends (W.contents out.old) (W.contents out.new) (rows_text (page_bytes geometry.now) first end mark)) }
     ensures failed { OnErr result (W.failed out.new ≡ true) }
 {
     if end <= first {

@@ -5,7 +5,7 @@ use Rattle.std.proofs.lemmas.List.{map-append, take_more}
 use Rattle.std.proofs.lemmas.List.Elements.{All-append, All-cons, All-nil, All-weaker}
 use Rattle.lab_commands.specs.declared.files.Standing.TheVariants as standing
 use Rattle.lab_commands.specs.declared.document.ReportForm.{ReportForm}
-use Rattle.lab_commands.specs.Files.{AnswersNoMore, IsLoaded, StoreAnswers}
+use Rattle.lab_commands.specs.Files.{AnswersNoMore, IsFrontOfFile, StoreAnswers}
 use Rattle.lab_commands.proofs.UndoneLemmas.{opened_before}
 use Rattle.lab_report.specs.declared.note.FileNote.{FileNote}
 use Rattle.lab_report.specs.Note.{Note, Told, note_of}
@@ -15,8 +15,9 @@ use Rattle.lab_custody.specs.declared.checks.Checked.{Checked}
 use Rattle.lab_custody.specs.declared.checks.Verdict.{Verdict}
 use Rattle.lab_custody.specs.declared.checks.Verdict.TheVariants as verdict
 use Rattle.lab_custody.specs.declared.words.VerifyWords.{VerifyWords}
-use Rattle.lab_custody.specs.Verified.{AreAllChecked, HasVerified, IsReportAt, OpensNone, looked_at}
-use Rattle.lab_custody.specs.Verify.{AreChecked, IsChecked, IsUnread, IsVerdict, ReadsNot, noted_in}
+use Rattle.lab_commands.specs.Compare.{looked_at}
+use Rattle.lab_custody.specs.Verified.{AreAllChecked, HasVerified, IsReportAt, OpensNone}
+use Rattle.lab_custody.specs.Verify.{AreChecked, IsChecked, IsNotReadWhole, IsVerdict, ReadsNot, noted_in}
 
 not_read_before : (a b : StoreAnswers) (path : List ℕ) → AnswersNoMore a b → ReadsNot b path → ReadsNot a path
 not_read_before a b path h k = record {
@@ -25,7 +26,7 @@ not_read_before a b path h k = record {
   cut = elim k.cut [ inl failed ↦ inl (h.reads_same failed) | inr long ↦ inr long ];
 }
 
-pub unread_before : (a b : StoreAnswers) (path : List ℕ) → AnswersNoMore a b → IsUnread b path → IsUnread a path
+pub unread_before : (a b : StoreAnswers) (path : List ℕ) → AnswersNoMore a b → IsNotReadWhole b path → IsNotReadWhole a path
 unread_before a b path h (inl (fault, fails)) = inl (fault, h.fails_same path fault fails)
 unread_before a b path h (inr (inl says)) = inr (inl (h.says_same path standing.Other says))
 unread_before a b path h (inr (inr not)) = inr (inr (not_read_before a b path h not))
@@ -75,7 +76,7 @@ pub has_verified : (a b : StoreAnswers) (words : VerifyWords) (told : Told) (che
 has_verified a b words told checks is h k = record { report = told; report_is = is; checked = all_before a b told checks h k }
 
 -- a file that was looked at is no report
-pub opens_none : (a : StoreAnswers) (path bytes given : List ℕ) → IsLoaded a path (2 ^ 26) bytes → given ≡ bytes → IsNoReport given → OpensNone a path
+pub opens_none : (a : StoreAnswers) (path bytes given : List ℕ) → IsFrontOfFile a path (2 ^ 26) bytes → given ≡ bytes → IsNoReport given → OpensNone a path
 opens_none a path bytes given loaded same not = record { known = loaded.known; opened = loaded.opened; none = of_known loaded.known loaded.taken }
   where
     of_known : (known : Option (List ℕ)) → IfSome known (λ all. bytes ≡ take (2 ^ 26) all) → IfSome known (λ all. IsNoReport (looked_at all))

@@ -14,7 +14,7 @@ use Rattle.lab_report.specs.declared.note.Noted.{Noted}
 use Rattle.lab_report.specs.Note.{Note, noted_of}
 use Rattle.lab_custody.specs.declared.fault.CustodyFault.{CustodyFault}
 use Rattle.lab_custody.specs.declared.fault.CustodyFault.TheVariants as fault
-use Rattle.lab_custody.specs.Reported.{AreNoted, IsFileNoted, IsSomeUnnoted, IsUnnoted, IsUnstored}
+use Rattle.lab_custody.specs.Reported.{AreNoted, IsFileNoted, IsSomeUnnoted, IsUnnoted, IsReportUnstored}
 use Rattle.lab_custody.proofs.CheckLemmas.{unread_before}
 
 -- a fault that a `?` hands on
@@ -71,7 +71,7 @@ some_unnoted a b paths i d told within h k =
       subst (λ path. IsUnnoted a path told) (sym (path_in paths i d within)) (unnoted_before a b (get_or paths i d).now told h k),
     )
 
-pub unstored_before : (a b : StoreAnswers) (path : List ℕ) (told : CustodyFault) → AnswersNoMore a b → IsUnstored b path told → IsUnstored a path told
+pub unstored_before : (a b : StoreAnswers) (path : List ℕ) (told : CustodyFault) → AnswersNoMore a b → IsReportUnstored b path told → IsReportUnstored a path told
 unstored_before a b path fault.ReportExists h k = h.taken_same path k
 unstored_before a b path (fault.Lab (lab.Write word)) h k = (k.0, h.fails_same path file.Failed k.1)
 unstored_before a b path (fault.Lab lab.OutOfMemory) h k = tt

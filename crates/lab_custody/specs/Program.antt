@@ -14,21 +14,21 @@ use Rattle.lab_custody.specs.declared.words.Custody.TheVariants as custody
 use Rattle.lab_custody.specs.declared.words.ReportedWords.{ReportedWords}
 use Rattle.lab_custody.specs.declared.words.VerifyWords.{VerifyWords}
 use Rattle.lab_custody.specs.Fault.{IsCustodyFaultTold}
-use Rattle.lab_custody.specs.Reported.{AreNoted, IsSomeUnnoted, IsUnstored, MayNotReport, MayReport, told_of_run}
+use Rattle.lab_custody.specs.Reported.{AreNoted, IsSomeUnnoted, IsReportUnstored, MayNotReport, MayReport, told_of_run}
 use Rattle.lab_custody.specs.Verified.{IsVerifyFault, ToldVerified}
 use Rattle.lab_custody.specs.Words.{IsCustody}
 
 -- ---- a report
 
 -- why a command was not begun: no report may be written, memory was refused before a file was opened, or a file that it reads cannot be read
-abbrev pub IsUnbegun : StoreAnswers → ReportedWords → (opens opened : Option ℕ) → CustodyFault → Type 0
-IsUnbegun a asked opens opened told =
+abbrev pub IsCommandUnbegun : StoreAnswers → ReportedWords → (opens opened : Option ℕ) → CustodyFault → Type 0
+IsCommandUnbegun a asked opens opened told =
     MayNotReport a asked.file.now (texts asked.wrote.items) told
     ⊎ (MayReport a asked.file.now (texts asked.wrote.items) × (((told ≡ fault.Lab lab.OutOfMemory) × (opened ≡ opens)) ⊎ IsSomeUnnoted a (texts asked.read.items) told))
 
 -- why no report was written of one that was done: a file that it wrote cannot be read, or the report was not stored
 abbrev pub IsUnfinished : StoreAnswers → ReportedWords → CustodyFault → Type 0
-IsUnfinished a asked told = IsSomeUnnoted a (texts asked.wrote.items) told ⊎ IsUnstored a asked.file.now told
+IsUnfinished a asked told = IsSomeUnnoted a (texts asked.wrote.items) told ⊎ IsReportUnstored a asked.file.now told
 
 -- the report was put in its place, over no file: it says these words, these files that were read, and those that were written as they were put in their places
 pub record WroteReport (a : StoreAnswers) (words : List (List ℕ)) (asked : ReportedWords) (read : List Note) (before after : Option Store) : Type 0 where
@@ -57,7 +57,7 @@ pub record HasReported {F : Type 0} (answers : F → StoreAnswers) (kept : F →
 -- it was not begun, and nothing was done
 pub record IsNotBegun {F : Type 0} (answers : F → StoreAnswers) (kept : F → Option Store) (opened : F → Option ℕ) (asked : ReportedWords) (old new : F) (out err : Written) (status : ℕ) : Type 0 where
   pub why : CustodyFault
-  pub is : IsUnbegun (answers old) asked (opened old) (opened new) why
+  pub is : IsCommandUnbegun (answers old) asked (opened old) (opened new) why
   pub same : kept new ≡ kept old
   pub silent : Keeps out.before out.after
   pub told : IsCustodyFaultTold why err.broke err.before err.after status

@@ -8,7 +8,7 @@ use Rattle.lab_commands.specs.Files.{IsAsPut, IsFileOpened, StandsAtPath, Store,
 use Rattle.lab_report.specs.Note.{Note, Told}
 use Rattle.lab_custody.specs.declared.fault.CustodyFault.{CustodyFault}
 use Rattle.lab_custody.specs.declared.fault.CustodyFault.TheVariants as fault
-use Rattle.lab_custody.specs.Verify.{IsStill, IsUnread}
+use Rattle.lab_custody.specs.Verify.{IsStill, IsNotReadWhole}
 
 -- ---- whether it may be written
 
@@ -49,7 +49,7 @@ AreNoted a kept (path ∷ paths) (note ∷ notes) = IsFileNoted a kept path note
 
 -- one was not read whole, or the files had no memory to open it
 abbrev pub IsUnnoted : StoreAnswers → List ℕ → CustodyFault → Type 0
-IsUnnoted a path (fault.Lab (lab.Read told)) = (told.now ≡ path) × IsUnread a path
+IsUnnoted a path (fault.Lab (lab.Read told)) = (told.now ≡ path) × IsNotReadWhole a path
 IsUnnoted a path (fault.Lab lab.OutOfMemory) = a.fails path file.OutOfMemory
 IsUnnoted a path _ = ⊥
 
@@ -63,8 +63,8 @@ abbrev pub told_of_run : List (List ℕ) → List Note → List Note → Told
 told_of_run words read wrote = record { program = codes "nandlab"; version = version_text; words = words; read = read; wrote = wrote }
 
 -- it was not put in its place: a call failed, memory was refused, or another file has its name meanwhile
-abbrev pub IsUnstored : StoreAnswers → List ℕ → CustodyFault → Type 0
-IsUnstored a path fault.ReportExists = a.taken path
-IsUnstored a path (fault.Lab (lab.Write told)) = (told.now ≡ path) × a.fails path file.Failed
-IsUnstored a path (fault.Lab lab.OutOfMemory) = Unit {0}
-IsUnstored a path _ = ⊥
+abbrev pub IsReportUnstored : StoreAnswers → List ℕ → CustodyFault → Type 0
+IsReportUnstored a path fault.ReportExists = a.taken path
+IsReportUnstored a path (fault.Lab (lab.Write told)) = (told.now ≡ path) × a.fails path file.Failed
+IsReportUnstored a path (fault.Lab lab.OutOfMemory) = Unit {0}
+IsReportUnstored a path _ = ⊥

@@ -1,4 +1,5 @@
 -- What the command `verify` comes to.
+use Rattle.lab_commands.specs.Compare.{looked_at}
 use Rattle.std.specs.Prelude.{◌≡◌, ◌⊎◌, ◌<◌, ◌^◌, ◌++◌, ℕ, suc, Bool, true, if◌then◌else◌, All, List, codes, map, take, Option, Some, option_map, IfSome}
 use Rattle.std.specs.Io.KnownBytes.{Appends, Keeps}
 use Rattle.request_stream.specs.Frames.{AppendsPart}
@@ -17,10 +18,6 @@ use Rattle.lab_custody.specs.Lines.{verify_text}
 use Rattle.lab_custody.specs.Verify.{IsChecked, changed_count, noted_in}
 
 -- ---- the report
-
--- so many bytes of a report's file are looked at
-abbrev pub looked_at : List ℕ → List ℕ
-looked_at bytes = take (2 ^ 26) bytes
 
 -- the file's bytes, as far as they are known, say this report
 pub record IsReportAt (a : StoreAnswers) (path : List ℕ) (told : Told) : Type 0 where
@@ -48,8 +45,8 @@ pub record AreAllChecked (a : StoreAnswers) (told : Told) (checks : List Checked
   pub each : All (IsChecked a) checks
   pub noted : map noted_in checks ≡ told.read ++ told.wrote
 
-abbrev pub form_of : VerifyWords → ReportForm
-form_of words = if words.json then Json else Text
+abbrev pub form_of_verify : VerifyWords → ReportForm
+form_of_verify words = if words.json then Json else Text
 
 -- the file is a report, and this is said of its files
 pub record HasVerified (a : StoreAnswers) (words : VerifyWords) (checks : List Checked) : Type 0 where
@@ -62,7 +59,7 @@ pub record ToldVerified (a : StoreAnswers) (words : VerifyWords) (out printed : 
   pub checks : List Checked
   pub has : HasVerified a words checks
   pub same : changed_count checks ≡ 0
-  pub told : Appends out printed (verify_text (form_of words) checks)
+  pub told : Appends out printed (verify_text (form_of_verify words) checks)
 
 -- ---- not done, or not the same
 
@@ -76,4 +73,4 @@ IsHalfTold broke out printed due changed _ = ⊥
 abbrev pub IsVerifyFault : StoreAnswers → VerifyWords → (opens opened : Option ℕ) → (broke : Bool) → Option (List ℕ) → Option (List ℕ) → CustodyFault → Type 0
 IsVerifyFault a words opens opened broke out printed told =
     (Keeps out printed × (opened ≡ option_map suc opens) × IsNoReportAt a words.report.now told)
-    ⊎ ((checks : List Checked) × HasVerified a words checks × IsHalfTold broke out printed (verify_text (form_of words) checks) (changed_count checks) told)
+    ⊎ ((checks : List Checked) × HasVerified a words checks × IsHalfTold broke out printed (verify_text (form_of_verify words) checks) (changed_count checks) told)

@@ -33,15 +33,15 @@ pub record ReadsNot (a : StoreAnswers) (path : List ℕ) : Type 0 where
   pub cut : a.reads_fail ⊎ IfSome known (λ bytes. 2 ^ 64 ≤ length bytes)
 
 -- a call that names it failed, or what stands there is no file, or it was not read whole
-abbrev pub IsUnread : StoreAnswers → List ℕ → Type 0
-IsUnread a path = ((fault : LabFileFault) × a.fails path fault) ⊎ a.says path standing.Other ⊎ ReadsNot a path
+abbrev pub IsNotReadWhole : StoreAnswers → List ℕ → Type 0
+IsNotReadWhole a path = ((fault : LabFileFault) × a.fails path fault) ⊎ a.says path standing.Other ⊎ ReadsNot a path
 
 -- WHAT IS SAID OF A FILE IS SO
 abbrev pub IsVerdict : StoreAnswers → Note → Verdict → Type 0
 IsVerdict a note verdict.Same = ReadsSame a note
 IsVerdict a note verdict.Differs = ReadsOther a note
 IsVerdict a note verdict.Missing = a.says note.name standing.Nothing
-IsVerdict a note verdict.Unread = IsUnread a note.name
+IsVerdict a note verdict.Unread = IsNotReadWhole a note.name
 
 -- a file of a report as it was noted
 abbrev pub noted_in : Checked → Note

@@ -3,7 +3,7 @@ ghost use Rattle.std.specs.Prelude.{◌≡◌, ◌<◌, ◌≤◌, [], length, m
 ghost use Rattle.program_words.specs.Met.{texts};
 ghost use Rattle.lab_commands.specs.Files.{AnswersNoMore};
 ghost use Rattle.lab_report.specs.Note.{noted_of};
-ghost use Rattle.lab_custody.specs.Program.{IsRun, IsRunReported, IsUnbegun, IsUnfinished, WroteReport};
+ghost use Rattle.lab_custody.specs.Program.{IsRun, IsRunReported, IsCommandUnbegun, IsUnfinished, WroteReport};
 ghost use Rattle.lab_custody.specs.Reported.{AreNoted, IsSomeUnnoted, MayReport};
 
 use crate::fault::{CustodyFault, tell};
@@ -45,7 +45,7 @@ fn begin<'a, F: LabFiles>(
     ensures buffer { IfOk result (λ notes. 0 < length notes.buffer.items) }
     ensures none { IfOk result (λ notes. notes.wrote.items ≡ []) }
     ensures places { IfOk result (λ notes. length asked.now.wrote.items ≤ vec_capacity notes.wrote) }
-    ensures fault { IfErr result (IsUnbegun (F.answers files.old) asked.now (F.opened files.old) (F.opened files.new)) }
+    ensures fault { IfErr result (IsCommandUnbegun (F.answers files.old) asked.now (F.opened files.old) (F.opened files.new)) }
     ensures no_more { AnswersNoMore (F.answers files.old) (F.answers files.new) }
     ensures kept { F.kept files.new ≡ F.kept files.old }
 {

@@ -4,7 +4,7 @@ ghost use Rattle.program_words.specs.Met.{texts};
 ghost use Rattle.lab_commands.specs.Files.{AnswersNoMore, with_kept};
 ghost use Rattle.lab_report.specs.Note.{named_as, noted_of};
 ghost use Rattle.lab_report.specs.Written.{report_text};
-ghost use Rattle.lab_custody.specs.Reported.{AreNoted, HasAskingFailed, IsFileNoted, IsSomeUnnoted, IsUnnoted, IsUnstored, MayNotReport, MayReport, told_of_run};
+ghost use Rattle.lab_custody.specs.Reported.{AreNoted, HasAskingFailed, IsFileNoted, IsSomeUnnoted, IsUnnoted, IsReportUnstored, MayNotReport, MayReport, told_of_run};
 
 use crate::fault::CustodyFault;
 use crate::hashing::read_content;
@@ -181,7 +181,7 @@ pub(crate) fn store_report<'a, F: LabFiles>(
     wrote: &[Noted<'_>],
 ) -> Result<(), CustodyFault<'a>>
     ensures stored { OnOk result (F.kept files.new ≡ with_kept (F.kept files.old) file.now (Some (report_text (told_of_run (texts words.now) (map noted_of read.now) (map noted_of wrote.now)) ∷ [])) false) }
-    ensures fault { IfErr result (IsUnstored (F.answers files.old) file.now) }
+    ensures fault { IfErr result (IsReportUnstored (F.answers files.old) file.now) }
     ensures kept { OnErr result (F.kept files.new ≡ F.kept files.old) }
 {
     let run = Run {

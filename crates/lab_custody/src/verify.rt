@@ -1,8 +1,8 @@
 //! The command `verify REPORT`.
 ghost use Rattle.std.specs.Prelude.{◌≡◌, ◌<◌, ◌≤◌, ◌+◌, [], length, suc, vec_capacity, option_map, IfOk, IfErr, OnOk};
 ghost use Rattle.lab_commands.specs.Files.{AnswersNoMore};
-ghost use Rattle.lab_report.specs.Note.{told_by};
-ghost use Rattle.lab_custody.specs.Verified.{AreAllChecked, IsNoReportAt, IsReportAt, IsVerifyFault, ToldVerified, form_of};
+ghost use Rattle.lab_report.specs.Note.{told_by_report};
+ghost use Rattle.lab_custody.specs.Verified.{AreAllChecked, IsNoReportAt, IsReportAt, IsVerifyFault, ToldVerified, form_of_verify};
 
 use crate::checks::{Checked, changed_count, check_files};
 use crate::fault::CustodyFault;
@@ -24,7 +24,7 @@ fn load_report<'a, F: LabFiles>(
     path: &'a str,
     files: &mut F,
 ) -> Result<RunReport, CustodyFault<'a>>
-    ensures ok { IfOk result (λ report. IsReportAt (F.answers files.old) path.now (told_by report)) }
+    ensures ok { IfOk result (λ report. IsReportAt (F.answers files.old) path.now (told_by_report report)) }
     ensures fault { IfErr result (IsNoReportAt (F.answers files.old) path.now) }
     ensures opened { F.opened files.new ≡ option_map suc (F.opened files.old) }
     ensures no_more { AnswersNoMore (F.answers files.old) (F.answers files.new) }
@@ -81,7 +81,7 @@ fn check_all<'r, F: LabFiles>(
     requires buffer { 0 < length room.old.buffer.items }
     requires none { room.old.checks.items ≡ [] }
     requires places { length report.now.read.items + length report.now.wrote.items ≤ vec_capacity room.old.checks }
-    ensures checked { AreAllChecked (F.answers files.old) (told_by report.now) room.new.checks.items }
+    ensures checked { AreAllChecked (F.answers files.old) (told_by_report report.now) room.new.checks.items }
     ensures kept { F.kept files.new ≡ F.kept files.old }
 {
     check_files(
@@ -102,7 +102,7 @@ fn check_all<'r, F: LabFiles>(
 
 // How it is told.
 fn form(words: &VerifyWords<'_>) -> ReportForm
-    ensures { result ≡ form_of words.now }
+    ensures { result ≡ form_of_verify words.now }
 {
     if words.json {
         ReportForm::Json

@@ -1,8 +1,8 @@
 //! What the words of the command line ask for that is of this crate: the command `verify`, and a report.
 ghost use Rattle.std.specs.Prelude.{◌≡◌, ◌++◌, [], IfOk, OnOk, option_map, unwrap_or};
 ghost use Rattle.std.specs.Option.{option_to_list};
-ghost use Rattle.program_words.specs.Met.{entries_of, texts};
-ghost use Rattle.lab_custody.specs.Words.{IsAt, IsCustody, IsVerifyOr, read_of, wrote_of};
+ghost use Rattle.program_words.specs.Met.{command_entries, texts};
+ghost use Rattle.lab_custody.specs.Words.{IsCustodyAt, IsCustody, IsVerifyOr, read_of, written_paths};
 
 use lab_commands::commands_grammar;
 use program_words::{CommandWords, GrammarFault, Met, read_words};
@@ -62,7 +62,7 @@ fn add_all<'a>(words: &mut Vec<&'a str>, more: Option<&[&'a str]>) -> Result<(),
 
 // The files that a command reads.
 fn files_read<'a>(alloc: Global, found: &CommandWords<'a>) -> Result<Vec<&'a str>, AllocError>
-    ensures { IfOk result (λ words. texts words.items ≡ read_of (entries_of found.now)) }
+    ensures { IfOk result (λ words. texts words.items ≡ read_of (command_entries found.now)) }
 {
     let mut read = Vec::new(alloc);
     add(&mut read, found.word("CERT"))?;
@@ -73,7 +73,7 @@ fn files_read<'a>(alloc: Global, found: &CommandWords<'a>) -> Result<Vec<&'a str
 
 // The files that it writes.
 fn files_wrote<'a>(alloc: Global, found: &CommandWords<'a>) -> Result<Vec<&'a str>, AllocError>
-    ensures { IfOk result (λ words. texts words.items ≡ wrote_of (entries_of found.now)) }
+    ensures { IfOk result (λ words. texts words.items ≡ written_paths (command_entries found.now)) }
 {
     let mut wrote = Vec::new(alloc);
     add(&mut wrote, found.word("OUT"))?;
@@ -88,8 +88,8 @@ fn reported<'a>(
     found: &CommandWords<'a>,
 ) -> Result<ReportedWords<'a>, AllocError>
     ensures file { IfOk result (λ words. words.file.now ≡ file.now) }
-    ensures read { IfOk result (λ words. texts words.read.items ≡ read_of (entries_of found.now)) }
-    ensures wrote { IfOk result (λ words. texts words.wrote.items ≡ wrote_of (entries_of found.now)) }
+    ensures read { IfOk result (λ words. texts words.read.items ≡ read_of (command_entries found.now)) }
+    ensures wrote { IfOk result (λ words. texts words.wrote.items ≡ written_paths (command_entries found.now)) }
 {
     let read = files_read(alloc, found)?;
     let wrote = files_wrote(alloc, found)?;
@@ -98,7 +98,7 @@ fn reported<'a>(
 
 // What the command `verify` asks for.
 fn verify_asked<'a>(found: &CommandWords<'a>) -> Custody<'a>
-    ensures { IsVerifyOr (entries_of found.now) result }
+    ensures { IsVerifyOr (command_entries found.now) result }
 {
     match found.word("REPORT") {
         Some(report) => Custody::Verify(VerifyWords {
@@ -116,7 +116,7 @@ fn asked_at<'a>(
     name: &str,
     found: &CommandWords<'a>,
 ) -> Result<Custody<'a>, AllocError>
-    ensures { IfOk result (IsAt name.now (entries_of found.now)) }
+    ensures { IfOk result (IsCustodyAt name.now (command_entries found.now)) }
 {
     if name == "verify" {
         return Ok(verify_asked(found));

@@ -23,12 +23,12 @@ use Rattle.page_layout.proofs.ArrayLemmas.{length-marks, mark-page, mark-same, s
 use Rattle.lab_dump.specs.Count.{one}
 use Rattle.image_check.specs.Blocks.{is_factory}
 use Rattle.lab_dump.specs.Bad.{is_excused, is_rewritten}
-use Rattle.lab_dump.specs.Doubts.{has_page, is_programmed_at, is_unsound_at, is_hole, rows_of, doubts_of}
-use Rattle.lab_dump.specs.Bound.{IsDumpOf, is_gone_from, is_gone, OwnRowLaw, BoundLaw, KeptLaw, HoleLostLaw}
+use Rattle.lab_dump.specs.Doubts.{has_page, is_programmed_at, is_unsound_at, is_hole, rows_passing, doubts_of}
+use Rattle.lab_dump.specs.Bound.{IsDumpOf, is_gone_from, is_gone, OwnRowLaw, BoundLaw, NotGoneReadsSameLaw, HoleLostLaw}
 use Rattle.lab_dump.proofs.CountLemmas.{broken_of}
 use Rattle.lab_dump.specs.declared.said.SaidPage.{SaidPage}
 use Rattle.lab_dump.specs.Doubts.{legible_of}
-use Rattle.lab_dump.specs.Named.{OthersLaw, SaysTrue, is_named, names}
+use Rattle.lab_dump.specs.Named.{OthersLaw, SaysTrue, is_named_newer, names}
 use Rattle.lab_dump.specs.Said.{is_newer, said_below, said_by, said_in_row, said_of, says}
 use Rattle.lab_dump.proofs.ConcludeLemmas.{is_open_page}
 use Rattle.lab_dump.proofs.SaidLemmas.{newer_law, said_law, says_is}
@@ -237,7 +237,7 @@ all_below die dump test sectors size gone = upto_le test (passes_below test die 
     and_from (test n) (row_below (length dump) (newest (marks die) (Sector n))) e (ap (row_below (length dump)) lost.newest_is ∙ lt-ltb lost.row (length dump) (omega (arith, length-marks die))))
 
 pub bound_law : BoundLaw
-unfolding doubts_of rows_of
+unfolding doubts_of rows_passing
 bound_law g die dump sectors of =
     let rows = length dump in
     let own : (n row : ℕ) → is_gone die dump n ≡ true → newest (marks die) (Sector n) ≡ Some row → is_told g dump row ≡ true = λ n row e newest_is.
@@ -281,7 +281,7 @@ kept_from g die dump n row of e is =
       | inr gone ↦ absurd (true≢false (sym (ap (λ o. not (is_some o)) (mark-page dump row there.0 there.1 ∙ gone)) ∙ some))
     ]
 
-pub kept_law : KeptLaw
+pub kept_law : NotGoneReadsSameLaw
 kept_law g die dump n of distinct e =
     let kept = λ (row : ℕ) (is : newest (marks die) (Sector n) ≡ Some row). kept_from g die dump n row of e is in
     sector-same g die dump n (newest_forgets (marks die) (marks dump) (Sector n) distinct (forgets g die dump of) (λ row is. mark-same dump die row (kept row is))) kept
@@ -367,8 +367,8 @@ some_same : {A : Type 0} {x y : A} → Some x ≡ Some y → x ≡ y
 some_same e = cc
 
 -- a page that says what its row had names the sector whose newest page that was
-names_it : (g : Geometry) (die dump : Image) (n row : ℕ) → IsDumpOf g die dump → SaysTrue g die dump → newest (marks die) (Sector n) ≡ Some row → SaysHere g dump row → is_named g dump n ≡ true
-unfolding is_named
+names_it : (g : Geometry) (die dump : Image) (n row : ℕ) → IsDumpOf g die dump → SaysTrue g die dump → newest (marks die) (Sector n) ≡ Some row → SaysHere g dump row → is_named_newer g dump n ≡ true
+unfolding is_named_newer
 names_it g die dump n row of true_is newest_is here =
     let r = here.its in
     let mark : get_or (marks die) row None ≡ Some r = true_is row here.page r here.at here.is in
@@ -399,12 +399,12 @@ abbrev is_other : Geometry → Image → ℕ → Bool
 is_other g dump row = (is_silent g dump row && is_open g dump row) || (is_hole g dump row && is_open g dump row)
 
 pub others_law : OthersLaw
-unfolding doubts_of rows_of legible_of
+unfolding doubts_of rows_passing legible_of
 others_law g die dump sectors of true_is =
     let rows = length dump in
-    let test : ℕ → Bool = λ n. is_gone die dump n && not (is_named g dump n) in
+    let test : ℕ → Bool = λ n. is_gone die dump n && not (is_named_newer g dump n) in
     let own : (n row : ℕ) → test n ≡ true → newest (marks die) (Sector n) ≡ Some row → is_other g dump row ≡ true = λ n row e newest_is.
-    let both = and_parts (is_gone die dump n) (not (is_named g dump n)) e in
+    let both = and_parts (is_gone die dump n) (not (is_named_newer g dump n)) e in
     let found = own_row_law g die dump n of both.0 in
     let at : found.row ≡ row = same_row found.row row (sym found.newest_is ∙ newest_is) in
     let silent : (is_silent g dump found.row ≡ true) ⊎ (is_hole g dump found.row ≡ true) = elim found.broken [
@@ -416,7 +416,7 @@ others_law g die dump sectors of true_is =
       | inr hole ↦ inr hole
     ] in
     subst (λ r. is_other g dump r ≡ true) at (told_by (is_silent g dump found.row) (is_hole g dump found.row) (is_open g dump found.row) silent (ap not found.stays_open)) in
-    let gone = all_below die dump test sectors of.size (λ n e. (and_parts (is_gone die dump n) (not (is_named g dump n)) e).0) in
+    let gone = all_below die dump test sectors of.size (λ n e. (and_parts (is_gone die dump n) (not (is_named_newer g dump n)) e).0) in
     let told = bounded die test (is_other g dump) sectors rows own in
     let apart = upto_either (λ row. is_silent g dump row && is_open g dump row) (λ row. is_hole g dump row && is_open g dump row) rows in
     let split : upto (λ row. is_unsound_at dump row && is_open g dump row) rows ≡ upto (λ row. is_silent g dump row && is_open g dump row) rows + upto (λ row. is_legible g dump row && is_open g dump row) rows =

@@ -28,11 +28,11 @@ use Rattle.lab_dump.specs.declared.doubts.Doubts.{Doubts}
 use Rattle.lab_dump.specs.declared.doubting.Doubting.{Doubting}
 use Rattle.lab_dump.specs.declared.concluding.Excuse.{Excuse}
 use Rattle.lab_dump.specs.declared.concluding.Excuse.TheVariants.{Open, Factory, Rewritten}
-use Rattle.lab_dump.specs.Trace.{is_tied_in, place_in}
+use Rattle.lab_dump.specs.Trace.{is_tied_in, place_in_trace}
 use Rattle.lab_dump.specs.Count as sorts
 use Rattle.lab_dump.specs.Count.{HasUnsound, one, is_unsound_in, unsound_below}
 use Rattle.lab_dump.specs.Bad.{is_excused, is_plain, is_rewritten, is_tied, keeps_below, latest_at, strange_of, ties_below}
-use Rattle.lab_dump.specs.Doubts.{doubtful_of, doubts_of, has_page, holes_of, legible_of, is_hole, is_hole_below, is_outside, is_unsound_at, rows_of, ToldOnceLaw}
+use Rattle.lab_dump.specs.Doubts.{doubtful_of, doubts_of, has_page, holes_of, legible_of, is_hole, is_hole_below, is_outside, is_unsound_at, rows_passing, ToldOnceLaw}
 use Rattle.lab_dump.specs.Doubting.{HasHoles, HasTraces, IsDoubting, holes_below}
 use Rattle.lab_dump.specs.declared.said.SaidPage.{SaidPage}
 use Rattle.lab_dump.specs.Said.{said_below}
@@ -52,7 +52,7 @@ ties_are g image traces size h =
 pub keeps_are : (g : Geometry) (image : Image) (traces : List Trace) (block : ℕ) → length image ≡ row_count g → HasTraces g (marks image) (row_count g) traces → keeps_in g.pages traces (length traces) block ≡ keeps_below g image (key_count g) block
 keeps_are g image traces block size h =
     ap (λ n. keeps_in g.pages traces n block) h.size
-    ∙ any_same (λ i. is_in_block g.pages block (place_in (get_or traces i Never))) (λ i. is_in_block g.pages block (place_of (latest_at g image (length image) i))) (key_count g)
+    ∙ any_same (λ i. is_in_block g.pages block (place_in_trace (get_or traces i Never))) (λ i. is_in_block g.pages block (place_of (latest_at g image (length image) i))) (key_count g)
     (λ i l. ap (is_in_block g.pages block) (tells_place (get_or traces i Never) (latest_at g image (row_count g) i) (held_at g (marks image) (row_count g) i traces Never h l)) ∙ ap (λ n. is_in_block g.pages block (place_of (latest_at g image n i))) (sym size))
 
 pub ties_more : (traces : List Trace) (n : ℕ) (d : Trace) → n < length traces → ties_in traces n ≡ false → is_tied_in (get_or traces n d) ≡ false → ties_in traces (n + 1) ≡ false
@@ -66,9 +66,9 @@ ties_all traces n d l now = sym (any_at (λ i. is_tied_in (get_or traces i Never
 pub record AreMarked (pages : ℕ) (traces : List Trace) (n : ℕ) (kept : List Bool) : Type 0 where
   pub each : (b : ℕ) → b < length kept → get_or kept b false ≡ keeps_in pages traces n b
 
-keeps_more : (pages : ℕ) (traces : List Trace) (n b : ℕ) (d : Trace) → n < length traces → keeps_in pages traces (n + 1) b ≡ (keeps_in pages traces n b || is_in_block pages b (place_in (get_or traces n d)))
+keeps_more : (pages : ℕ) (traces : List Trace) (n b : ℕ) (d : Trace) → n < length traces → keeps_in pages traces (n + 1) b ≡ (keeps_in pages traces n b || is_in_block pages b (place_in_trace (get_or traces n d)))
 keeps_more pages traces n b d l =
-    ap (λ k. keeps_in pages traces k b) (add-one n) ∙ (any_more (λ i. is_in_block pages b (place_in (get_or traces i Never))) n ∙ ap (λ t. keeps_in pages traces n b || is_in_block pages b (place_in t)) (get_or_default traces n Never d l))
+    ap (λ k. keeps_in pages traces k b) (add-one n) ∙ (any_more (λ i. is_in_block pages b (place_in_trace (get_or traces i Never))) n ∙ ap (λ t. keeps_in pages traces n b || is_in_block pages b (place_in_trace t)) (get_or_default traces n Never d l))
 
 or_false : (a : Bool) → (a || false) ≡ a
 or_false true = refl
@@ -78,7 +78,7 @@ or_true : (a : Bool) → (a || true) ≡ true
 or_true true = refl
 or_true false = refl
 
-pub marked_more : (pages : ℕ) (traces : List Trace) (n : ℕ) (kept new : List Bool) (d : Trace) (o : Option ℕ) → AreMarked pages traces n kept → n < length traces → o ≡ place_in (get_or traces n d) → length new ≡ length kept
+pub marked_more : (pages : ℕ) (traces : List Trace) (n : ℕ) (kept new : List Bool) (d : Trace) (o : Option ℕ) → AreMarked pages traces n kept → n < length traces → o ≡ place_in_trace (get_or traces n d) → length new ≡ length kept
     → ((b : ℕ) → b < length new → get_or new b false ≡ (get_or kept b false || is_in_block pages b o)) → AreMarked pages traces (n + 1) new
 marked_more pages traces n kept new d o h l is size each = record {
   each = λ b k. each b k ∙ (ap (λ t. t || is_in_block pages b o) (h.each b (omega arith)) ∙ (ap (λ p. keeps_in pages traces n b || is_in_block pages b p) is ∙ sym (keeps_more pages traces n b d l)));
@@ -203,8 +203,8 @@ below_none : (g : Geometry) (image : Image) (test block : ℕ → Bool) → belo
 below_none g image test block = upto_none (λ row. (test row && block (row / g.pages)) && nat_lt (row / g.pages) 0) (length image) (λ row l. ap (λ b. (test row && block (row / g.pages)) && b) (le-ltb (row / g.pages) 0 (omega arith)) ∙ no_right (test row && block (row / g.pages)))
 
 -- in the end they are those of all blocks
-below_all : (g : Geometry) (image : Image) (test block : ℕ → Bool) → length image ≡ row_count g → below g image test block g.blocks ≡ rows_of g image test block
-unfolding rows_of
+below_all : (g : Geometry) (image : Image) (test block : ℕ → Bool) → length image ≡ row_count g → below g image test block g.blocks ≡ rows_passing g image test block
+unfolding rows_passing
 below_all g image test block size =
     upto_same (λ row. (test row && block (row / g.pages)) && nat_lt (row / g.pages) g.blocks) (λ row. test row && block (row / g.pages)) (length image)
     (λ row l. ap (λ b. (test row && block (row / g.pages)) && b) (lt-ltb (row / g.pages) g.blocks ((div-lt_iff_lt-mul (some_pages g)).1 (omega arith))) ∙ all_right (test row && block (row / g.pages)))
@@ -420,7 +420,7 @@ summed_all g image d size h =
 -- ---- law
 
 pub once_law : ToldOnceLaw
-unfolding doubts_of rows_of holes_of
+unfolding doubts_of rows_passing holes_of
 once_law g image d is = rw is (
     let n = length image in
     let u = three (is_unsound_at image) in

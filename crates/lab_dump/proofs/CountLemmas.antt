@@ -13,7 +13,7 @@ use Rattle.page_layout.specs.declared.record.Record.{Record}
 use Rattle.page_layout.specs.declared.record.Kind.{Kind}
 use Rattle.page_layout.specs.declared.record.Kind.TheVariants as kind
 use Rattle.page_layout.specs.Page.{Page, Image}
-use Rattle.page_layout.specs.Sound.{record_of, is_erased_page, code_of}
+use Rattle.page_layout.specs.Sound.{record_of, is_erased_page, code_of_kind}
 use Rattle.page_layout.proofs.RecordLemmas.{erased_no_record}
 use Rattle.page_layout.specs.Block.{is_broken}
 use Rattle.lab_dump.specs.declared.counts.PageCounts.{PageCounts}
@@ -171,7 +171,7 @@ broken_of p e n = ap (λ b. not b && not (is_some (record_of p))) e ∙ ap (λ b
 
 -- ---- each page is of one sort
 
-kind_one : (k : Kind) → one (code_of k == 1) + one (code_of k == 2) + one (code_of k == 3) + one (code_of k == 4) ≡ 1
+kind_one : (k : Kind) → one (code_of_kind k == 1) + one (code_of_kind k == 2) + one (code_of_kind k == 3) + one (code_of_kind k == 4) ≡ 1
 kind_one kind.Sector = refl
 kind_one kind.Trim = refl
 kind_one kind.Translation = refl

@@ -19,11 +19,11 @@ use Rattle.page_layout.proofs.ArrayLemmas.{latest-newest, length-marks}
 use Rattle.page_layout.proofs.GreatestLemmas.{Says, best_says}
 use Rattle.page_layout.proofs.NewestLemmas.{sequence_at-is, sequence_at-key}
 use Rattle.lab_dump.specs.declared.held.SectorShown.TheVariants as shown
-use Rattle.lab_dump.specs.Damaged.{DamagedLaw, IsSaidNewer, IsShown, OtherwiseLaw, Broken, content_in, damaged_sector, row_said_newer, placed, said_content, said_marks, said_reads, shown_place}
+use Rattle.lab_dump.specs.Damaged.{DamagedLaw, IsSaidNewer, IsNewestSaid, OtherwiseLaw, Broken, content_in, damaged_sector, row_said_newer, broken_or_whole, said_content, said_marks, said_reads, shown_place}
 use Rattle.lab_dump.specs.Held.{shown_by, shown_with}
 use Rattle.lab_dump.specs.Said.{is_after, says}
 use Rattle.lab_dump.specs.Until.{record_until, until}
-use Rattle.lab_dump.specs.Written.{MarkedLaw, damaged_state, state_of}
+use Rattle.lab_dump.specs.Written.{MarkedLaw, damaged_state, sector_state}
 use Rattle.lab_dump.proofs.SaidLemmas.{after_all, before_all, none_is, past, same_of, says_is, says_whole}
 use Rattle.lab_dump.proofs.UntilLemmas.{until_size}
 use Rattle.lab_dump.proofs.WritingLemmas.{sound_whole}
@@ -225,7 +225,7 @@ others_first g last image n =
 abbrev IsOverIn : Geometry → Option ℕ → Image → ℕ → ℕ → Type 0
 IsOverIn g last image n row = IsOver (marks (until g last image)) (said_marks g last image) (key.Sector n) row
 
-shown_from : (g : Geometry) (last : Option ℕ) (image : Image) (n row : ℕ) → IsOverIn g last image n row → IsShown g last image n row
+shown_from : (g : Geometry) (last : Option ℕ) (image : Image) (n row : ℕ) → IsOverIn g last image n row → IsNewestSaid g last image n row
 shown_from g last image n row h =
     let ds = said_marks g last image in
     let its = sequence_at-is ds (key.Sector n) row h.sequence h.top.here in
@@ -243,14 +243,14 @@ newer_here g last image n row h =
     let ds = said_marks g last image in
     subst (λ k. sequence_at ds k row ≡ Some h.its.sequence) h.key_is (sequence_at-key ds row h.its (said_mark g last image row h.page h.at ∙ h.says_is))
 
-from_shown : (g : Geometry) (last : Option ℕ) (image : Image) (n row : ℕ) → IsShown g last image n row → IsOverIn g last image n row
+from_shown : (g : Geometry) (last : Option ℕ) (image : Image) (n row : ℕ) → IsNewestSaid g last image n row → IsOverIn g last image n row
 from_shown g last image n row h = record {
   sequence = h.is.its.sequence;
   top = record { here = newer_here g last image n row h.is; greatest = h.greatest; first = h.first };
   newer = h.is.newer;
 }
 
-over_shown : (g : Geometry) (last : Option ℕ) (image : Image) (n row : ℕ) → (row_said_newer (sound_of g last image n) (others_of g last image n) ≡ Some row) ↔ IsShown g last image n row
+over_shown : (g : Geometry) (last : Option ℕ) (image : Image) (n row : ℕ) → (row_said_newer (sound_of g last image n) (others_of g last image n) ≡ Some row) ↔ IsNewestSaid g last image n row
 over_shown g last image n row =
     let ms = marks (until g last image) in
     let ds = said_marks g last image in (
@@ -258,7 +258,7 @@ over_shown g last image n row =
       λ h. over_from ms ds (key.Sector n) (sound_of g last image n) (others_of g last image n) row (sound_says g last image n) (others_says g last image n) (others_first g last image n) (from_shown g last image n row h),
     )
 
-broken_place : (o p : Option ℕ) (row : ℕ) → (placed o p ≡ Broken row) ↔ (o ≡ Some row)
+broken_place : (o p : Option ℕ) (row : ℕ) → (broken_or_whole o p ≡ Broken row) ↔ (o ≡ Some row)
 broken_place (Some a) p row = (λ e. let same : a ≡ row = cc in ap Some same, λ e. let same : a ≡ row = cc in ap Broken same)
 broken_place None (Some a) row = (λ e. absurd (cc), λ e. absurd (cc))
 broken_place None None row = (λ e. absurd (cc), λ e. absurd (cc))
@@ -278,7 +278,7 @@ none_over g last image n none = by (row_said_newer (sound_of g last image n) (ot
     by None e = refl
     by (Some row) e = absurd (none row ((over_shown g last image n row).0 e).is)
 
-whole_place : (g : Geometry) (image : Image) (reads : ℕ → List ℕ) (o : Option ℕ) → content_in g image reads (placed None o) ≡ content_at g image o
+whole_place : (g : Geometry) (image : Image) (reads : ℕ → List ℕ) (o : Option ℕ) → content_in g image reads (broken_or_whole None o) ≡ content_at g image o
 whole_place g image reads None = refl
 whole_place g image reads (Some row) = refl
 
@@ -287,7 +287,7 @@ unfolding damaged_sector shown_place sector_of
 otherwise_law g last image n none =
     let now : Image = until g last image in
     let reads = said_reads g image in
-    ap (λ o. content_in g now reads (placed o (place_of (sound_of g last image n)))) (none_over g last image n none)
+    ap (λ o. content_in g now reads (broken_or_whole o (place_of (sound_of g last image n)))) (none_over g last image n none)
     ∙ (whole_place g now reads (place_of (sound_of g last image n))
     ∙ sym (ap (content_at g now) (latest-newest (marks now) (key.Sector n) ∙ ap (λ k. place_of (latest_below (marks now) (key.Sector n) k)) (length-marks now ∙ until_size g last image))))
 
@@ -300,7 +300,7 @@ marked_some None (Once a s) e = absurd (cc)
 marked_some None (Tied a b s) e = absurd (cc)
 
 pub marked_law : MarkedLaw
-unfolding damaged_state state_of
+unfolding damaged_state sector_state
 marked_law g last image n =
     let ms = marks (until g last image) in
     let ds = said_marks g last image in

@@ -23,15 +23,15 @@ use Rattle.page_layout.specs.Live.{IsKeyOf}
 use Rattle.page_layout.specs.Word.{word_at}
 use Rattle.page_layout.proofs.RawLemmas.{raw_page}
 use Rattle.bad_blocks.specs.TablePage.{IsWellFormed, padding}
-use Rattle.lab_dump.specs.declared.look.Look.{Look}
-use Rattle.lab_dump.specs.declared.look.Look.TheVariants.{Sound, Erased, Unsound}
-use Rattle.lab_dump.specs.Pages.{page_at}
+use Rattle.page_layout.specs.declared.look.PageLook.{PageLook}
+use Rattle.page_layout.specs.declared.look.PageLook.TheVariants.{Sound, Erased, Unsound}
+use Rattle.lab_dump.specs.Pages.{dump_page_at}
 use Rattle.lab_dump.specs.Sample.{look_at}
-use Rattle.lab_dump.specs.Told.{blocks_of, sectors_of, blocks_by, sectors_by, blocks_at, sectors_at, greatest, pages_told_of}
+use Rattle.lab_dump.specs.Told.{least_blocks_of, least_sectors, blocks_by, sectors_by, blocks_at, sectors_told_at, greatest_of_rows, pages_told_of}
 use Rattle.lab_dump.specs.declared.told.PagesTold.{PagesTold}
-use Rattle.lab_dump.specs.FitLaws.{IsWithin, WithinLaw, PageLaw, LookedLaw, LookedRiseLaw, LookedAllLaw, GreatestLaw, LowerLaw, TableLaw, ShortLaw, FewerLaw}
+use Rattle.lab_dump.specs.FitLaws.{IsWithinTold, WithinLaw, PageLaw, LookedLaw, LookedRiseLaw, LookedAllLaw, GreatestLaw, LowerLaw, TableLaw, ShortLaw, FewerLaw}
 use Rattle.lab_dump.specs.declared.fit.TableSays.TheVariants.{Agrees, Short, Silent, Differs}
-use Rattle.lab_dump.specs.Fits.{table_says, place}
+use Rattle.lab_dump.specs.Fits.{table_says, table_place}
 use Rattle.lab_dump.proofs.ToldLemmas.{used_below, used_more, used_all}
 
 -- ---- the page of a row
@@ -49,7 +49,7 @@ spare_of_row all at d s =
     ap (λ n. drop d (take n (drop at all))) first ∙ (drop-take d s (drop at all) ∙ (ap (take s) (drop-drop d at all) ∙ ap (λ n. take n (drop (at + d) all)) (sym second)))
 
 pub page_law : PageLaw
-unfolding page_at
+unfolding dump_page_at
 page_law g all row within =
     let d = g.data_bytes in
     let s = g.spare_bytes in
@@ -62,67 +62,67 @@ page_law g all row within =
 -- ---- which rows are looked at
 
 pub looked_all : LookedAllLaw
-looked_all rows place few =
+looked_all rows table_place few =
     let parts = mul-div-le rows 256 in
     let least : max (rows / 256) 16 ≡ 16 = omega arith in
-    ap (λ n. place / 16 * n + place % 16) least ∙ div-add-mod' place 16
+    ap (λ n. table_place / 16 * n + table_place % 16) least ∙ div-add-mod' table_place 16
 
 pub looked_in : LookedLaw
-looked_in rows place within = elim (cases_lt 4096 rows) [
+looked_in rows table_place within = elim (cases_lt 4096 rows) [
   | inl many ↦
       let stride : ℕ = max (rows / 256) 16 in
       let parts = mul-div-le rows 256 in
       let sixteen : 16 ≤ rows / 256 = le-div 16 rows 256 (omega arith) (omega arith) in
       let stride_is : stride ≡ rows / 256 = omega arith in
-      let whole = div-add-mod' place 16 in
-      let rest = mod_below place 16 (omega arith) in
-      let few : place / 16 < 256 = omega arith in
-      let fits : place / 16 * stride + stride ≤ 256 * stride = row_fits (place / 16) stride 256 stride few (le_refl stride) in
+      let whole = div-add-mod' table_place 16 in
+      let rest = mod_below table_place 16 (omega arith) in
+      let few : table_place / 16 < 256 = omega arith in
+      let fits : table_place / 16 * stride + stride ≤ 256 * stride = row_fits (table_place / 16) stride 256 stride few (le_refl stride) in
       let all : 256 * stride ≤ rows = subst (λ n. 256 * n ≤ rows) (sym stride_is) parts in
       omega arith
-  | inr few ↦ subst (λ n. n < rows) (sym (looked_all rows place few)) (omega arith)
+  | inr few ↦ subst (λ n. n < rows) (sym (looked_all rows table_place few)) (omega arith)
 ]
 
 pub looked_rise : LookedRiseLaw
-looked_rise rows place next rises =
+looked_rise rows table_place next rises =
     let stride : ℕ = max (rows / 256) 16 in
-    let first = div-add-mod' place 16 in
+    let first = div-add-mod' table_place 16 in
     let second = div-add-mod' next 16 in
-    let below = mod_below place 16 (omega arith) in
+    let below = mod_below table_place 16 (omega arith) in
     let below_next = mod_below next 16 (omega arith) in
-    elim (cases_lt (place / 16) (next / 16)) [
+    elim (cases_lt (table_place / 16) (next / 16)) [
       | inl less ↦
-          let fits : place / 16 * stride + stride ≤ next / 16 * stride = row_fits (place / 16) stride (next / 16) stride less (le_refl stride) in
+          let fits : table_place / 16 * stride + stride ≤ next / 16 * stride = row_fits (table_place / 16) stride (next / 16) stride less (le_refl stride) in
           omega arith
       | inr most ↦
-          let same : place / 16 ≡ next / 16 = omega arith in
-          let rows_same : place / 16 * stride ≡ next / 16 * stride = ap (λ n. n * stride) same in
+          let same : table_place / 16 ≡ next / 16 = omega arith in
+          let rows_same : table_place / 16 * stride ≡ next / 16 * stride = ap (λ n. n * stride) same in
           omega arith
     ]
 
--- ---- the greatest number
+-- ---- the greatest_of_rows number
 
-greatest_next : (f : ℕ → ℕ) (n : ℕ) → greatest f (suc n) ≡ max (greatest f n) (f n)
-unfolding greatest
+greatest_next : (f : ℕ → ℕ) (n : ℕ) → greatest_of_rows f (suc n) ≡ max (greatest_of_rows f n) (f n)
+unfolding greatest_of_rows
 greatest_next f n = refl
 
-greatest_none : (f : ℕ → ℕ) → greatest f zero ≡ 0
-unfolding greatest
+greatest_none : (f : ℕ → ℕ) → greatest_of_rows f zero ≡ 0
+unfolding greatest_of_rows
 greatest_none f = refl
 
-no_greater : (f : ℕ → ℕ) (rows row : ℕ) → row < rows → f row ≤ greatest f rows
+no_greater : (f : ℕ → ℕ) (rows row : ℕ) → row < rows → f row ≤ greatest_of_rows f rows
 no_greater f zero row l = absurd (omega arith)
 no_greater f (suc n) row l = elim (cases_eq row n) [
   | inl e ↦ let here : f row ≡ f n = ap f e in omega (arith, greatest_next f n)
   | inr ne ↦ let before = no_greater f n row (omega arith) in omega (arith, greatest_next f n)
 ]
 
-some_greatest : (f : ℕ → ℕ) (rows : ℕ) → (greatest f rows ≡ 0) ⊎ ((row : ℕ) × (row < rows) × (f row ≡ greatest f rows))
+some_greatest : (f : ℕ → ℕ) (rows : ℕ) → (greatest_of_rows f rows ≡ 0) ⊎ ((row : ℕ) × (row < rows) × (f row ≡ greatest_of_rows f rows))
 some_greatest f zero = inl (greatest_none f)
-some_greatest f (suc n) = elim (cases_lt (greatest f n) (f n)) [
+some_greatest f (suc n) = elim (cases_lt (greatest_of_rows f n) (f n)) [
   | inl more ↦ inr (n, omega arith, omega (arith, greatest_next f n))
   | inr same ↦
-      let kept : greatest f n ≡ greatest f (suc n) = omega (arith, greatest_next f n) in
+      let kept : greatest_of_rows f n ≡ greatest_of_rows f (suc n) = omega (arith, greatest_next f n) in
       elim (some_greatest f n) [
         | inl none ↦ inl (sym kept ∙ none)
         | inr found ↦ inr (found.0, omega (arith, found.1), found.2 ∙ kept)
@@ -134,8 +134,8 @@ greatest_law f rows = (no_greater f rows, some_greatest f rows)
 
 -- ---- room for each sound page
 
-body_size : (d s rows row : ℕ) (all : List ℕ) → rows * (d + s) ≤ length all → row < rows → length (page_at d s all row).body ≡ d
-unfolding page_at
+body_size : (d s rows row : ℕ) (all : List ℕ) → rows * (d + s) ≤ length all → row < rows → length (dump_page_at d s all row).body ≡ d
+unfolding dump_page_at
 body_size d s rows row all whole l =
     let n : ℕ = d + s in
     let at : ℕ = row * n in
@@ -145,20 +145,20 @@ body_size d s rows row all whole l =
     let page_size : length (slice_range all at (at + n)) ≡ at + n - at = length-take-le (at + n - at) (drop at all) rest in
     length-take-le d (slice_range all at (at + n)) (omega arith)
 
-kind_within : (k : Kind) (n entries : ℕ) (body : List ℕ) (t : PagesTold) → length body / 4 ≡ entries → blocks_of k n body ≤ t.blocks → sectors_of k n entries ≤ t.sectors → IsWithin (key_from k n) entries t
+kind_within : (k : Kind) (n entries : ℕ) (body : List ℕ) (t : PagesTold) → length body / 4 ≡ entries → least_blocks_of k n body ≤ t.blocks → least_sectors k n entries ≤ t.sectors → IsWithinTold (key_from k n) entries t
 kind_within kind.Sector n entries body t size blocks sectors = omega arith
 kind_within kind.Trim n entries body t size blocks sectors = omega arith
 kind_within kind.Translation n entries body t size blocks sectors = omega arith
-kind_within kind.Table n entries body t size blocks sectors = let place : n * (length body / 4) ≡ n * entries = ap (λ k. n * k) size in omega arith
+kind_within kind.Table n entries body t size blocks sectors = let table_place : n * (length body / 4) ≡ n * entries = ap (λ k. n * k) size in omega arith
 
 pub within_law : WithinLaw
 unfolding pages_told_of
 within_law d s rows all row r whole l e =
     let blocks = no_greater (blocks_at d s all) rows row l in
-    let sectors = no_greater (sectors_at d s all) rows row l in
-    kind_within r.kind r.number (d / 4) (page_at d s all row).body (pages_told_of d s rows all) (ap (λ n. n / 4) (body_size d s rows row all whole l))
-    (subst (λ look. blocks_by look (page_at d s all row).body ≤ greatest (blocks_at d s all) rows) e blocks)
-    (subst (λ look. sectors_by look (d / 4) ≤ greatest (sectors_at d s all) rows) e sectors)
+    let sectors = no_greater (sectors_told_at d s all) rows row l in
+    kind_within r.kind r.number (d / 4) (dump_page_at d s all row).body (pages_told_of d s rows all) (ap (λ n. n / 4) (body_size d s rows row all whole l))
+    (subst (λ look. blocks_by look (dump_page_at d s all row).body ≤ greatest_of_rows (blocks_at d s all) rows) e blocks)
+    (subst (λ look. sectors_by look (d / 4) ≤ greatest_of_rows (sectors_told_at d s all) rows) e sectors)
 
 -- ---- a lower bound of the sectors
 
@@ -168,23 +168,23 @@ entry_in t sectors entries some within =
     let fits : t * entries + entries ≤ div_ceil sectors entries * entries = row_fits t entries (div_ceil sectors entries) entries within (le_refl entries) in
     omega (arith, times.0, times.1)
 
-kind_lower : (g : Geometry) (k : Kind) (n : ℕ) → IsKeyOf g (key_from k n) → sectors_of k n (g.data_bytes / 4) ≤ g.sectors
+kind_lower : (g : Geometry) (k : Kind) (n : ℕ) → IsKeyOf g (key_from k n) → least_sectors k n (g.data_bytes / 4) ≤ g.sectors
 kind_lower g kind.Sector n within = omega arith
 kind_lower g kind.Trim n within = omega arith
 kind_lower g kind.Translation n within = entry_in n g.sectors (g.data_bytes / 4) (le-div 1 g.data_bytes 4 (omega arith) (let least = g.limits.data_size.least in omega arith)) within
 kind_lower g kind.Table n within = omega arith
 
-look_lower : (g : Geometry) (look : Look) → ((r : Record) → look ≡ Sound r → IsKeyOf g (key_of r)) → sectors_by look (g.data_bytes / 4) ≤ g.sectors
+look_lower : (g : Geometry) (look : PageLook) → ((r : Record) → look ≡ Sound r → IsKeyOf g (key_of r)) → sectors_by look (g.data_bytes / 4) ≤ g.sectors
 look_lower g (Sound r) keys = kind_lower g r.kind r.number (keys r refl)
 look_lower g Erased keys = omega arith
 look_lower g Unsound keys = omega arith
 
 pub lower_law : LowerLaw
 unfolding pages_told_of
-lower_law g all keys = elim (some_greatest (sectors_at g.data_bytes g.spare_bytes all) (row_count g)) [
+lower_law g all keys = elim (some_greatest (sectors_told_at g.data_bytes g.spare_bytes all) (row_count g)) [
   | inl none ↦ omega (arith, none)
   | inr found ↦
-      let here : sectors_at g.data_bytes g.spare_bytes all found.0 ≤ g.sectors = look_lower g (look_at g.data_bytes g.spare_bytes all found.0) (λ r e. keys found.0 r found.1 e) in
+      let here : sectors_told_at g.data_bytes g.spare_bytes all found.0 ≤ g.sectors = look_lower g (look_at g.data_bytes g.spare_bytes all found.0) (λ r e. keys found.0 r found.1 e) in
       omega (arith, found.2, here)
 ]
 
@@ -217,7 +217,7 @@ table_law entries blocks u body some size within formed =
     let count : length body / 4 ≡ entries = ap (λ n. n / 4) size ∙ mul-div_cancel_left entries (omega arith) in
     let used = used_there entries blocks u body formed within entries (le_refl entries) in
     let words = used_all body entries _ (sym count) used in
-    let place : u * (length body / 4) ≡ u * entries = ap (λ n. u * n) count in
+    let table_place : u * (length body / 4) ≡ u * entries = ap (λ n. u * n) count in
     omega arith
 
 -- ---- a cut dump
@@ -263,5 +263,5 @@ then_less o r e = ap (λ x. ordering_then x r) e
 pub fewer_law : FewerLaw
 fewer_law x y same s t l =
     then_next (nat_cmp y.sound.0 x.sound.0) _ (sym (nat_cmp_is y.sound.0 x.sound.0 Equal (sym same)))
-    ∙ (then_next (nat_cmp (place x.table) (place y.table)) _ (sym (nat_cmp_is (place x.table) (place y.table) Equal (ap place (s ∙ sym t))))
+    ∙ (then_next (nat_cmp (table_place x.table) (table_place y.table)) _ (sym (nat_cmp_is (table_place x.table) (table_place y.table) Equal (ap table_place (s ∙ sym t))))
     ∙ then_less (nat_cmp x.missing y.missing) _ (sym (nat_cmp_is x.missing y.missing Less l)))

@@ -14,8 +14,8 @@ use Rattle.lab_dump.specs.declared.told.PagesTold.{PagesTold}
 use Rattle.page_layout.specs.Geometry.{row_count}
 use Rattle.lab_dump.specs.Sample.{sample_of}
 use Rattle.lab_dump.specs.Told.{pages_told_of}
-use Rattle.lab_dump.specs.Shape.{page_counts, rows_of, has_shape}
-use Rattle.lab_dump.specs.Fits.{fit_of, sectors_from, shape_fits, area_fits, IsPossible, Adds}
+use Rattle.lab_dump.specs.Shape.{page_counts, rows_in_size, has_shape}
+use Rattle.lab_dump.specs.Fits.{fit_of, sectors_from, shape_fits, area_fits, IsPossible, AddsFits}
 use Rattle.lab_dump.proofs.SampleLemmas.{range_last}
 
 -- ---- possible geometries
@@ -38,16 +38,16 @@ possible_fit g sample told f e some looked = subst IsPossible (sym e) (record {
 
 -- ---- what is added
 
-pub adds_one : (old new : List Fit) (f : Fit) → new ≡ old ++ f ∷ [] → IsPossible f → Adds 1 old new
-adds_one old new f e possible = subst (Adds 1 old) (sym e) (record {
+pub adds_one : (old new : List Fit) (f : Fit) → new ≡ old ++ f ∷ [] → IsPossible f → AddsFits 1 old new
+adds_one old new f e possible = subst (AddsFits 1 old) (sym e) (record {
   few = omega (arith, length-append old (f ∷ []));
   possible = λ all. All-push IsPossible old f all possible;
 })
 
-pub adds_none : (most : ℕ) (old : List Fit) → Adds most old old
+pub adds_none : (most : ℕ) (old : List Fit) → AddsFits most old old
 adds_none most old = record { few = omega arith; possible = λ all. all }
 
-pub adds_then : (m n most : ℕ) (a b c : List Fit) → Adds m a b → Adds n b c → m + n ≤ most → Adds most a c
+pub adds_then : (m n most : ℕ) (a b c : List Fit) → AddsFits m a b → AddsFits n b c → m + n ≤ most → AddsFits most a c
 adds_then m n most a b c first second l = record {
   few = (let x = first.few in let y = second.few in omega arith);
   possible = λ all. second.possible (first.possible all);
@@ -71,12 +71,12 @@ positive : (n : ℕ) → ¬ (n ≡ 0) → nat_lt 0 n ≡ true
 positive zero h = absurd (h refl)
 positive (suc n) h = grind arith
 
-pub area_when : (all : List ℕ) (d s : ℕ) (shaped sounds : Bool) → has_shape (length all) d s ≡ shaped → nat_lt 0 (sample_of d s (rows_of (length all) d s) all).sound ≡ sounds
-    → area_fits all d s ≡ (if shaped && sounds then flat_map (shape_fits (length all) d s (sample_of d s (rows_of (length all) d s) all) (pages_told_of d s (rows_of (length all) d s) all)) page_counts else [])
+pub area_when : (all : List ℕ) (d s : ℕ) (shaped sounds : Bool) → has_shape (length all) d s ≡ shaped → nat_lt 0 (sample_of d s (rows_in_size (length all) d s) all).sound ≡ sounds
+    → area_fits all d s ≡ (if shaped && sounds then flat_map (shape_fits (length all) d s (sample_of d s (rows_in_size (length all) d s) all) (pages_told_of d s (rows_in_size (length all) d s) all)) page_counts else [])
 unfolding area_fits
 area_when all d s shaped sounds a b =
-    let fits : List Fit = flat_map (shape_fits (length all) d s (sample_of d s (rows_of (length all) d s) all) (pages_told_of d s (rows_of (length all) d s) all)) page_counts in
-    ap (λ x. if x && nat_lt 0 (sample_of d s (rows_of (length all) d s) all).sound then fits else []) a ∙ ap (λ x. if shaped && x then fits else []) b
+    let fits : List Fit = flat_map (shape_fits (length all) d s (sample_of d s (rows_in_size (length all) d s) all) (pages_told_of d s (rows_in_size (length all) d s) all)) page_counts in
+    ap (λ x. if x && nat_lt 0 (sample_of d s (rows_in_size (length all) d s) all).sound then fits else []) a ∙ ap (λ x. if shaped && x then fits else []) b
 
 no_right : (a : Bool) → (a && false) ≡ false
 no_right true = refl
@@ -93,15 +93,15 @@ area_none size d s all items size_is none =
 pub record IsAsOf (g : Geometry) (size d s : ℕ) : Type 0 where
   pub data_is : g.data_bytes ≡ d
   pub spare_is : g.spare_bytes ≡ s
-  pub rows_is : row_count g ≡ rows_of size d s
+  pub rows_is : row_count g ≡ rows_in_size size d s
 
-sample_here : (g : Geometry) (size d s : ℕ) (all : List ℕ) (x : Sample) → IsAsOf g size d s → size ≡ length all → x ≡ sample_of g.data_bytes g.spare_bytes (row_count g) all → x ≡ sample_of d s (rows_of (length all) d s) all
+sample_here : (g : Geometry) (size d s : ℕ) (all : List ℕ) (x : Sample) → IsAsOf g size d s → size ≡ length all → x ≡ sample_of g.data_bytes g.spare_bytes (row_count g) all → x ≡ sample_of d s (rows_in_size (length all) d s) all
 sample_here g size d s all x like size_is e =
-    e ∙ (ap (λ k. sample_of k g.spare_bytes (row_count g) all) like.data_is ∙ (ap (λ k. sample_of d k (row_count g) all) like.spare_is ∙ ap (λ k. sample_of d s k all) (like.rows_is ∙ ap (λ n. rows_of n d s) size_is)))
+    e ∙ (ap (λ k. sample_of k g.spare_bytes (row_count g) all) like.data_is ∙ (ap (λ k. sample_of d k (row_count g) all) like.spare_is ∙ ap (λ k. sample_of d s k all) (like.rows_is ∙ ap (λ n. rows_in_size n d s) size_is)))
 
-told_here : (g : Geometry) (size d s : ℕ) (all : List ℕ) (x : PagesTold) → IsAsOf g size d s → size ≡ length all → x ≡ pages_told_of g.data_bytes g.spare_bytes (row_count g) all → x ≡ pages_told_of d s (rows_of (length all) d s) all
+told_here : (g : Geometry) (size d s : ℕ) (all : List ℕ) (x : PagesTold) → IsAsOf g size d s → size ≡ length all → x ≡ pages_told_of g.data_bytes g.spare_bytes (row_count g) all → x ≡ pages_told_of d s (rows_in_size (length all) d s) all
 told_here g size d s all x like size_is e =
-    e ∙ (ap (λ k. pages_told_of k g.spare_bytes (row_count g) all) like.data_is ∙ (ap (λ k. pages_told_of d k (row_count g) all) like.spare_is ∙ ap (λ k. pages_told_of d s k all) (like.rows_is ∙ ap (λ n. rows_of n d s) size_is)))
+    e ∙ (ap (λ k. pages_told_of k g.spare_bytes (row_count g) all) like.data_is ∙ (ap (λ k. pages_told_of d k (row_count g) all) like.spare_is ∙ ap (λ k. pages_told_of d s k all) (like.rows_is ∙ ap (λ n. rows_in_size n d s) size_is)))
 
 pub area_unsound : (g : Geometry) (size d s : ℕ) (all : List ℕ) (sample : Sample) (items : List Fit) → IsAsOf g size d s → size ≡ length all → has_shape size d s ≡ true
     → sample ≡ sample_of g.data_bytes g.spare_bytes (row_count g) all → sample.sound ≡ 0 → items ≡ items ++ area_fits all d s
@@ -118,14 +118,14 @@ area_is g size d s all sample told items new like size_is shaped is told_is some
     let fits = area_when all d s true true (ap (λ n. has_shape n d s) (sym size_is) ∙ shaped) (positive _ (λ z. some (ap (λ x. x.sound) here ∙ z))) in
     e ∙ ap (λ l. items ++ l) (ap (λ n. flat_map (shape_fits n d s sample told) page_counts) size_is
     ∙ (ap (λ x. flat_map (shape_fits (length all) d s x told) page_counts) here
-    ∙ (ap (λ x. flat_map (shape_fits (length all) d s (sample_of d s (rows_of (length all) d s) all) x) page_counts) there ∙ sym fits)))
+    ∙ (ap (λ x. flat_map (shape_fits (length all) d s (sample_of d s (rows_in_size (length all) d s) all) x) page_counts) there ∙ sym fits)))
 
 pub possible_none : (items : List Fit) → items ≡ [] → All IsPossible items
 possible_none items e = subst (All IsPossible) (sym e) (All-nil IsPossible)
 
-pub few_found : (old new sorted : List Fit) → old ≡ [] → Adds 11025 old new → IsPermutation new sorted → length sorted ≤ 11025
+pub few_found : (old new sorted : List Fit) → old ≡ [] → AddsFits 11025 old new → IsPermutation new sorted → length sorted ≤ 11025
 few_found old new sorted none added moved = (let few = added.few in omega (arith, few, ap (λ (xs : List Fit). length xs) none, length_permutation new sorted moved))
 
 -- as many places as the steps that are left may need
-pub places_left : (old new : List Fit) (done all step capacity kept : ℕ) → Adds done old new → done + step ≤ all → length old + all ≤ capacity → kept ≡ capacity → length new + step ≤ kept
+pub places_left : (old new : List Fit) (done all step capacity kept : ℕ) → AddsFits done old new → done + step ≤ all → length old + all ≤ capacity → kept ≡ capacity → length new + step ≤ kept
 places_left old new done all step capacity kept added l room same = (let few = added.few in omega arith)

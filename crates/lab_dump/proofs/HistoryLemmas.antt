@@ -31,7 +31,7 @@ use Rattle.lab_dump.specs.declared.history.SectorPage.{SectorPage}
 use Rattle.lab_dump.specs.declared.history.Wrote.{Wrote}
 use Rattle.lab_dump.specs.contracts.history.SectorPageOrd.TheImpl as ranked
 use Rattle.lab_dump.proofs.CountLemmas.{count_more}
-use Rattle.lab_dump.specs.History.{AreNewestFirst, ComesBefore, FirstLaw, HasRoom, HistoryLaw, IsHistoryOf, IsPageOf, Shows, page_by, page_in_row, pages_below, pages_of, told_page, wrote_of}
+use Rattle.lab_dump.specs.History.{AreNewestFirst, ComesBefore, FirstLaw, HasHistoryRoom, HistoryLaw, IsHistoryOf, TellsSectorPage, ShowsHistory, page_by, page_in_row, pages_below, sector_pages_of, told_page, wrote_of}
 
 -- ---- one row more
 
@@ -99,10 +99,10 @@ told_is x row version r at same sequence kind =
 nothing : (x : SectorPage) → Contains [] x → ⊥
 nothing x h = omega (arith, h.1)
 
-told_in_row : (image : Image) (n row : ℕ) (x : SectorPage) → Contains (page_in_row n row (slice_get image row)) x → IsPageOf image n x × (x.row ≡ row)
+told_in_row : (image : Image) (n row : ℕ) (x : SectorPage) → Contains (page_in_row n row (slice_get image row)) x → TellsSectorPage image n x × (x.row ≡ row)
 told_in_row image n row x h = at_row (slice_get image row) refl h
   where
-    at_page : (p : Page) (o : Option Record) → slice_get image row ≡ Some p → record_of p ≡ o → Contains (page_by n row (slice_index p.spare 2) o) x → IsPageOf image n x × (x.row ≡ row)
+    at_page : (p : Page) (o : Option Record) → slice_get image row ≡ Some p → record_of p ≡ o → Contains (page_by n row (slice_index p.spare 2) o) x → TellsSectorPage image n x × (x.row ≡ row)
     at_page p None at says h = absurd (nothing x h)
     at_page p (Some r) at says h = elim (cases_Bool (key_eq (key_of r) (key.Sector n))) [
       | inl same_key ↦
@@ -127,11 +127,11 @@ told_in_row image n row x h = at_row (slice_get image row) refl h
       | inr other ↦ absurd (nothing x (subst (λ b. Contains (cond b (told_page row (slice_index p.spare 2) r ∷ []) []) x) other h))
     ]
 
-    at_row : (o : Option Page) → slice_get image row ≡ o → Contains (page_in_row n row o) x → IsPageOf image n x × (x.row ≡ row)
+    at_row : (o : Option Page) → slice_get image row ≡ o → Contains (page_in_row n row o) x → TellsSectorPage image n x × (x.row ≡ row)
     at_row None at h = absurd (nothing x h)
     at_row (Some p) at h = at_page p (record_of p) at refl h
 
-in_its_row : (image : Image) (n : ℕ) (x : SectorPage) → IsPageOf image n x → Contains (page_in_row n x.row (slice_get image x.row)) x
+in_its_row : (image : Image) (n : ℕ) (x : SectorPage) → TellsSectorPage image n x → Contains (page_in_row n x.row (slice_get image x.row)) x
 in_its_row image n x h =
     let version : ℕ = slice_index h.page.spare 2 in
     let same_key : key_eq (key_of h.its) (key.Sector n) ≡ true = ap (λ k. key_eq k (key.Sector n)) h.of_sector ∙ key_eq-same (key.Sector n) in
@@ -140,7 +140,7 @@ in_its_row image n x h =
     ∙ ap (λ y. y ∷ []) (told_is x x.row version h.its refl h.version_is h.sequence_is h.wrote_is))) in
     subst (λ xs. Contains xs x) (sym is) (Contains-push [] x)
 
-told_below : (image : Image) (n rows : ℕ) (x : SectorPage) → Contains (pages_below image n rows) x → IsPageOf image n x
+told_below : (image : Image) (n rows : ℕ) (x : SectorPage) → Contains (pages_below image n rows) x → TellsSectorPage image n x
 unfolding pages_below
 told_below image n zero x h = absurd (nothing x h)
 told_below image n (suc row) x h = elim (Contains-append_cases (pages_below image n row) (page_in_row n row (slice_get image row)) x h) [
@@ -148,7 +148,7 @@ told_below image n (suc row) x h = elim (Contains-append_cases (pages_below imag
   | inr here ↦ (told_in_row image n row x here).0
 ]
 
-all_below : (image : Image) (n rows : ℕ) (x : SectorPage) → IsPageOf image n x → x.row < rows → Contains (pages_below image n rows) x
+all_below : (image : Image) (n rows : ℕ) (x : SectorPage) → TellsSectorPage image n x → x.row < rows → Contains (pages_below image n rows) x
 unfolding pages_below
 all_below image n zero x h within = absurd (omega arith)
 all_below image n (suc row) x h within = elim (cases_eq x.row row) [
@@ -167,13 +167,13 @@ first_law image n row h is e =
     let found = sequence_at-is (marks image) (key.Sector n) row newest_is.value newest_is.here in
     let p = page_of_mark image row found.its found.is in
     let x : SectorPage = told_page row (slice_index p.0.spare 2) found.its in
-    let of_x : IsPageOf image n x = record { page = p.0; its = found.its; at = p.1; says = p.2; of_sector = found.of_key; sequence_is = refl; wrote_is = refl; version_is = refl } in
+    let of_x : TellsSectorPage image n x = record { page = p.0; its = found.its; at = p.1; says = p.2; of_sector = found.of_key; sequence_is = refl; wrote_is = refl; version_is = refl } in
     let pages : List SectorPage = h.pages.items in
-    let place = Contains-permutation (pages_of image n) pages x is.all ((history_law image n x).1 of_x) in
+    let place = Contains-permutation (sector_pages_of image n) pages x is.all ((history_law image n x).1 of_x) in
     let inside : 0 < length pages = omega (arith, place.1) in
     let first : SectorPage = get_or pages 0 x in
     let greatest : x.sequence.0 ≤ first.sequence.0 = subst (λ y. y.sequence.0 ≤ first.sequence.0) place.2 (first_greatest pages place.0 x is.order place.1) in
-    let of_first : IsPageOf image n first = (history_law image n first).0 (Contains-permutation pages (pages_of image n) first (IsPermutation-sym (pages_of image n) pages is.all) (Contains-get_or pages 0 x inside)) in
+    let of_first : TellsSectorPage image n first = (history_law image n first).0 (Contains-permutation pages (sector_pages_of image n) first (IsPermutation-sym (sector_pages_of image n) pages is.all) (Contains-get_or pages 0 x inside)) in
     let mark = mark-page image first.row of_first.page of_first.at ∙ of_first.says in
     let sequence : sequence_at (marks image) (key.Sector n) first.row ≡ Some of_first.its.sequence =
     subst (λ k. sequence_at (marks image) k first.row ≡ Some of_first.its.sequence) of_first.of_sector (sequence_at-key (marks image) first.row of_first.its mark) in
@@ -188,12 +188,12 @@ first_law image n row h is e =
 
 -- ---- all pages
 
-pub history_of : (g : Geometry) (n : ℕ) (pages : List SectorPage) (h : History) (bytes : List ℕ) → IsTaken g (λ image. Shows n (row_count g) image pages h.unsound) bytes → IsPermutation pages h.pages.items → AreNewestFirst h.pages.items
+pub history_of : (g : Geometry) (n : ℕ) (pages : List SectorPage) (h : History) (bytes : List ℕ) → IsTaken g (λ image. ShowsHistory n (row_count g) image pages h.unsound) bytes → IsPermutation pages h.pages.items → AreNewestFirst h.pages.items
     → IsHistoryOf g n h bytes
 history_of g n pages h bytes taken moved order =
     let image : Image = raw_image g bytes in
     let size : length image ≡ row_count g = length-raw_image g bytes in
-    let all : pages ≡ pages_of image n = taken.shown.pages_are ∙ ap (pages_below image n) (sym size) in
+    let all : pages ≡ sector_pages_of image n = taken.shown.pages_are ∙ ap (pages_below image n) (sym size) in
     record {
       whole = taken.whole;
       history = record {
@@ -204,13 +204,13 @@ history_of g n pages h bytes taken moved order =
     }
 
 -- no page has passed, and none is listed
-pub nothing_listed : (all capacity : ℕ) (pages : List SectorPage) → pages ≡ [] → all ≤ capacity → HasRoom all 0 pages capacity × (0 ≤ 0)
+pub nothing_listed : (all capacity : ℕ) (pages : List SectorPage) → pages ≡ [] → all ≤ capacity → HasHistoryRoom all 0 pages capacity × (0 ≤ 0)
 nothing_listed all capacity pages none room = (record { few = subst (λ (ps : List SectorPage). length ps ≤ 0) (sym none) (omega arith); room = room }, omega arith)
 
-pub room_more : (all row capacity kept : ℕ) (old new : List SectorPage) → HasRoom all row old capacity → length new ≤ length old + 1 → kept ≡ capacity → HasRoom all (row + 1) new kept
+pub room_more : (all row capacity kept : ℕ) (old new : List SectorPage) → HasHistoryRoom all row old capacity → length new ≤ length old + 1 → kept ≡ capacity → HasHistoryRoom all (row + 1) new kept
 room_more all row capacity kept old new h one same = record { few = (let few = h.few in omega arith); room = (let room = h.room in omega arith) }
 
-pub room_same : (all row capacity : ℕ) (pages : List SectorPage) → HasRoom all row pages capacity → HasRoom all (row + 1) pages capacity
+pub room_same : (all row capacity : ℕ) (pages : List SectorPage) → HasHistoryRoom all row pages capacity → HasHistoryRoom all (row + 1) pages capacity
 room_same all row capacity pages h = record { few = (let few = h.few in omega arith); room = h.room }
 
 pub same_unsound : (row old new : ℕ) → old ≤ row → new ≡ old → new ≤ row + 1

@@ -28,7 +28,7 @@ use Rattle.lab_dump.specs.declared.trace.Trace.{Trace}
 use Rattle.lab_dump.specs.declared.trace.Trace.TheVariants as trace
 use Rattle.lab_dump.specs.Doubting.{HasTraces}
 use Rattle.lab_dump.specs.Keys.{HasFormed, key_state}
-use Rattle.lab_dump.specs.Trace.{state_in}
+use Rattle.lab_dump.specs.Trace.{key_state_in}
 use Rattle.lab_dump.proofs.TraceLemmas.{tells_state}
 
 -- ---- whether a table page is well formed
@@ -98,14 +98,14 @@ formed_start g image formed size = record {
 -- the first n states are those
 pub record AreStated (traces : List Trace) (n : ℕ) (states : List KeyState) : Type 0 where
   pub size : length states ≡ length traces
-  pub each : (i : ℕ) → i < n → get_or states i Absent ≡ state_in (get_or traces i trace.Never)
+  pub each : (i : ℕ) → i < n → get_or states i Absent ≡ key_state_in (get_or traces i trace.Never)
 
-pub stated_more : (traces : List Trace) (n : ℕ) (states : List KeyState) (d : Trace) (x : KeyState) → AreStated traces n states → n < length traces → x ≡ state_in (get_or traces n d) → AreStated traces (n + 1) (set states n x)
+pub stated_more : (traces : List Trace) (n : ℕ) (states : List KeyState) (d : Trace) (x : KeyState) → AreStated traces n states → n < length traces → x ≡ key_state_in (get_or traces n d) → AreStated traces (n + 1) (set states n x)
 stated_more traces n states d x h within is = record {
   size = length-set states n x ∙ h.size;
   each = λ i l. elim (cases_eq i n) [
-    | inl same ↦ subst (λ k. get_or (set states n x) k Absent ≡ state_in (get_or traces k trace.Never)) (sym same)
-        (get_or-set_same states n x Absent (omega (arith, h.size)) ∙ (is ∙ ap (λ y. state_in y) (get_or_default traces n d trace.Never within)))
+    | inl same ↦ subst (λ k. get_or (set states n x) k Absent ≡ key_state_in (get_or traces k trace.Never)) (sym same)
+        (get_or-set_same states n x Absent (omega (arith, h.size)) ∙ (is ∙ ap (λ y. key_state_in y) (get_or_default traces n d trace.Never within)))
     | inr ne ↦ get_or-set_other states n i x Absent ne ∙ h.each i (below i n l ne)
   ];
 }
@@ -114,7 +114,7 @@ stated_more traces n states d x h within is = record {
     below i n l ne = elim (cases_order i n) [ inl same ↦ absurd (ne same) | inr (inl less) ↦ less | inr (inr more) ↦ absurd (omega arith) ]
 
 pub keys_stated : (g : Geometry) (image : Image) (traces : List Trace) (states : List KeyState) → length image ≡ row_count g → HasTraces g (marks image) (row_count g) traces
-    → ((i : ℕ) → i < length traces → get_or states i Absent ≡ state_in (get_or traces i trace.Never)) → (key : Key) → IsKeyOf g key → get_or states (index_of g key) Absent ≡ key_state image key
+    → ((i : ℕ) → i < length traces → get_or states i Absent ≡ key_state_in (get_or traces i trace.Never)) → (key : Key) → IsKeyOf g key → get_or states (index_of g key) Absent ≡ key_state image key
 unfolding key_state
 keys_stated g image traces states whole h each key within =
     let size = h.size in

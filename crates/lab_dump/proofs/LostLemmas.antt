@@ -25,7 +25,7 @@ use Rattle.page_layout.proofs.StepLemmas.{below_more}
 use Rattle.page_layout.proofs.FlashLemmas.{geometry-Steps, program_means, erase_keeps}
 use Rattle.certificate.specs.Claim.{Claim}
 use Rattle.image_check.specs.Agrees.{Agrees}
-use Rattle.lab_dump.specs.Lost.{IsWhereSaid, IsSince, GoesOn, is_there, is_lost_by, said_row, is_lost, LostLaw, NoneLostLaw}
+use Rattle.lab_dump.specs.Lost.{IsWhereSaid, IsSectorSince, LeadsInOrder, is_there, is_lost_by_latest, said_row, has_lost_page, HasLostPageLaw, NoneLostLaw}
 
 -- ---- the criterion
 
@@ -83,7 +83,7 @@ not_and_false false = refl
 
 -- one newest page that stands where it is said, or is late
 kept_once : (ms : List (Option Record)) (n next row s : ℕ) (said : Option ℕ) (b c : Bool) → SaysOnce (sequence_at ms (Sector n)) (length ms) row s → is_there said row ≡ b → nat_lt s next ≡ c → (not b && c) ≡ false
-    → IsWhereSaid ms n said ⊎ IsSince ms n next
+    → IsWhereSaid ms n said ⊎ IsSectorSince ms n next
 kept_once ms n next row s said true c h there late e = inl (subst (λ o. IsWhereSaid ms n o) (sym (there_is said row there)) (once_top ms n row s h))
 kept_once ms n next row s said false true h there late e = absurd (true_false e)
 kept_once ms n next row s said false false h there late e = inr (record { row = row; sequence = s; newest_is = once_top ms n row s h; at = h.here; late = late_is s next late })
@@ -95,14 +95,14 @@ said_once ms n next row s (Some r) h top =
     let there : is_there (Some r) row ≡ true = ap (λ k. is_there (Some k) row) same ∙ is_there_here row in
     ap (λ b. not b && nat_lt s next) there
 
-since_once : (ms : List (Option Record)) (n next row s : ℕ) (said : Option ℕ) → SaysOnce (sequence_at ms (Sector n)) (length ms) row s → IsSince ms n next → (not (is_there said row) && nat_lt s next) ≡ false
+since_once : (ms : List (Option Record)) (n next row s : ℕ) (said : Option ℕ) → SaysOnce (sequence_at ms (Sector n)) (length ms) row s → IsSectorSince ms n next → (not (is_there said row) && nat_lt s next) ≡ false
 since_once ms n next row s said h since =
     let same : since.row ≡ row = greatest_unique (sequence_at ms (Sector n)) since.row row since.newest_is (once_top ms n row s h) in
     let its : since.sequence ≡ s = same_of since.at (ap (sequence_at ms (Sector n)) same ∙ h.here) in
     let late : nat_lt s next ≡ false = late_from s next (let l = since.late in omega arith) in
     ap (λ c. not (is_there said row) && c) late ∙ not_and_false (is_there said row)
 
-lost_by : (ms : List (Option Record)) (n next : ℕ) (said : Option ℕ) (l : Latest) → Says (sequence_at ms (Sector n)) (length ms) l → (is_lost_by said next l ≡ false) ↔ (IsWhereSaid ms n said ⊎ IsSince ms n next)
+lost_by : (ms : List (Option Record)) (n next : ℕ) (said : Option ℕ) (l : Latest) → Says (sequence_at ms (Sector n)) (length ms) l → (is_lost_by_latest said next l ≡ false) ↔ (IsWhereSaid ms n said ⊎ IsSectorSince ms n next)
 lost_by ms n next None Never h = (λ _. inl (never_all ms n h), λ _. refl)
 lost_by ms n next (Some r) Never h = (
   λ e. absurd (true_false e),
@@ -137,8 +137,8 @@ latest_says : (image : Image) (n : ℕ) → Says (sequence_at (marks image) (Sec
 unfolding latest_below
 latest_says image n = subst (λ k. Says (sequence_at (marks image) (Sector n)) (length (marks image)) (best (sequence_at (marks image) (Sector n)) k)) (length-marks image) (best_says (sequence_at (marks image) (Sector n)) (length (marks image)))
 
-pub lost_law : LostLaw
-unfolding is_lost
+pub lost_law : HasLostPageLaw
+unfolding has_lost_page
 lost_law c image n = lost_by (marks image) n c.next (said_row c n) (latest_below (marks image) (Sector n) (length image)) (latest_says image n)
 
 -- ---- a die that goes on
@@ -223,7 +223,7 @@ means_on : (g : Geometry) (c : Claim) (next : ℕ) (r : Record) (row : ℕ) (bod
 means_on g c next r row body true old new h le w = written_on g c next r row body old new h le w
 means_on g c next r row body false old new h le k = raised g c next (r.sequence + 1) new (omega arith) (kept_on g c next old new h k)
 
-goes_on : (g : Geometry) (c : Claim) (next : ℕ) (old new : Flash) (log : List Operation) → old.geometry ≡ g → Follows g c next old.image → GoesOn g next old log new → (last : ℕ) × Follows g c last new.image
+goes_on : (g : Geometry) (c : Claim) (next : ℕ) (old new : Flash) (log : List Operation) → old.geometry ≡ g → Follows g c next old.image → LeadsInOrder g next old log new → (last : ℕ) × Follows g c last new.image
 goes_on g c next old new [] same h e = (next, subst (λ (s : Flash). Follows g c next s.image) (sym e) h)
 goes_on g c next old new (Program row p passed left ∷ log) same h (r, due, mid, step, rest) =
     let newer : AreBelow (marks old.image) r.sequence = below_more (marks old.image) next r.sequence due.late h.below in
@@ -247,7 +247,7 @@ where_said : (g : Geometry) (image : Image) (n : ℕ) (said : Option ℕ) → Ha
 where_said g image n None one e = λ row. none_sound g image n row one e
 where_said g image n (Some row) one e = newest-is (marks image) (Sector n) row e
 
-since_late : (ms : List (Option Record)) (n next : ℕ) → IsLate ms n next → IsSince ms n next
+since_late : (ms : List (Option Record)) (n next : ℕ) → IsLate ms n next → IsSectorSince ms n next
 since_late ms n next h =
     let found = newest-record ms (Sector n) h.row h.newest_is in
     let both : Some found.0 ≡ Some h.its = sym found.1 ∙ h.is in

@@ -8,7 +8,7 @@ use Rattle.std.proofs.lemmas.Bool.Decides.{Decides-eqb}
 use Rattle.page_layout.specs.declared.geometry.Geometry.{Geometry}
 use Rattle.lab_dump.specs.declared.mark.MapMark.{MapMark}
 use Rattle.lab_dump.specs.declared.mark.MapMark.TheVariants.{Untried, Finished, Mended, Bad}
-use Rattle.lab_dump.specs.Map.{AreAreas, IsAreaTo, area_line, area_words, areas_below, ends_at, first_of, is_like}
+use Rattle.lab_dump.specs.Map.{AreAreas, IsAreaTo, area_line, area_words, areas_below, ends_at, first_in_area, is_like}
 
 -- ---- sectors that are marked alike
 
@@ -75,21 +75,21 @@ end_is false a b P d = (
 
 -- ---- where an area begins
 
-pub first_zero : (marks : List MapMark) → first_of marks 0 ≡ 0
-unfolding first_of
+pub first_zero : (marks : List MapMark) → first_in_area marks 0 ≡ 0
+unfolding first_in_area
 first_zero marks = refl
 
-pub first_after : (marks : List MapMark) (n : ℕ) → ends_at marks n ≡ true → first_of marks (n + 1) ≡ n + 1
-unfolding first_of
+pub first_after : (marks : List MapMark) (n : ℕ) → ends_at marks n ≡ true → first_in_area marks (n + 1) ≡ n + 1
+unfolding first_in_area
 first_after marks n e =
     let next : n + 1 ≡ suc n = omega arith in
-    ap (first_of marks) next ∙ (ap (λ (b : Bool). if b then suc n else first_of marks n) e ∙ sym next)
+    ap (first_in_area marks) next ∙ (ap (λ (b : Bool). if b then suc n else first_in_area marks n) e ∙ sym next)
 
-pub first_still : (marks : List MapMark) (n : ℕ) → ends_at marks n ≡ false → first_of marks (n + 1) ≡ first_of marks n
-unfolding first_of
+pub first_still : (marks : List MapMark) (n : ℕ) → ends_at marks n ≡ false → first_in_area marks (n + 1) ≡ first_in_area marks n
+unfolding first_in_area
 first_still marks n e =
     let next : n + 1 ≡ suc n = omega arith in
-    ap (first_of marks) next ∙ ap (λ (b : Bool). if b then suc n else first_of marks n) e
+    ap (first_in_area marks) next ∙ ap (λ (b : Bool). if b then suc n else first_in_area marks n) e
 
 at_same : (marks : List MapMark) (m n : ℕ) → m ≡ n → get_or marks m Untried ≡ get_or marks n Untried
 at_same marks m n e = ap (λ (k : ℕ). get_or marks k Untried) e
@@ -102,7 +102,7 @@ area_new marks n front = record {
   one = λ m low high. absurd (omega arith);
 }
 
-area_more : (marks : List MapMark) (n : ℕ) → ends_at marks n ≡ false → IsAreaTo marks (first_of marks n) n → IsAreaTo marks (first_of marks n) (n + 1)
+area_more : (marks : List MapMark) (n : ℕ) → ends_at marks n ≡ false → IsAreaTo marks (first_in_area marks n) n → IsAreaTo marks (first_in_area marks n) (n + 1)
 area_more marks n e h = record {
   rising = (let low = h.rising in omega arith);
   alike = λ m low high. elim (cases_eq m (n + 1)) [
@@ -116,17 +116,17 @@ area_more marks n e h = record {
   ];
 }
 
-area_next : (marks : List MapMark) (n : ℕ) (b : Bool) → ends_at marks n ≡ b → IsAreaTo marks (first_of marks n) n → IsAreaTo marks (first_of marks (n + 1)) (n + 1)
+area_next : (marks : List MapMark) (n : ℕ) (b : Bool) → ends_at marks n ≡ b → IsAreaTo marks (first_in_area marks n) n → IsAreaTo marks (first_in_area marks (n + 1)) (n + 1)
 area_next marks n true e h = subst (λ (f : ℕ). IsAreaTo marks f (n + 1)) (sym (first_after marks n e)) (area_new marks (n + 1) (inr (n, refl, e)))
 area_next marks n false e h = subst (λ (f : ℕ). IsAreaTo marks f (n + 1)) (sym (first_still marks n e)) (area_more marks n e h)
 
-area_to : (marks : List MapMark) (n : ℕ) → IsAreaTo marks (first_of marks n) n
+area_to : (marks : List MapMark) (n : ℕ) → IsAreaTo marks (first_in_area marks n) n
 area_to marks zero = subst (λ (f : ℕ). IsAreaTo marks f 0) (sym (first_zero marks)) (area_new marks 0 (inl refl))
 area_to marks (suc n) =
     let next : n + 1 ≡ suc n = omega arith in
-    subst (λ (k : ℕ). IsAreaTo marks (first_of marks k) k) next (area_next marks n (ends_at marks n) refl (area_to marks n))
+    subst (λ (k : ℕ). IsAreaTo marks (first_in_area marks k) k) next (area_next marks n (ends_at marks n) refl (area_to marks n))
 
-pub first_low : (marks : List MapMark) (n : ℕ) → first_of marks n ≤ n
+pub first_low : (marks : List MapMark) (n : ℕ) → first_in_area marks n ≤ n
 first_low marks n = (area_to marks n).rising
 
 pub are_areas : (marks : List MapMark) (n : ℕ) → n < length marks → AreAreas marks n
@@ -146,16 +146,16 @@ unfolding areas_below
 below_more g marks n = let next : suc n ≡ n + 1 = omega arith in ap (areas_below g marks) next
 
 pub line_none : (g : Geometry) (marks : List MapMark) (n : ℕ) → ends_at marks n ≡ false → area_line g marks n ≡ []
-line_none g marks n e = ap (λ (b : Bool). if b then area_words (first_of marks n * g.data_bytes) ((n + 1 - first_of marks n) * g.data_bytes) (get_or marks n Untried) ++ (10 ∷ []) else []) e
+line_none g marks n e = ap (λ (b : Bool). if b then area_words (first_in_area marks n * g.data_bytes) ((n + 1 - first_in_area marks n) * g.data_bytes) (get_or marks n Untried) ++ (10 ∷ []) else []) e
 
-pub line_some : (g : Geometry) (marks : List MapMark) (n : ℕ) → ends_at marks n ≡ true → area_line g marks n ≡ area_words (first_of marks n * g.data_bytes) ((n + 1 - first_of marks n) * g.data_bytes) (get_or marks n Untried) ++ (10 ∷ [])
-line_some g marks n e = ap (λ (b : Bool). if b then area_words (first_of marks n * g.data_bytes) ((n + 1 - first_of marks n) * g.data_bytes) (get_or marks n Untried) ++ (10 ∷ []) else []) e
+pub line_some : (g : Geometry) (marks : List MapMark) (n : ℕ) → ends_at marks n ≡ true → area_line g marks n ≡ area_words (first_in_area marks n * g.data_bytes) ((n + 1 - first_in_area marks n) * g.data_bytes) (get_or marks n Untried) ++ (10 ∷ [])
+line_some g marks n e = ap (λ (b : Bool). if b then area_words (first_in_area marks n * g.data_bytes) ((n + 1 - first_in_area marks n) * g.data_bytes) (get_or marks n Untried) ++ (10 ∷ []) else []) e
 
-pub line_is : (g : Geometry) (marks : List MapMark) (n first position size : ℕ) (mark : MapMark) → ends_at marks n ≡ true → first ≡ first_of marks n → position ≡ first * g.data_bytes → size ≡ (n + 1 - first) * g.data_bytes → mark ≡ get_or marks n Untried
+pub line_is : (g : Geometry) (marks : List MapMark) (n first position size : ℕ) (mark : MapMark) → ends_at marks n ≡ true → first ≡ first_in_area marks n → position ≡ first * g.data_bytes → size ≡ (n + 1 - first) * g.data_bytes → mark ≡ get_or marks n Untried
     → area_words position size mark ++ (10 ∷ []) ≡ area_line g marks n
 line_is g marks n first position size mark e is at long marked =
     let d = g.data_bytes in
-    let top = first_of marks n in
+    let top = first_in_area marks n in
     ap (λ (p : ℕ). area_words p size mark ++ (10 ∷ [])) (at ∙ ap (λ (f : ℕ). f * d) is)
     ∙ (ap (λ (z : ℕ). area_words (top * d) z mark ++ (10 ∷ [])) (long ∙ ap (λ (f : ℕ). (n + 1 - f) * d) is)
     ∙ (ap (λ (s : MapMark). area_words (top * d) ((n + 1 - top) * d) s ++ (10 ∷ [])) marked ∙ sym (line_some g marks n e)))

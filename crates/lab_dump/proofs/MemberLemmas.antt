@@ -15,9 +15,9 @@ use Rattle.lab_dump.specs.declared.sample.Sample.{Sample}
 use Rattle.lab_dump.specs.declared.told.PagesTold.{PagesTold}
 use Rattle.lab_dump.specs.Sample.{looked_count, looked_row, look_at, is_sound, looked_by, sample_of}
 use Rattle.lab_dump.specs.Told.{pages_told_of}
-use Rattle.lab_dump.specs.Shape.{data_sizes, page_counts, rows_of, are_blocks, is_shape, has_shape}
+use Rattle.lab_dump.specs.Shape.{data_sizes, page_counts, rows_in_size, are_blocks, is_shape, has_shape}
 use Rattle.lab_dump.specs.Fits.{fit_of, shape_fits, area_fits, data_fits, fits_of}
-use Rattle.lab_dump.specs.FitLaws.{IsFit, FitLaw, OwnGeometryLaw}
+use Rattle.lab_dump.specs.FitLaws.{IsFitOfDump, FitLaw, OwnGeometryLaw}
 use Rattle.lab_dump.proofs.SampleLemmas.{one, count_last}
 use Rattle.lab_dump.proofs.ShapeLemmas.{all_sizes, all_counts, size_among, count_among, contains_head, contains_more}
 use Rattle.lab_dump.proofs.FitLemmas.{area_when, within}
@@ -68,22 +68,22 @@ any_there test (z ∷ xs) x (suc k, l, is) e = or_right (test z) (list_any test 
 
 -- what a shape says in numbers
 record Shaped (size d s p : ℕ) : Type 0 where
-  blocks : IsBlockCount d p (rows_of size d s / p)
-  rows_is : rows_of size d s ≡ rows_of size d s / p * p
-  whole : size ≡ rows_of size d s * (d + s)
+  blocks : IsBlockCount d p (rows_in_size size d s / p)
+  rows_is : rows_in_size size d s ≡ rows_in_size size d s / p * p
+  whole : size ≡ rows_in_size size d s * (d + s)
 
 shaped : (size d s p : ℕ) → is_shape size d s p ≡ true → Shaped size d s p
 shaped size d s p h =
-    let a = and_parts ((size % (d + s) == 0) && (rows_of size d s % p == 0)) (are_blocks d p (rows_of size d s / p)) h in
-    let b = and_parts (size % (d + s) == 0) (rows_of size d s % p == 0) a.0 in
-    let c = and_parts (nat_le 12 (rows_of size d s / p) && nat_le (rows_of size d s / p) 4096) (nat_le (rows_of size d s / p) (d / 4 * p)) a.1 in
-    let e = and_parts (nat_le 12 (rows_of size d s / p)) (nat_le (rows_of size d s / p) 4096) c.0 in
+    let a = and_parts ((size % (d + s) == 0) && (rows_in_size size d s % p == 0)) (are_blocks d p (rows_in_size size d s / p)) h in
+    let b = and_parts (size % (d + s) == 0) (rows_in_size size d s % p == 0) a.0 in
+    let c = and_parts (nat_le 12 (rows_in_size size d s / p) && nat_le (rows_in_size size d s / p) 4096) (nat_le (rows_in_size size d s / p) (d / 4 * p)) a.1 in
+    let e = and_parts (nat_le 12 (rows_in_size size d s / p)) (nat_le (rows_in_size size d s / p) 4096) c.0 in
     let first : size % (d + s) ≡ 0 = eqb-true (size % (d + s)) 0 b.0 in
-    let second : rows_of size d s % p ≡ 0 = eqb-true (rows_of size d s % p) 0 b.1 in
+    let second : rows_in_size size d s % p ≡ 0 = eqb-true (rows_in_size size d s % p) 0 b.1 in
     let sum = div-add-mod' size (d + s) in
-    let product = div-add-mod' (rows_of size d s) p in
+    let product = div-add-mod' (rows_in_size size d s) p in
     record {
-      blocks = record { least = leb-true 12 (rows_of size d s / p) e.0; most = leb-true (rows_of size d s / p) 4096 e.1; within_table = leb-true (rows_of size d s / p) (d / 4 * p) c.1 };
+      blocks = record { least = leb-true 12 (rows_in_size size d s / p) e.0; most = leb-true (rows_in_size size d s / p) 4096 e.1; within_table = leb-true (rows_in_size size d s / p) (d / 4 * p) c.1 };
       rows_is = omega arith;
       whole = omega arith;
     }
@@ -93,14 +93,14 @@ rows_are size b p n some e = ap (λ k. k / n) e ∙ mul-div_cancel (b * p) some
 
 is_shaped : (size d s p b : ℕ) → 0 < d → 0 < p → IsBlockCount d p b → size ≡ b * p * (d + s) → is_shape size d s p ≡ true
 is_shaped size d s p b some_d some_p blocks e =
-    let rows : rows_of size d s ≡ b * p = rows_are size b p (d + s) (omega arith) e in
-    let count : rows_of size d s / p ≡ b = ap (λ k. k / p) rows ∙ mul-div_cancel b some_p in
+    let rows : rows_in_size size d s ≡ b * p = rows_are size b p (d + s) (omega arith) e in
+    let count : rows_in_size size d s / p ≡ b = ap (λ k. k / p) rows ∙ mul-div_cancel b some_p in
     let first : size % (d + s) ≡ 0 = ap (λ k. k % (d + s)) e ∙ mul-mod_left (b * p) (d + s) in
-    let second : rows_of size d s % p ≡ 0 = ap (λ k. k % p) rows ∙ mul-mod_left b p in
-    let third : are_blocks d p (rows_of size d s / p) ≡ true = ap (are_blocks d p) count
+    let second : rows_in_size size d s % p ≡ 0 = ap (λ k. k % p) rows ∙ mul-mod_left b p in
+    let third : are_blocks d p (rows_in_size size d s / p) ≡ true = ap (are_blocks d p) count
     ∙ and_from (nat_le 12 b && nat_le b 4096) (nat_le b (d / 4 * p)) (and_from (nat_le 12 b) (nat_le b 4096) (le-leb 12 b blocks.least) (le-leb b 4096 blocks.most)) (le-leb b (d / 4 * p) blocks.within_table) in
-    and_from ((size % (d + s) == 0) && (rows_of size d s % p == 0)) (are_blocks d p (rows_of size d s / p))
-    (and_from (size % (d + s) == 0) (rows_of size d s % p == 0) (eq-eqb (size % (d + s)) 0 first) (eq-eqb (rows_of size d s % p) 0 second)) third
+    and_from ((size % (d + s) == 0) && (rows_in_size size d s % p == 0)) (are_blocks d p (rows_in_size size d s / p))
+    (and_from (size % (d + s) == 0) (rows_in_size size d s % p == 0) (eq-eqb (size % (d + s)) 0 first) (eq-eqb (rows_in_size size d s % p) 0 second)) third
 
 -- ---- all that fit
 
@@ -108,15 +108,15 @@ is_shaped size d s p b some_d some_p blocks e =
 abbrev pub fit_at : List ℕ → ℕ → ℕ → ℕ → ℕ → Fit
 fit_at all d s p b = fit_of d s p b (sample_of d s (b * p) all) (pages_told_of d s (b * p) all)
 
-is_fit : (all : List ℕ) (d s p b : ℕ) (f : Fit) → IsDataSize d → IsSpareSize s → IsPageCount p → IsBlockCount d p b → length all ≡ b * p * (d + s) → 0 < (sample_of d s (b * p) all).sound → f ≡ fit_at all d s p b → IsFit all f
-is_fit all d s p b f sized spare pages blocks size some e = subst (IsFit all) (sym e) (record {
+is_fit : (all : List ℕ) (d s p b : ℕ) (f : Fit) → IsDataSize d → IsSpareSize s → IsPageCount p → IsBlockCount d p b → length all ≡ b * p * (d + s) → 0 < (sample_of d s (b * p) all).sound → f ≡ fit_at all d s p b → IsFitOfDump all f
+is_fit all d s p b f sized spare pages blocks size some e = subst (IsFitOfDump all) (sym e) (record {
   limits = record { data_size = sized; spare_size = spare; page_count = pages; block_count = blocks; sector_count = within (pages_told_of d s (b * p) all).sectors };
   whole = size;
   evidence = refl;
   some_sound = some;
 })
 
-from_fits : (all : List ℕ) (f : Fit) → Contains (fits_of all) f → IsFit all f
+from_fits : (all : List ℕ) (f : Fit) → Contains (fits_of all) f → IsFitOfDump all f
 unfolding fits_of data_fits
 from_fits all f h =
     let by_data = from_piece (data_fits all) data_sizes f h in
@@ -125,7 +125,7 @@ from_fits all f h =
     let s : ℕ = by_spare.0 in
     let spare = from_range 32 225 s by_spare.1 in
     let n : ℕ = length all in
-    let rows : ℕ = rows_of n d s in
+    let rows : ℕ = rows_in_size n d s in
     let sample : Sample = sample_of d s rows all in
     let told : PagesTold = pages_told_of d s rows all in
     let chosen = from_choice (has_shape n d s && nat_lt 0 sample.sound) (flat_map (shape_fits n d s sample told) page_counts) f
@@ -140,7 +140,7 @@ from_fits all f h =
     (numbers.whole ∙ ap (λ k. k * (d + s)) numbers.rows_is) (subst (λ k. 0 < (sample_of d s k all).sound) numbers.rows_is (ltb-true 0 sample.sound tests.1))
     (is ∙ ap (λ k. fit_of d s p (rows / p) (sample_of d s k all) (pages_told_of d s k all)) numbers.rows_is)
 
-into_fits : (all : List ℕ) (f : Fit) → IsFit all f → Contains (fits_of all) f
+into_fits : (all : List ℕ) (f : Fit) → IsFitOfDump all f → Contains (fits_of all) f
 unfolding fits_of data_fits
 into_fits all f h =
     let d : ℕ = f.data_bytes in
@@ -148,7 +148,7 @@ into_fits all f h =
     let p : ℕ = f.pages in
     let b : ℕ = f.blocks in
     let n : ℕ = length all in
-    let rows : ℕ = rows_of n d s in
+    let rows : ℕ = rows_in_size n d s in
     let rows_is : rows ≡ b * p = rows_are n b p (d + s) (let least = h.limits.data_size.least in omega arith) h.whole in
     let count : rows / p ≡ b = ap (λ k. k / p) rows_is ∙ mul-div_cancel b (let least = h.limits.page_count.least in omega arith) in
     let sample : Sample = sample_of d s rows all in

@@ -10,7 +10,7 @@ use Rattle.page_layout.specs.declared.record.Kind.{Kind}
 use Rattle.page_layout.specs.declared.record.Record.{Record}
 use Rattle.page_layout.specs.Sound.{has_form, has_version, is_filled, kind_from, record_in, seal_end, seal_size, spelled}
 use Rattle.lab_dump.specs.declared.nearest.Legible.{Legible}
-use Rattle.lab_dump.specs.Nearest.{HasBehind, IsNearest, IsNoLater, LegibleLaw, NearestLaw, NoneLaw, is_settled, is_table, legible, nearer, nearest_below, nearest_of, read_as, read_at}
+use Rattle.lab_dump.specs.Nearest.{HasBehind, IsNearest, IsNoLater, LegibleLaw, NearestLaw, NoneLegibleLaw, is_settled, is_table, legible, nearer, nearest_below, nearest_of, legible_at, read_at}
 
 -- ---- one record
 
@@ -103,7 +103,7 @@ nearest_more all n = (let e : n + 1 ≡ suc n = omega arith in ap (nearest_below
 
 -- at which none can be read
 pub nearest_less : (all : List ℕ) (n : ℕ) → legible (drop n all) ≡ None → nearest_below all (n + 1) ≡ nearest_below all n
-nearest_less all n none = nearest_more all n ∙ (ap (λ o. nearer (nearest_below all n) (read_as n o)) none ∙ nearer_none (nearest_below all n))
+nearest_less all n none = nearest_more all n ∙ (ap (λ o. nearer (nearest_below all n) (legible_at n o)) none ∙ nearer_none (nearest_below all n))
 
 -- one of a table page is the nearest one for good
 pub table_stays : (all : List ℕ) (n more : ℕ) (x : Legible) → nearest_below all n ≡ Some x → is_table x ≡ true → nearest_below all (n + more) ≡ Some x
@@ -203,11 +203,11 @@ front_legible spare behind r many e =
 
 pub legible_law : LegibleLaw
 legible_law before spare behind r many e =
-    ap (read_as (length before)) (ap legible (drop_at before (spare ++ behind) (length before) refl) ∙ front_legible spare behind r many e)
+    ap (legible_at (length before)) (ap legible (drop_at before (spare ++ behind) (length before) refl) ∙ front_legible spare behind r many e)
 
 -- nothing can be read behind the last byte
 past_none : (all : List ℕ) (at : ℕ) → length all ≤ at → read_at all at ≡ None
-past_none all at past = ap (read_as at) (few_legible (drop at all) (omega (arith, length-drop at all)))
+past_none all at past = ap (legible_at at) (few_legible (drop at all) (omega (arith, length-drop at all)))
 
 pub read_within : (all : List ℕ) (at : ℕ) (x : Legible) → read_at all at ≡ Some x → at < length all
 read_within all at x e = elim (cases_lt at (length all)) [
@@ -218,7 +218,7 @@ read_within all at x e = elim (cases_lt at (length all)) [
 place_is : (all : List ℕ) (at : ℕ) (x : Legible) → read_at all at ≡ Some x → x.at ≡ at
 place_is all at x e = by (legible (drop at all)) e
   where
-    by : (o : Option Record) → read_as at o ≡ Some x → x.at ≡ at
+    by : (o : Option Record) → legible_at at o ≡ Some x → x.at ≡ at
     by None h = absurd (let clash : None ≡ Some x = h in cc)
     by (Some r) h = (let same : Some (record { at = at; says = r }) ≡ Some x = h in cc)
 
@@ -322,7 +322,7 @@ nearest_law all x = (from_nearest all x, λ h. by (nearest_of all) refl h)
     by None e h = absurd (let none = subst (IsNearestBelow all (length all)) e (nearest_is all (length all)) in let clash : None ≡ Some x = sym (none x.at (read_within all x.at x h.read)) ∙ h.read in cc)
     by (Some y) e h = ap Some (one_nearest all y x (from_nearest all y e) h)
 
-pub none_law : NoneLaw
+pub none_law : NoneLegibleLaw
 none_law all = (λ e at. nothing e at, λ h. by (nearest_of all) refl h)
   where
     nothing : nearest_of all ≡ None → (at : ℕ) → read_at all at ≡ None
@@ -348,10 +348,10 @@ unnamed_at bytes place version is one two =
 
 -- one place more, at which a record was looked for, or where none may begin
 pub look_more : (all : List ℕ) (first places place : ℕ) (bytes : List ℕ) (old new : Option Legible) → HasBehind all first places bytes → place < places → places ≤ length bytes → old ≡ nearest_below all (first + place)
-    → new ≡ nearer old (read_as (first + place) (legible (drop place bytes))) → new ≡ nearest_below all (first + (place + 1))
+    → new ≡ nearer old (legible_at (first + place) (legible (drop place bytes))) → new ≡ nearest_below all (first + (place + 1))
 look_more all first places place bytes old new h less within before is =
     let next : first + (place + 1) ≡ first + place + 1 = omega arith in
-    is ∙ (ap (λ o. nearer old (read_as (first + place) o)) (legible_within all first places bytes place h less within) ∙ (ap (λ o. nearer o (read_at all (first + place))) before
+    is ∙ (ap (λ o. nearer old (legible_at (first + place) o)) (legible_within all first places bytes place h less within) ∙ (ap (λ o. nearer o (read_at all (first + place))) before
     ∙ (sym (nearest_more all (first + place)) ∙ ap (nearest_below all) (sym next))))
 
 pub pass_more : (all : List ℕ) (first places place : ℕ) (bytes : List ℕ) (old : Option Legible) → HasBehind all first places bytes → place < places → places ≤ length bytes → old ≡ nearest_below all (first + place)

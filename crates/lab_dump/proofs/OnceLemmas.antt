@@ -9,9 +9,9 @@ use Rattle.lab_dump.specs.declared.sample.Sample.{Sample}
 use Rattle.lab_dump.specs.declared.told.PagesTold.{PagesTold}
 use Rattle.lab_dump.specs.Sample.{sample_of}
 use Rattle.lab_dump.specs.Told.{pages_told_of}
-use Rattle.lab_dump.specs.Shape.{data_sizes, page_counts, rows_of, is_shape, has_shape}
+use Rattle.lab_dump.specs.Shape.{data_sizes, page_counts, rows_in_size, is_shape, has_shape}
 use Rattle.lab_dump.specs.Fits.{fit_of, shape_fits, area_fits, data_fits, fits_of}
-use Rattle.lab_dump.specs.FitLaws.{has_numbers, OnceLaw}
+use Rattle.lab_dump.specs.FitLaws.{has_numbers, NoFitTwiceLaw}
 use Rattle.lab_dump.proofs.SampleLemmas.{one}
 use Rattle.lab_dump.proofs.FitLemmas.{area_when}
 
@@ -118,19 +118,19 @@ apart d s p x y z (inr (inr ne)) = and_right ((x == d) && (y == s)) (z == p) (ne
 
 shape_none : (d s p n x y z : ℕ) (sample : Sample) (told : PagesTold) → (x ≢ d) ⊎ ((y ≢ s) ⊎ (z ≢ p)) → count_by (has_numbers d s p) (shape_fits n x y sample told z) ≡ 0
 shape_none d s p n x y z sample told ne =
-    let f : Fit = fit_of x y z (rows_of n x y / z) sample told in
+    let f : Fit = fit_of x y z (rows_in_size n x y / z) sample told in
     choice_none (has_numbers d s p) (is_shape n x y z) (f ∷ []) (single (has_numbers d s p) f ∙ ap one (apart d s p x y z ne))
 
 shape_one : (d s p n x y z : ℕ) (sample : Sample) (told : PagesTold) → count_by (has_numbers d s p) (shape_fits n x y sample told z) ≤ 1
 shape_one d s p n x y z sample told =
-    let f : Fit = fit_of x y z (rows_of n x y / z) sample told in
+    let f : Fit = fit_of x y z (rows_in_size n x y / z) sample told in
     choice_one (has_numbers d s p) (is_shape n x y z) (f ∷ []) (subst (λ k. k ≤ 1) (sym (single (has_numbers d s p) f)) (one_most (has_numbers d s p f)))
 
 area_none : (all : List ℕ) (d s p x y : ℕ) → (x ≢ d) ⊎ (y ≢ s) → count_by (has_numbers d s p) (area_fits all x y) ≡ 0
 area_none all d s p x y ne =
     let n : ℕ = length all in
-    let sample : Sample = sample_of x y (rows_of n x y) all in
-    let told : PagesTold = pages_told_of x y (rows_of n x y) all in
+    let sample : Sample = sample_of x y (rows_in_size n x y) all in
+    let told : PagesTold = pages_told_of x y (rows_in_size n x y) all in
     let pieces = no_pieces (has_numbers d s p) (shape_fits n x y sample told) page_counts (λ z. shape_none d s p n x y z sample told (wider z ne)) in
     ap (count_by (has_numbers d s p)) (area_when all x y (has_shape n x y) (nat_lt 0 sample.sound) refl refl)
     ∙ choice_none (has_numbers d s p) (has_shape n x y && nat_lt 0 sample.sound) (flat_map (shape_fits n x y sample told) page_counts) pieces
@@ -142,13 +142,13 @@ area_none all d s p x y ne =
 area_one : (all : List ℕ) (d s p : ℕ) → count_by (has_numbers d s p) (area_fits all d s) ≤ 1
 area_one all d s p =
     let n : ℕ = length all in
-    let sample : Sample = sample_of d s (rows_of n d s) all in
-    let told : PagesTold = pages_told_of d s (rows_of n d s) all in
+    let sample : Sample = sample_of d s (rows_in_size n d s) all in
+    let told : PagesTold = pages_told_of d s (rows_in_size n d s) all in
     let pieces = one_piece (has_numbers d s p) (shape_fits n d s sample told) p 0 page_counts counts_rise (λ z ne. shape_none d s p n d s z sample told (inr (inr ne))) (shape_one d s p n d s p sample told) in
     subst (λ l. count_by (has_numbers d s p) l ≤ 1) (sym (area_when all d s (has_shape n d s) (nat_lt 0 sample.sound) refl refl))
     (choice_one (has_numbers d s p) (has_shape n d s && nat_lt 0 sample.sound) (flat_map (shape_fits n d s sample told) page_counts) pieces)
 
-pub once_law : OnceLaw
+pub once_law : NoFitTwiceLaw
 unfolding fits_of data_fits
 once_law all d s p =
     one_piece (has_numbers d s p) (data_fits all) d 0 data_sizes sizes_rise

@@ -6,20 +6,20 @@ use Rattle.page_layout.specs.declared.geometry.Geometry.{Geometry}
 use Rattle.page_layout.specs.Geometry.{page_bytes}
 use Rattle.page_layout.specs.Page.{Page, page}
 use Rattle.page_layout.specs.Raw.{bytes_of_page, page_from}
-use Rattle.lab_dump.specs.PageBytes.{page_of}
+use Rattle.lab_dump.specs.PageBytes.{page_from_bytes}
 
-pub page_again : (p : Page) → page_of (length p.body) (bytes_of_page p) ≡ p
+pub page_again : (p : Page) → page_from_bytes (length p.body) (bytes_of_page p) ≡ p
 page_again p = ap (λ b. page b (drop (length p.body) (bytes_of_page p))) (take_at p.body p.spare (length p.body) refl) ∙ ap (λ s. page p.body s) (drop_at p.body p.spare (length p.body) refl)
 
-pub bytes_again : (size : ℕ) (bytes : List ℕ) → bytes_of_page (page_of size bytes) ≡ bytes
+pub bytes_again : (size : ℕ) (bytes : List ℕ) → bytes_of_page (page_from_bytes size bytes) ≡ bytes
 bytes_again size bytes = take-append-drop size bytes
 
 -- the page of two areas that stand one behind the other
-pub page_joined : (body spare : List ℕ) (size : ℕ) → length body ≡ size → page_of size (body ++ spare) ≡ page body spare
+pub page_joined : (body spare : List ℕ) (size : ℕ) → length body ≡ size → page_from_bytes size (body ++ spare) ≡ page body spare
 page_joined body spare size e = ap (λ b. page b (drop size (body ++ spare))) (take_at body spare size e) ∙ ap (λ s. page body s) (drop_at body spare size e)
 
 -- a page of a file, by its bytes
-pub page_sliced : (g : Geometry) (file : List ℕ) (at : ℕ) → page_of g.data_bytes (slice_range file at (at + page_bytes g)) ≡ page_from g file at
+pub page_sliced : (g : Geometry) (file : List ℕ) (at : ℕ) → page_from_bytes g.data_bytes (slice_range file at (at + page_bytes g)) ≡ page_from g file at
 page_sliced g file at =
     let d : ℕ = g.data_bytes in
     let s : ℕ = g.spare_bytes in

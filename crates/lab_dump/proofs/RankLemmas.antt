@@ -6,10 +6,10 @@ use Rattle.lab_dump.specs.declared.fit.TableSays.{TableSays}
 use Rattle.lab_dump.specs.declared.fit.TableSays.TheVariants.{Agrees, Short, Silent, Differs}
 use Rattle.lab_dump.specs.contracts.fit.TableSaysOrd.TheImpl as says
 use Rattle.lab_dump.specs.contracts.fit.FitOrd.TheImpl as fit
-use Rattle.lab_dump.specs.Fits.{place, rank}
+use Rattle.lab_dump.specs.Fits.{table_place, rank}
 
 -- the order of what the table says, as it is derived, is that of the places
-same_place : (x y : TableSays) → says.ghosts.cmp x y ≡ nat_cmp (place x) (place y)
+same_place : (x y : TableSays) → says.ghosts.cmp x y ≡ nat_cmp (table_place x) (table_place y)
 same_place Agrees Agrees = refl
 same_place Agrees Short = refl
 same_place Agrees Silent = refl

@@ -13,7 +13,7 @@ use Rattle.image_check.specs.Pairs.{AreInOrder, DifferBelow, IsLowestBelow}
 use Rattle.image_check.specs.Refused.{Part, Numbers, Sequences, Tables, Holds, FailsFrom, HoldBetween, IsOfImage}
 use Rattle.image_check.specs.Survey.{pairs_below}
 use Rattle.image_check.proofs.SequenceLemmas.{distinct_holds, repeated_at}
-use Rattle.lab_dump.specs.Surveyed.{IsReadable, RepeatsAs}
+use Rattle.lab_dump.specs.Surveyed.{HasReadableBlocks, RepeatsAs}
 
 pub repeats : (g : Geometry) (image : Image) (old new : List (ℕ × ℕ)) (o : Option (ℕ × ℕ)) → length image ≡ row_count g → old ≡ pairs_below (marks image) (row_count g) → IsPermutation old new → AreInOrder new
     → IfNone o (DifferBelow (length new) new) → IfSome o (λ rows. IsLowestBelow (length new) new rows.0 rows.1) → RepeatsAs (marks image) o
@@ -26,7 +26,7 @@ repeats g image old new (Some rows) whole is moved ordered none some = repeated_
 pub no_claim : Geometry → Claim
 no_claim g = record { sizes = sizes_of g; capacity = 0; next = 0; blocks = []; directory = []; sectors = [] }
 
-pub readable : (g : Geometry) (capacity : ℕ) (image : Image) (claim : Claim) → HoldBetween g capacity image claim 1 4 → IsReadable g image
+pub readable : (g : Geometry) (capacity : ℕ) (image : Image) (claim : Claim) → HoldBetween g capacity image claim 1 4 → HasReadableBlocks g image
 readable g capacity image claim h = record {
   numbers = h.part Numbers (omega arith) (omega arith);
   sequences = h.part Sequences (omega arith) (omega arith);
@@ -36,7 +36,7 @@ readable g capacity image claim h = record {
 not_held : (g : Geometry) (capacity : ℕ) (image : Image) (claim : Claim) (named part : Part) → Some named ≡ Some part → (Holds g capacity image claim part → ⊥) → Holds g capacity image claim named → ⊥
 not_held g capacity image claim named part e fails holds = let same : named ≡ part = cc in fails (subst (λ p. Holds g capacity image claim p) same holds)
 
-pub unreadable : (g : Geometry) (capacity : ℕ) (image : Image) (claim : Claim) (r : Refusal) → IsOfImage r → FailsFrom g capacity image claim 1 r → IsReadable g image → ⊥
+pub unreadable : (g : Geometry) (capacity : ℕ) (image : Image) (claim : Claim) (r : Refusal) → IsOfImage r → FailsFrom g capacity image claim 1 r → HasReadableBlocks g image → ⊥
 unreadable g capacity image claim (refusals.NumberRange row) kind f h = not_held g capacity image claim Numbers f.part f.wrong.part_is f.wrong.fails h.numbers
 unreadable g capacity image claim (refusals.SequenceRepeated a b) kind f h = not_held g capacity image claim Sequences f.part f.wrong.part_is f.wrong.fails h.sequences
 unreadable g capacity image claim refusals.NotFormatted kind f h = not_held g capacity image claim Tables f.part f.wrong.part_is f.wrong.fails h.tables

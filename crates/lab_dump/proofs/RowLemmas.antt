@@ -11,7 +11,7 @@ use Rattle.page_layout.specs.declared.geometry.Geometry.{Geometry}
 use Rattle.page_layout.specs.Page.{Page, Image, page}
 use Rattle.page_layout.specs.Change.{erased_page}
 use Rattle.lab_dump.specs.declared.rows.Rows.{Rows}
-use Rattle.lab_dump.specs.Rows.{shown_page, within, AskedLaw, WithinLaw, EachLaw}
+use Rattle.lab_dump.specs.Rows.{shown_page, within, AskedLaw, WithinLaw, NoRowsNamedLaw}
 
 -- ---- a list with its places
 
@@ -63,7 +63,7 @@ within_law g rows image = record {
     same None = refl
     same (Some p) = refl
 
-pub each_law : EachLaw
+pub each_law : NoRowsNamedLaw
 unfolding within
 each_law g image = refl
 

@@ -32,7 +32,7 @@ use Rattle.lab_dump.specs.Count.{is_outside}
 use Rattle.lab_dump.specs.declared.said.SaidPage.{SaidPage}
 use Rattle.lab_dump.specs.declared.trace.Trace.{Trace}
 use Rattle.lab_dump.specs.declared.trace.Trace.TheVariants.{Never, Once, Tied}
-use Rattle.lab_dump.specs.Trace.{Tells, is_before}
+use Rattle.lab_dump.specs.Trace.{TellsTrace, is_before}
 use Rattle.lab_dump.specs.Doubting.{HasTraces}
 use Rattle.lab_dump.specs.Said.{IsBesideSeal, IsSpelled, NewerLaw, SaidLaw, SpelledLaw, WasLaw, is_after, is_newer, judged, of_die, said_below, said_by, said_in_row, said_of, says}
 use Rattle.lab_dump.proofs.BadLemmas.{in_range, within_range}
@@ -275,7 +275,7 @@ pushed_few old new x e = omega (arith, ap (λ (xs : List SaidPage). length xs) e
 
 -- ---- in the end
 
-tells_after : (s : ℕ) (t : Trace) (l : Latest) → Tells t l → is_before t s ≡ is_after s l
+tells_after : (s : ℕ) (t : Trace) (l : Latest) → TellsTrace t l → is_before t s ≡ is_after s l
 tells_after s Never latest.Never h = refl
 tells_after s (Once at kept) (latest.Once row t) h = ap (λ k. nat_lt k s) h.1
 tells_after s (Tied kept) (latest.Tied a b t) h = ap (λ k. nat_lt k s) h

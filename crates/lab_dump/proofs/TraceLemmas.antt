@@ -20,39 +20,39 @@ use Rattle.image_check.specs.Survey.{index_of}
 use Rattle.image_check.proofs.SurveyLemmas.{latest_more, latest_other, latest_start, index_apart, index_within}
 use Rattle.lab_dump.specs.declared.trace.Trace.{Trace}
 use Rattle.lab_dump.specs.declared.trace.Trace.TheVariants.{Never, Once, Tied}
-use Rattle.lab_dump.specs.Trace.{Tells, place_in, is_tied_in, state_in}
+use Rattle.lab_dump.specs.Trace.{TellsTrace, place_in_trace, is_tied_in, key_state_in}
 use Rattle.lab_dump.specs.Held.{state_by}
 use Rattle.lab_dump.specs.Doubting.{HasTraces}
 use Rattle.lab_dump.specs.Bad.{key_at, is_tied}
 
 -- ---- what is held
 
-pub tells_place : (t : Trace) (l : Latest) → Tells t l → place_in t ≡ place_of l
+pub tells_place : (t : Trace) (l : Latest) → TellsTrace t l → place_in_trace t ≡ place_of l
 tells_place Never latest.Never h = refl
 tells_place (Once at kept) (latest.Once row s) h = ap Some h.0
 tells_place (Tied kept) (latest.Tied a b s) h = refl
 tells_place _ _ h = absurd h
 
-pub tells_tied : (t : Trace) (l : Latest) → Tells t l → is_tied_in t ≡ is_tied l
+pub tells_tied : (t : Trace) (l : Latest) → TellsTrace t l → is_tied_in t ≡ is_tied l
 tells_tied Never latest.Never h = refl
 tells_tied (Once at kept) (latest.Once row s) h = refl
 tells_tied (Tied kept) (latest.Tied a b s) h = refl
 tells_tied _ _ h = absurd h
 
-pub tells_state : (t : Trace) (l : Latest) → Tells t l → state_in t ≡ state_by l
+pub tells_state : (t : Trace) (l : Latest) → TellsTrace t l → key_state_in t ≡ state_by l
 tells_state Never latest.Never h = refl
 tells_state (Once at kept) (latest.Once row s) h = refl
 tells_state (Tied kept) (latest.Tied a b s) h = refl
 tells_state _ _ h = absurd h
 
-still : (ms : List (Option Record)) (row : ℕ) (key : Key) (t : Trace) → sequence_at ms key row ≡ None → Tells t (latest_below ms key row) → Tells t (latest_below ms key (row + 1))
-still ms row key t none h = subst (λ l. Tells t l) (sym (latest_other ms key row none)) h
+still : (ms : List (Option Record)) (row : ℕ) (key : Key) (t : Trace) → sequence_at ms key row ≡ None → TellsTrace t (latest_below ms key row) → TellsTrace t (latest_below ms key (row + 1))
+still ms row key t none h = subst (λ l. TellsTrace t l) (sym (latest_other ms key row none)) h
 
 pub traces_start : (g : Geometry) (ms : List (Option Record)) (traces : List Trace) → traces ≡ replicate (key_count g) Never → HasTraces g ms 0 traces
 traces_start g ms traces e = record {
   size = ap length e ∙ length-replicate (key_count g) Never;
-  at = λ key within. subst (λ l. Tells (get_or traces (index_of g key) Never) l) (sym (latest_start ms key))
-      (subst (λ t. Tells t latest.Never) (sym (ap (λ ts. get_or ts (index_of g key) Never) e ∙ get_or-replicate (key_count g) (index_of g key) Never Never (index_within g key within))) tt);
+  at = λ key within. subst (λ l. TellsTrace (get_or traces (index_of g key) Never) l) (sym (latest_start ms key))
+      (subst (λ t. TellsTrace t latest.Never) (sym (ap (λ ts. get_or ts (index_of g key) Never) e ∙ get_or-replicate (key_count g) (index_of g key) Never Never (index_within g key within))) tt);
 }
 
 pub traces_none : (g : Geometry) (ms : List (Option Record)) (row : ℕ) (traces : List Trace) → HasTraces g ms row traces → get_or ms row None ≡ None → HasTraces g ms (row + 1) traces
@@ -67,22 +67,22 @@ traces_outside g ms row traces r h e outside = record {
 }
 
 pub traces_set : (g : Geometry) (ms : List (Option Record)) (row i : ℕ) (traces : List Trace) (r : Record) (d new : Trace) → HasTraces g ms row traces → get_or ms row None ≡ Some r → IsKeyOf g (key_of r) → i ≡ index_of g (key_of r)
-    → ((l : Latest) → Tells (get_or traces i d) l → Tells new (step l row (Some r.sequence))) → HasTraces g ms (row + 1) (set traces i new)
+    → ((l : Latest) → TellsTrace (get_or traces i d) l → TellsTrace new (step l row (Some r.sequence))) → HasTraces g ms (row + 1) (set traces i new)
 traces_set g ms row i traces r d new h e within at tells =
     let in_items : i < length traces = omega (arith, index_within g (key_of r) within, h.size, at) in
     let old : Latest = latest_below ms (key_of r) row in
     let read : get_or traces i d ≡ get_or traces (index_of g (key_of r)) Never = get_or_default traces i d Never in_items ∙ ap (λ j. get_or traces j Never) at in
     let more : latest_below ms (key_of r) (row + 1) ≡ step old row (Some r.sequence) = latest_more ms (key_of r) row ∙ ap (step old row) (sequence_at-key ms row r e) in
-    let told : Tells new (latest_below ms (key_of r) (row + 1)) = subst (λ l. Tells new l) (sym more) (tells old (subst (λ t. Tells t old) (sym read) (h.at (key_of r) within))) in
+    let told : TellsTrace new (latest_below ms (key_of r) (row + 1)) = subst (λ l. TellsTrace new l) (sym more) (tells old (subst (λ t. TellsTrace t old) (sym read) (h.at (key_of r) within))) in
     let here : get_or (set traces i new) (index_of g (key_of r)) Never ≡ new = ap (λ j. get_or (set traces i new) j Never) (sym at) ∙ get_or-set_same traces i new Never in_items in
     record {
       size = length-set traces i new ∙ h.size;
       at = λ key k. elim (cases_key (key_of r) key) [
-        | inl same ↦ subst (λ (x : Key). Tells (get_or (set traces i new) (index_of g x) Never) (latest_below ms x (row + 1))) same (subst (λ t. Tells t (latest_below ms (key_of r) (row + 1))) (sym here) told)
+        | inl same ↦ subst (λ (x : Key). TellsTrace (get_or (set traces i new) (index_of g x) Never) (latest_below ms x (row + 1))) same (subst (λ t. TellsTrace t (latest_below ms (key_of r) (row + 1))) (sym here) told)
         | inr ne ↦
             (let apart : index_of g key ≢ i = λ eq. index_apart g (key_of r) key within k ne (sym at ∙ sym eq) in
             still ms row key (get_or (set traces i new) (index_of g key) Never) (sequence_at-other ms key row r e ne)
-            (subst (λ t. Tells t (latest_below ms key row)) (sym (get_or-set_other traces i (index_of g key) new Never apart)) (h.at key k)))
+            (subst (λ t. TellsTrace t (latest_below ms key row)) (sym (get_or-set_other traces i (index_of g key) new Never apart)) (h.at key k)))
       ];
     }
 
@@ -124,14 +124,14 @@ key_found g (Table u) h =
     ∙ (ap (λ b. cond b (Translation (i - g.sectors)) (Table (i - g.sectors - translation_pages g))) (le-ltb (i - g.sectors) (translation_pages g) (omega arith)) ∙ ap Table back)
 
 -- what is held in a place is of its key
-pub held_at : (g : Geometry) (ms : List (Option Record)) (rows i : ℕ) (traces : List Trace) (d : Trace) → HasTraces g ms rows traces → i < key_count g → Tells (get_or traces i d) (latest_below ms (key_at g i) rows)
+pub held_at : (g : Geometry) (ms : List (Option Record)) (rows i : ℕ) (traces : List Trace) (d : Trace) → HasTraces g ms rows traces → i < key_count g → TellsTrace (get_or traces i d) (latest_below ms (key_at g i) rows)
 held_at g ms rows i traces d h l =
     let place = place_is g i l in
     let same : get_or traces i d ≡ get_or traces (index_of g (key_at g i)) Never = get_or_default traces i d Never (omega (arith, h.size)) ∙ ap (λ j. get_or traces j Never) (sym place.index) in
-    subst (λ t. Tells t (latest_below ms (key_at g i) rows)) (sym same) (h.at (key_at g i) place.of)
+    subst (λ t. TellsTrace t (latest_below ms (key_at g i) rows)) (sym same) (h.at (key_at g i) place.of)
 
 -- the row of its newest page
-pub placed_at : (g : Geometry) (ms : List (Option Record)) (rows i : ℕ) (traces : List Trace) (key : Key) (d : Trace) → HasTraces g ms rows traces → IsKeyOf g key → i ≡ index_of g key → place_in (get_or traces i d) ≡ place_of (latest_below ms key rows)
+pub placed_at : (g : Geometry) (ms : List (Option Record)) (rows i : ℕ) (traces : List Trace) (key : Key) (d : Trace) → HasTraces g ms rows traces → IsKeyOf g key → i ≡ index_of g key → place_in_trace (get_or traces i d) ≡ place_of (latest_below ms key rows)
 placed_at g ms rows i traces key d h of at =
     let same : get_or traces i d ≡ get_or traces (index_of g key) Never = get_or_default traces i d Never (omega (arith, h.size, index_within g key of)) ∙ ap (λ j. get_or traces j Never) at in
-    ap place_in same ∙ tells_place (get_or traces (index_of g key) Never) (latest_below ms key rows) (h.at key of)
+    ap place_in_trace same ∙ tells_place (get_or traces (index_of g key) Never) (latest_below ms key rows) (h.at key of)

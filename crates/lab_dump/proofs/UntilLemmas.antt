@@ -17,7 +17,7 @@ use Rattle.page_layout.proofs.ArrayLemmas.{mark-page, length-marks, page_of_mark
 use Rattle.page_layout.proofs.NewestLemmas.{newest-record, newest_same, sequence_at-same}
 use Rattle.page_layout.proofs.GreatestLemmas.{IsGreatest-same}
 use Rattle.page_layout.proofs.StepLemmas.{erased_unsound}
-use Rattle.lab_dump.specs.Until.{is_later, record_until, page_until, until, CountsLaw, AllCountLaw, IsUncollected, ThenLaw}
+use Rattle.lab_dump.specs.Until.{is_later, record_until, page_until, until, CountsUntilLaw, AllCountLaw, IsUncollected, ThenLaw}
 
 -- ---- its pages
 
@@ -90,7 +90,7 @@ counted_some last (Some x) r = (
       ap (λ b. cond b None (Some x)) early ∙ h.0,
 )
 
-pub counts_law : CountsLaw
+pub counts_law : CountsUntilLaw
 counts_law g image last row r =
     let mark = mark_until g (Some last) image row in
     let some = counted_some last (get_or (marks image) row None) r in

@@ -23,14 +23,14 @@ use Rattle.page_layout.proofs.NewestLemmas.{sequence_at-none, sequence_at-other,
 use Rattle.page_layout.proofs.ArrayLemmas.{mark-page, content-record}
 use Rattle.image_check.proofs.PageReaderLemmas.{if_more}
 use Rattle.image_check.proofs.SurveyLemmas.{latest_more, latest_other, latest_start}
-use Rattle.lab_dump.specs.declared.look.Look.TheVariants as look
-use Rattle.lab_dump.specs.Look.{look_by, look_of}
+use Rattle.page_layout.specs.declared.look.PageLook.TheVariants as look
+use Rattle.page_layout.specs.PageLook.{look_by, look_of}
 use Rattle.lab_dump.specs.declared.held.Held.{Held}
 use Rattle.lab_dump.specs.declared.held.Held.TheVariants.{Never}
 use Rattle.lab_dump.specs.declared.held.Change.{Change}
 use Rattle.lab_dump.specs.declared.held.Change.TheVariants.{Stays, Newest, Tie}
-use Rattle.lab_dump.specs.Held.{Tells, Moves, pieces_after}
-use Rattle.lab_dump.specs.Writing.{content_below, AreSized, HoldsSector, ReadBelow, WritingStands, Shows, sector_in, sector_within}
+use Rattle.lab_dump.specs.Held.{TellsHeld, Moves, pieces_after}
+use Rattle.lab_dump.specs.Writing.{content_below, HasSectorPieces, IsPageOfSector, ReadBelow, WritingStands, ShowsSectorPieces, sector_in, sector_within}
 use Rattle.lab_dump.specs.Damaged.{Place, Whole, Broken, SaysSector, content_in, place_by}
 
 -- ---- what a page is
@@ -96,10 +96,10 @@ other_none g ms row r e outside n within = sequence_at-other ms (key.Sector n) r
         cc
 
 still_tells : (image : Image) (said : List (Option Record)) (n row : ℕ) (held : Held) → sequence_at (marks image) (key.Sector n) row ≡ None → sequence_at said (key.Sector n) row ≡ None
-    → Tells held (latest_below (marks image) (key.Sector n) row) (latest_below said (key.Sector n) row) → Tells held (latest_below (marks image) (key.Sector n) (row + 1)) (latest_below said (key.Sector n) (row + 1))
+    → TellsHeld held (latest_below (marks image) (key.Sector n) row) (latest_below said (key.Sector n) row) → TellsHeld held (latest_below (marks image) (key.Sector n) (row + 1)) (latest_below said (key.Sector n) (row + 1))
 still_tells image said n row held none silent h =
-    subst (λ l. Tells held (latest_below (marks image) (key.Sector n) (row + 1)) l) (sym (latest_other said (key.Sector n) row silent))
-    (subst (λ l. Tells held l (latest_below said (key.Sector n) row)) (sym (latest_other (marks image) (key.Sector n) row none)) h)
+    subst (λ l. TellsHeld held (latest_below (marks image) (key.Sector n) (row + 1)) l) (sym (latest_other said (key.Sector n) row silent))
+    (subst (λ l. TellsHeld held l (latest_below said (key.Sector n) row)) (sym (latest_other (marks image) (key.Sector n) row none)) h)
 
 still_reads : (g : Geometry) (image : Image) (said : List (Option Record)) (reads : ℕ → List ℕ) (n row : ℕ) → sequence_at (marks image) (key.Sector n) row ≡ None → sequence_at said (key.Sector n) row ≡ None
     → content_below g image said reads (row + 1) n ≡ content_below g image said reads row n
@@ -107,8 +107,8 @@ still_reads g image said reads n row none silent =
     ap (λ l. content_in g image reads (place_by l (latest_below said (key.Sector n) (row + 1)))) (latest_other (marks image) (key.Sector n) row none)
     ∙ ap (λ l. content_in g image reads (place_by (latest_below (marks image) (key.Sector n) row) l)) (latest_other said (key.Sector n) row silent)
 
-pub nothing_noted : (g : Geometry) (row : ℕ) (image : Image) (said : List (Option Record)) (reads : ℕ → List ℕ) (held : List Held) (pieces : Option (List (List ℕ))) → Shows g row image said reads held pieces
-    → IsOfNone g (marks image) row → IsOfNone g said row → Shows g (row + 1) image said reads held pieces
+pub nothing_noted : (g : Geometry) (row : ℕ) (image : Image) (said : List (Option Record)) (reads : ℕ → List ℕ) (held : List Held) (pieces : Option (List (List ℕ))) → ShowsSectorPieces g row image said reads held pieces
+    → IsOfNone g (marks image) row → IsOfNone g said row → ShowsSectorPieces g (row + 1) image said reads held pieces
 nothing_noted g row image said reads held pieces h none silent = record {
   held_of = λ n within. still_tells image said n row (get_or held n Never) (none n within) (silent n within) (h.held_of n within);
   pieces_are = if_more pieces (ReadBelow g image said reads row) (ReadBelow g image said reads (row + 1)) h.pieces_are
@@ -117,7 +117,7 @@ nothing_noted g row image said reads held pieces h none silent = record {
 
 -- ---- a page of a sector
 
-pub sized_after : (g : Geometry) (change : Change) (n : ℕ) (bytes : List ℕ) (pieces : Option (List (List ℕ))) → IfSome pieces (AreSized g) → IfSome (pieces_after change n bytes (zeros g) pieces) (AreSized g)
+pub sized_after : (g : Geometry) (change : Change) (n : ℕ) (bytes : List ℕ) (pieces : Option (List (List ℕ))) → IfSome pieces (HasSectorPieces g) → IfSome (pieces_after change n bytes (zeros g) pieces) (HasSectorPieces g)
 sized_after g Stays n bytes pieces sized = sized
 sized_after g Newest n bytes None sized = tt
 sized_after g Newest n bytes (Some ps) sized = length-set ps n bytes ∙ sized
@@ -129,7 +129,7 @@ pub stands_after : (g : Geometry) (hs : List Held) (x : Held) (change : Change) 
 stands_after g hs x change n blank bytes pieces after stands is = record {
   size = length-set hs n x ∙ stands.size;
   blank_is = stands.blank_is;
-  sized = subst (λ ps. IfSome ps (AreSized g)) (sym is) (sized_after g change n bytes pieces stands.sized);
+  sized = subst (λ ps. IfSome ps (HasSectorPieces g)) (sym is) (sized_after g change n bytes pieces stands.sized);
 }
 
 -- the record is of a sector of the die, this one
@@ -151,7 +151,7 @@ number_same : (r : Record) (n : ℕ) → key_of r ≡ key.Sector n → r.kind �
 number_same r n same is = let at : key.Sector r.number ≡ key.Sector n = sym (ap (λ k. key_from k r.number) is) ∙ same in cc
 
 -- a page of a sector that is no trim holds it
-pub holds : (n : ℕ) (body spare : List ℕ) (r : Record) → record_of (page body spare) ≡ Some r → key_of r ≡ key.Sector n → r.kind ≡ kind.Sector → HoldsSector n body spare
+pub holds : (n : ℕ) (body spare : List ℕ) (r : Record) → record_of (page body spare) ≡ Some r → key_of r ≡ key.Sector n → r.kind ≡ kind.Sector → IsPageOfSector n body spare
 holds n body spare r says same is = record { its = r; says = says; kind_is = is; number_is = number_same r n same is }
 
 -- one that is not sound says that it holds it
@@ -179,7 +179,7 @@ read_set g image said reads row n ps bytes inside read others here m within = el
 ]
 
 read_after : (g : Geometry) (image : Image) (said : List (Option Record)) (reads : ℕ → List ℕ) (row : ℕ) (change : Change) (n : ℕ) (bytes : List ℕ) (pieces : Option (List (List ℕ))) → n < g.sectors
-    → IfSome pieces (AreSized g) → IfSome pieces (ReadBelow g image said reads row)
+    → IfSome pieces (HasSectorPieces g) → IfSome pieces (ReadBelow g image said reads row)
     → ((m : ℕ) → m < g.sectors → m ≢ n → content_below g image said reads (row + 1) m ≡ content_below g image said reads row m)
     → Becomes g change bytes (content_below g image said reads row n) (content_below g image said reads (row + 1) n)
     → IfSome (pieces_after change n bytes (zeros g) pieces) (ReadBelow g image said reads (row + 1))
@@ -209,82 +209,82 @@ latest_here ms row n r mark same =
 
 -- a page of sector n alone, which stands here, with what is held of the sector then and what that does
 noted : (g : Geometry) (row : ℕ) (image : Image) (said : List (Option Record)) (reads : ℕ → List ℕ) (held : List Held) (pieces : Option (List (List ℕ))) (n : ℕ) (new : Held) (change : Change) (bytes : List ℕ) (here : Place)
-    → Shows g row image said reads held pieces → IfSome pieces (AreSized g) → length held ≡ g.sectors → n < g.sectors
+    → ShowsSectorPieces g row image said reads held pieces → IfSome pieces (HasSectorPieces g) → length held ≡ g.sectors → n < g.sectors
     → ((m : ℕ) → m ≢ n → sequence_at (marks image) (key.Sector m) row ≡ None) → ((m : ℕ) → m ≢ n → sequence_at said (key.Sector m) row ≡ None)
-    → Tells new (latest_below (marks image) (key.Sector n) (row + 1)) (latest_below said (key.Sector n) (row + 1))
+    → TellsHeld new (latest_below (marks image) (key.Sector n) (row + 1)) (latest_below said (key.Sector n) (row + 1))
     → Moves change here (place_by (latest_below (marks image) (key.Sector n) row) (latest_below said (key.Sector n) row)) (place_by (latest_below (marks image) (key.Sector n) (row + 1)) (latest_below said (key.Sector n) (row + 1)))
     → content_in g image reads here ≡ bytes
-    → Shows g (row + 1) image said reads (set held n new) (pieces_after change n bytes (zeros g) pieces)
+    → ShowsSectorPieces g (row + 1) image said reads (set held n new) (pieces_after change n bytes (zeros g) pieces)
 noted g row image said reads held pieces n new change bytes here h sized size in_range none silent told moved is =
     let sound = λ (m : ℕ). latest_below (marks image) (key.Sector m) (row + 1) in
     let others = λ (m : ℕ). latest_below said (key.Sector m) (row + 1) in
     let inside : n < length held = omega arith in
     record {
       held_of = λ m within. elim (cases_eq m n) [
-        | inl eq ↦ subst (λ k. Tells (get_or (set held n new) k Never) (sound k) (others k)) (sym eq) (subst (λ x. Tells x (sound n) (others n)) (sym (get_or-set_same held n new Never inside)) told)
+        | inl eq ↦ subst (λ k. TellsHeld (get_or (set held n new) k Never) (sound k) (others k)) (sym eq) (subst (λ x. TellsHeld x (sound n) (others n)) (sym (get_or-set_same held n new Never inside)) told)
         | inr ne ↦
             still_tells image said m row (get_or (set held n new) m Never) (none m ne) (silent m ne)
-            (subst (λ x. Tells x (latest_below (marks image) (key.Sector m) row) (latest_below said (key.Sector m) row)) (sym (get_or-set_other held n m new Never ne)) (h.held_of m within))
+            (subst (λ x. TellsHeld x (latest_below (marks image) (key.Sector m) row) (latest_below said (key.Sector m) row)) (sym (get_or-set_other held n m new Never ne)) (h.held_of m within))
       ];
       pieces_are = read_after g image said reads row change n bytes pieces in_range sized h.pieces_are (λ m within ne. still_reads g image said reads m row (none m ne) (silent m ne))
           (becomes g image reads change bytes here _ _ moved is);
     }
 
 -- what is held of sector n
-held_was : (g : Geometry) (row : ℕ) (image : Image) (said : List (Option Record)) (reads : ℕ → List ℕ) (held : List Held) (pieces : Option (List (List ℕ))) (n : ℕ) (kept : Held) → Shows g row image said reads held pieces
-    → length held ≡ g.sectors → n < g.sectors → kept ≡ get_or held n kept → Tells kept (latest_below (marks image) (key.Sector n) row) (latest_below said (key.Sector n) row)
+held_was : (g : Geometry) (row : ℕ) (image : Image) (said : List (Option Record)) (reads : ℕ → List ℕ) (held : List Held) (pieces : Option (List (List ℕ))) (n : ℕ) (kept : Held) → ShowsSectorPieces g row image said reads held pieces
+    → length held ≡ g.sectors → n < g.sectors → kept ≡ get_or held n kept → TellsHeld kept (latest_below (marks image) (key.Sector n) row) (latest_below said (key.Sector n) row)
 held_was g row image said reads held pieces n kept h size in_range stood =
     let read : kept ≡ get_or held n Never = stood ∙ get_or_default held n kept Never (omega arith) in
-    subst (λ x. Tells x (latest_below (marks image) (key.Sector n) row) (latest_below said (key.Sector n) row)) (sym read) (h.held_of n in_range)
+    subst (λ x. TellsHeld x (latest_below (marks image) (key.Sector n) row) (latest_below said (key.Sector n) row)) (sym read) (h.held_of n in_range)
 
 -- a sound page of sector n, with what is held of it then and what that does
 pub sound_noted : (g : Geometry) (row : ℕ) (image : Image) (said : List (Option Record)) (reads : ℕ → List ℕ) (held : List Held) (pieces : Option (List (List ℕ))) (p : Page) (r : Record) (n : ℕ) (kept new : Held) (change : Change)
-    → Shows g row image said reads held pieces → IfSome pieces (AreSized g) → length held ≡ g.sectors → n < g.sectors → slice_get image row ≡ Some p → record_of p ≡ Some r → key_of r ≡ key.Sector n
+    → ShowsSectorPieces g row image said reads held pieces → IfSome pieces (HasSectorPieces g) → length held ≡ g.sectors → n < g.sectors → slice_get image row ≡ Some p → record_of p ≡ Some r → key_of r ≡ key.Sector n
     → get_or said row None ≡ None → kept ≡ get_or held n kept
-    → ((l d : Latest) (at : ℕ) → Tells kept l d → Tells new (step l at (Some r.sequence)) d)
-    → ((l d : Latest) (at : ℕ) → Tells kept l d → Moves change (Whole at) (place_by l d) (place_by (step l at (Some r.sequence)) d))
-    → Shows g (row + 1) image said reads (set held n new) (pieces_after change n (content_of_kind g r.kind p.body) (zeros g) pieces)
+    → ((l d : Latest) (at : ℕ) → TellsHeld kept l d → TellsHeld new (step l at (Some r.sequence)) d)
+    → ((l d : Latest) (at : ℕ) → TellsHeld kept l d → Moves change (Whole at) (place_by l d) (place_by (step l at (Some r.sequence)) d))
+    → ShowsSectorPieces g (row + 1) image said reads (set held n new) (pieces_after change n (content_of_kind g r.kind p.body) (zeros g) pieces)
 sound_noted g row image said reads held pieces p r n kept new change h sized size in_range is says same unsaid stood tells moves =
     let mark : get_or (marks image) row None ≡ Some r = mark-page image row p is ∙ says in
     let old : Latest = latest_below (marks image) (key.Sector n) row in
     let d : Latest = latest_below said (key.Sector n) row in
-    let was : Tells kept old d = held_was g row image said reads held pieces n kept h size in_range stood in
+    let was : TellsHeld kept old d = held_was g row image said reads held pieces n kept h size in_range stood in
     let more : latest_below (marks image) (key.Sector n) (row + 1) ≡ step old row (Some r.sequence) = latest_here (marks image) row n r mark same in
     let still : latest_below said (key.Sector n) (row + 1) ≡ d = latest_other said (key.Sector n) row (sequence_at-none said (key.Sector n) row unsaid) in
     let here : content_in g image reads (Whole row) ≡ content_of_kind g r.kind p.body = ap (content g) is ∙ content-record g p r says in
     noted g row image said reads held pieces n new change (content_of_kind g r.kind p.body) (Whole row) h sized size in_range (others_none (marks image) row n r mark same) (λ m ne. sequence_at-none said (key.Sector m) row unsaid)
-    (subst (λ l. Tells new l (latest_below said (key.Sector n) (row + 1))) (sym more) (subst (λ l. Tells new (step old row (Some r.sequence)) l) (sym still) (tells old d row was)))
+    (subst (λ l. TellsHeld new l (latest_below said (key.Sector n) (row + 1))) (sym more) (subst (λ l. TellsHeld new (step old row (Some r.sequence)) l) (sym still) (tells old d row was)))
     (subst (λ l. Moves change (Whole row) (place_by old d) (place_by l (latest_below said (key.Sector n) (row + 1)))) (sym more)
     (subst (λ l. Moves change (Whole row) (place_by old d) (place_by (step old row (Some r.sequence)) l)) (sym still) (moves old d row was)))
     here
 
 -- one that is not sound and says sector n
 pub said_noted : (g : Geometry) (row : ℕ) (image : Image) (said : List (Option Record)) (reads : ℕ → List ℕ) (held : List Held) (pieces : Option (List (List ℕ))) (r : Record) (bytes : List ℕ) (n : ℕ) (kept new : Held) (change : Change)
-    → Shows g row image said reads held pieces → IfSome pieces (AreSized g) → length held ≡ g.sectors → n < g.sectors → get_or (marks image) row None ≡ None → get_or said row None ≡ Some r → key_of r ≡ key.Sector n
+    → ShowsSectorPieces g row image said reads held pieces → IfSome pieces (HasSectorPieces g) → length held ≡ g.sectors → n < g.sectors → get_or (marks image) row None ≡ None → get_or said row None ≡ Some r → key_of r ≡ key.Sector n
     → reads row ≡ bytes → kept ≡ get_or held n kept
-    → ((l d : Latest) (at : ℕ) → Tells kept l d → Tells new l (step d at (Some r.sequence)))
-    → ((l d : Latest) (at : ℕ) → Tells kept l d → Moves change (Broken at) (place_by l d) (place_by l (step d at (Some r.sequence))))
-    → Shows g (row + 1) image said reads (set held n new) (pieces_after change n bytes (zeros g) pieces)
+    → ((l d : Latest) (at : ℕ) → TellsHeld kept l d → TellsHeld new l (step d at (Some r.sequence)))
+    → ((l d : Latest) (at : ℕ) → TellsHeld kept l d → Moves change (Broken at) (place_by l d) (place_by l (step d at (Some r.sequence))))
+    → ShowsSectorPieces g (row + 1) image said reads (set held n new) (pieces_after change n bytes (zeros g) pieces)
 said_noted g row image said reads held pieces r bytes n kept new change h sized size in_range unmarked mark same here stood tells moves =
     let l : Latest = latest_below (marks image) (key.Sector n) row in
     let old : Latest = latest_below said (key.Sector n) row in
-    let was : Tells kept l old = held_was g row image said reads held pieces n kept h size in_range stood in
+    let was : TellsHeld kept l old = held_was g row image said reads held pieces n kept h size in_range stood in
     let more : latest_below said (key.Sector n) (row + 1) ≡ step old row (Some r.sequence) = latest_here said row n r mark same in
     let still : latest_below (marks image) (key.Sector n) (row + 1) ≡ l = latest_other (marks image) (key.Sector n) row (sequence_at-none (marks image) (key.Sector n) row unmarked) in
     noted g row image said reads held pieces n new change bytes (Broken row) h sized size in_range (λ m ne. sequence_at-none (marks image) (key.Sector m) row unmarked) (others_none said row n r mark same)
-    (subst (λ x. Tells new x (latest_below said (key.Sector n) (row + 1))) (sym still) (subst (λ x. Tells new l x) (sym more) (tells l old row was)))
+    (subst (λ x. TellsHeld new x (latest_below said (key.Sector n) (row + 1))) (sym still) (subst (λ x. TellsHeld new l x) (sym more) (tells l old row was)))
     (subst (λ x. Moves change (Broken row) (place_by l old) (place_by x (latest_below said (key.Sector n) (row + 1)))) (sym still)
     (subst (λ x. Moves change (Broken row) (place_by l old) (place_by l x)) (sym more) (moves l old row was)))
     here
 
 -- ---- before the first page
 
-pub nothing_yet : (g : Geometry) (image : Image) (said : List (Option Record)) (reads : ℕ → List ℕ) (pieces : Option (List (List ℕ))) → IfSome pieces (λ ps. ps ≡ replicate g.sectors (zeros g)) → Shows g 0 image said reads (replicate g.sectors Never) pieces
+pub nothing_yet : (g : Geometry) (image : Image) (said : List (Option Record)) (reads : ℕ → List ℕ) (pieces : Option (List (List ℕ))) → IfSome pieces (λ ps. ps ≡ replicate g.sectors (zeros g)) → ShowsSectorPieces g 0 image said reads (replicate g.sectors Never) pieces
 nothing_yet g image said reads pieces blank = record {
   held_of = λ n within.
-      subst (λ l. Tells (get_or (replicate g.sectors Never) n Never) l (latest_below said (key.Sector n) 0)) (sym (latest_start (marks image) (key.Sector n)))
-      (subst (λ l. Tells (get_or (replicate g.sectors Never) n Never) latest.Never l) (sym (latest_start said (key.Sector n)))
-      (subst (λ x. Tells x latest.Never latest.Never) (sym (get_or-replicate g.sectors n Never Never within)) tt));
+      subst (λ l. TellsHeld (get_or (replicate g.sectors Never) n Never) l (latest_below said (key.Sector n) 0)) (sym (latest_start (marks image) (key.Sector n)))
+      (subst (λ l. TellsHeld (get_or (replicate g.sectors Never) n Never) latest.Never l) (sym (latest_start said (key.Sector n)))
+      (subst (λ x. TellsHeld x latest.Never latest.Never) (sym (get_or-replicate g.sectors n Never Never within)) tt));
   pieces_are = if_more pieces (λ ps. ps ≡ replicate g.sectors (zeros g)) (ReadBelow g image said reads 0) blank (λ ps e n within.
       ap (λ xs. get_or xs n []) e ∙ (get_or-replicate g.sectors n (zeros g) [] within
       ∙ sym (ap (λ l. content_in g image reads (place_by l (latest_below said (key.Sector n) 0))) (latest_start (marks image) (key.Sector n))
@@ -295,5 +295,5 @@ pub stands_first : (g : Geometry) (pieces : Option (List (List ℕ))) → IfSome
 stands_first g pieces blank = record {
   size = length-replicate g.sectors Never;
   blank_is = refl;
-  sized = if_more pieces (λ ps. ps ≡ replicate g.sectors (zeros g)) (AreSized g) blank (λ ps e. ap length e ∙ length-replicate g.sectors (zeros g));
+  sized = if_more pieces (λ ps. ps ≡ replicate g.sectors (zeros g)) (HasSectorPieces g) blank (λ ps e. ap length e ∙ length-replicate g.sectors (zeros g));
 }

@@ -25,14 +25,14 @@ use Rattle.lab_dump.specs.declared.held.Held.{Held}
 use Rattle.lab_dump.specs.declared.held.Held.TheVariants as held
 use Rattle.lab_dump.specs.declared.held.SectorShown.{SectorShown}
 use Rattle.lab_dump.specs.declared.held.SectorShown.TheVariants as shown
-use Rattle.lab_dump.specs.Held.{Tells, TellsBy, TellsSaid, TellsSound, shown_by, shown_in, shown_with}
+use Rattle.lab_dump.specs.Held.{TellsHeld, TellsHeldBy, TellsSaid, TellsSound, shown_by, shown_in, shown_with}
 use Rattle.lab_dump.specs.declared.doubting.Doubting.{Doubting}
 use Rattle.lab_dump.specs.declared.doubts.Unsettled.{Unsettled}
 use Rattle.lab_dump.specs.Doubting.{IsDoubting}
 use Rattle.lab_dump.specs.Until.{until}
-use Rattle.lab_dump.specs.Writing.{content_below, AreSized, ReadBelow, WritingStands, ShowsDamaged, ShowsSound}
-use Rattle.lab_dump.specs.Damaged.{content_in, damaged_array, damaged_sector, row_said_newer, place_by, placed, said_marks, said_reads, shown_place}
-use Rattle.lab_dump.specs.Written.{IsLeftUnsettled, IsWritten, TiedLaw, UnmarkedLaw, damaged_state, damaged_states, state_of, states_of}
+use Rattle.lab_dump.specs.Writing.{content_below, HasSectorPieces, ReadBelow, WritingStands, ShowsDamaged, ShowsSound}
+use Rattle.lab_dump.specs.Damaged.{content_in, damaged_array, damaged_sector, row_said_newer, place_by, broken_or_whole, said_marks, said_reads, shown_place}
+use Rattle.lab_dump.specs.Written.{IsLeftUnsettled, IsArrayWritten, TiedLaw, UnmarkedLaw, damaged_state, damaged_states, sector_state, states_of}
 use Rattle.lab_dump.proofs.ScanLemmas.{if_both}
 use Rattle.lab_dump.proofs.UntilLemmas.{until_size}
 
@@ -51,7 +51,7 @@ none_said key (suc row) =
     let next : suc row ≡ row + 1 = omega arith in
     ap (latest_below [] key) next ∙ (latest_other [] key row (sequence_at-none [] key row refl) ∙ none_said key row)
 
-whole_place : (g : Geometry) (image : Image) (reads : ℕ → List ℕ) (o : Option ℕ) → content_in g image reads (placed None o) ≡ content_at g image o
+whole_place : (g : Geometry) (image : Image) (reads : ℕ → List ℕ) (o : Option ℕ) → content_in g image reads (broken_or_whole None o) ≡ content_at g image o
 whole_place g image reads None = refl
 whole_place g image reads (Some row) = refl
 
@@ -86,7 +86,7 @@ told_said (held.Damaged x) (latest.Once row s) t = refl
 told_said (held.Damaged x) (latest.Tied a b s) t = refl
 told_said _ _ t = absurd t
 
-told_by : (h : Held) (l d : Latest) (o : Option ℕ) → TellsBy h l d o → shown_in h ≡ shown_with o l
+told_by : (h : Held) (l d : Latest) (o : Option ℕ) → TellsHeldBy h l d o → shown_in h ≡ shown_with o l
 told_by h l d None t = told_sound h l t
 told_by h l d (Some row) t = told_said h d t
 
@@ -98,15 +98,15 @@ all_told g f hs few told = same_lists (map shown_in hs) (map f (range_with_len 0
     get_or-map shown_in hs n held.Never d inside ∙ (told n within ∙ sym (get_or-map-range_with_len f 0 g.sectors n n d within (omega arith))))
 
 states_sound : (g : Geometry) (image : Image) (hs : List Held) → length image ≡ row_count g → length hs ≡ g.sectors
-    → ((n : ℕ) → n < g.sectors → Tells (get_or hs n held.Never) (latest_below (marks image) (key.Sector n) (row_count g)) (latest_below [] (key.Sector n) (row_count g))) → map shown_in hs ≡ states_of g image
-unfolding states_of state_of
-states_sound g image hs size few told = all_told g (state_of image) hs few (λ n within.
+    → ((n : ℕ) → n < g.sectors → TellsHeld (get_or hs n held.Never) (latest_below (marks image) (key.Sector n) (row_count g)) (latest_below [] (key.Sector n) (row_count g))) → map shown_in hs ≡ states_of g image
+unfolding states_of sector_state
+states_sound g image hs size few told = all_told g (sector_state image) hs few (λ n within.
     let l = latest_below (marks image) (key.Sector n) (row_count g) in
-    told_by (get_or hs n held.Never) l latest.Never None (subst (λ d. Tells (get_or hs n held.Never) l d) (none_said (key.Sector n) (row_count g)) (told n within))
+    told_by (get_or hs n held.Never) l latest.Never None (subst (λ d. TellsHeld (get_or hs n held.Never) l d) (none_said (key.Sector n) (row_count g)) (told n within))
     ∙ ap (λ k. shown_by (latest_below (marks image) (key.Sector n) k)) (sym size))
 
 states_damaged : (g : Geometry) (last : Option ℕ) (image : Image) (hs : List Held) → length image ≡ row_count g → length hs ≡ g.sectors
-    → ((n : ℕ) → n < g.sectors → Tells (get_or hs n held.Never) (latest_below (marks (until g last image)) (key.Sector n) (row_count g)) (latest_below (said_marks g last image) (key.Sector n) (row_count g)))
+    → ((n : ℕ) → n < g.sectors → TellsHeld (get_or hs n held.Never) (latest_below (marks (until g last image)) (key.Sector n) (row_count g)) (latest_below (said_marks g last image) (key.Sector n) (row_count g)))
     → map shown_in hs ≡ damaged_states g last image
 unfolding damaged_states damaged_state
 states_damaged g last image hs size few told = all_told g (damaged_state g last image) hs few (λ n within.
@@ -119,7 +119,7 @@ states_damaged g last image hs size few told = all_told g (damaged_state g last 
 
 pub written_sound : (g : Geometry) (last : Option ℕ) (hs : List Held) (blank : List ℕ) (d : Doubting) (left : Unsettled) (pieces : Option (List (List ℕ))) (bytes : List ℕ) → WritingStands g hs blank pieces
     → ((image : Image) → length image ≡ row_count g → IsDoubting g (row_count g) image d → IsLeftUnsettled g image left)
-    → IsTaken g (λ image. ShowsSound g (row_count g) (until g last image) hs pieces × IsDoubting g (row_count g) image d) bytes → IsWritten g last false pieces hs left bytes
+    → IsTaken g (λ image. ShowsSound g (row_count g) (until g last image) hs pieces × IsDoubting g (row_count g) image d) bytes → IsArrayWritten g last false pieces hs left bytes
 written_sound g last hs blank d left pieces bytes stands concluded taken =
     let raw : Image = raw_image g bytes in
     let whole : length raw ≡ row_count g = length-raw_image g bytes in
@@ -128,21 +128,21 @@ written_sound g last hs blank d left pieces bytes stands concluded taken =
     let shown = taken.shown.0 in
     record {
       whole = taken.whole;
-      array = if_both pieces (AreSized g) (ReadBelow g image [] (λ row. []) (row_count g)) (λ ps. ps ≡ array_of g image) stands.sized shown.pieces_are (λ ps sized read. array_sound g image ps size sized read);
+      array = if_both pieces (HasSectorPieces g) (ReadBelow g image [] (λ row. []) (row_count g)) (λ ps. ps ≡ array_of g image) stands.sized shown.pieces_are (λ ps sized read. array_sound g image ps size sized read);
       states = states_sound g image hs size stands.size shown.held_of;
       left_is = concluded raw whole taken.shown.1;
     }
 
 pub written_damaged : (g : Geometry) (last : Option ℕ) (hs : List Held) (blank : List ℕ) (d : Doubting) (left : Unsettled) (pieces : Option (List (List ℕ))) (bytes : List ℕ) → WritingStands g hs blank pieces
     → ((image : Image) → length image ≡ row_count g → IsDoubting g (row_count g) image d → IsLeftUnsettled g image left)
-    → IsTaken g (λ image. ShowsDamaged g (row_count g) last image hs pieces × IsDoubting g (row_count g) image d) bytes → IsWritten g last true pieces hs left bytes
+    → IsTaken g (λ image. ShowsDamaged g (row_count g) last image hs pieces × IsDoubting g (row_count g) image d) bytes → IsArrayWritten g last true pieces hs left bytes
 written_damaged g last hs blank d left pieces bytes stands concluded taken =
     let raw : Image = raw_image g bytes in
     let whole : length raw ≡ row_count g = length-raw_image g bytes in
     let shown = taken.shown.0 in
     record {
       whole = taken.whole;
-      array = if_both pieces (AreSized g) (ReadBelow g (until g last raw) (said_marks g last raw) (said_reads g raw) (row_count g)) (λ ps. ps ≡ damaged_array g last raw) stands.sized shown.pieces_are (λ ps sized read. array_damaged g last raw ps whole sized read);
+      array = if_both pieces (HasSectorPieces g) (ReadBelow g (until g last raw) (said_marks g last raw) (said_reads g raw) (row_count g)) (λ ps. ps ≡ damaged_array g last raw) stands.sized shown.pieces_are (λ ps sized read. array_damaged g last raw ps whole sized read);
       states = states_damaged g last raw hs whole stands.size shown.held_of;
       left_is = concluded raw whole taken.shown.1;
     }
@@ -158,11 +158,11 @@ tied_at g image n (latest.Tied a b s) within e =
     (λ yes. record { in_range = within; first = a; second = b; shares = scan_tied image (key.Sector n) (length image) a b s refl e }, λ two. refl)
 
 pub tied_law : TiedLaw
-unfolding state_of
+unfolding sector_state
 tied_law g image n within = tied_at g image n (latest_below (marks image) (key.Sector n) (length image)) within refl
 
 pub unmarked_law : UnmarkedLaw
-unfolding state_of
+unfolding sector_state
 unmarked_law image n = by (latest_below (marks image) (key.Sector n) (length image))
   where
     by : (l : Latest) → shown_by l ≢ shown.Damaged

@@ -37,8 +37,8 @@ pub record IsDumpOf (g : Geometry) (die dump : Image) : Type 0 where
   pub moved : (n row : ℕ) → newest (marks die) (Sector n) ≡ Some row → is_rewritten g dump (row / g.pages) ≡ true → is_gone die dump n ≡ false
 
 -- a block is programmed in order: no erased page stands before one of its block that is not
-abbrev pub IsInOrder : Geometry → Image → Type 0
-IsInOrder g image = (row later : ℕ) → row < later → later / g.pages ≡ row / g.pages → is_programmed_at image later ≡ true → is_erased_at image row ≡ false
+abbrev pub IsProgrammedInOrder : Geometry → Image → Type 0
+IsProgrammedInOrder g image = (row later : ℕ) → row < later → later / g.pages ≡ row / g.pages → is_programmed_at image later ≡ true → is_erased_at image row ≡ false
 
 -- ---- a row of its own
 
@@ -62,10 +62,10 @@ abbrev pub BoundLaw : Type 0
 BoundLaw = (g : Geometry) (die dump : Image) (sectors : ℕ) → IsDumpOf g die dump → count_by (is_gone die dump) (range_with_len 0 sectors) ≤ most_older (doubts_of g dump)
 
 -- Every other sector of the dump reads as it did of the die, where no two sound pages of the die share a sequence.
-abbrev pub KeptLaw : Type 0
-KeptLaw = (g : Geometry) (die dump : Image) (n : ℕ) → IsDumpOf g die dump → AreDistinct (marks die) → is_gone die dump n ≡ false → sector_of g dump n ≡ sector_of g die n
+abbrev pub NotGoneReadsSameLaw : Type 0
+NotGoneReadsSameLaw = (g : Geometry) (die dump : Image) (n : ℕ) → IsDumpOf g die dump → AreDistinct (marks die) → is_gone die dump n ≡ false → sector_of g dump n ≡ sector_of g die n
 
 -- Of a die whose blocks were programmed in order, and of whose erased pages none reads otherwise, each hole is a page that was lost.
 abbrev pub HoleLostLaw : Type 0
-HoleLostLaw = (g : Geometry) (die dump : Image) (row : ℕ) → length dump ≡ length die → IsInOrder g die → ((r : ℕ) → is_programmed_at dump r ≡ true → is_programmed_at die r ≡ true) → IsHole g dump row
+HoleLostLaw = (g : Geometry) (die dump : Image) (row : ℕ) → length dump ≡ length die → IsProgrammedInOrder g die → ((r : ℕ) → is_programmed_at dump r ≡ true → is_programmed_at die r ≡ true) → IsHole g dump row
     → is_programmed_at die row ≡ true

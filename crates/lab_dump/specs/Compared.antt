@@ -22,10 +22,10 @@ pub record IsComparedTo (g : Geometry) (c : Claim) (told : Compared) (bytes : Li
   pub doubts_is : told.left.doubts ≡ doubts_of g (raw_image g bytes)
 
 -- the fault for that of a pass: what takes the pages never stops
-abbrev pub fault_of : PassFault → CompareFault
-fault_of scan.WrongLength = fault.WrongLength
-fault_of scan.Source = fault.Source
-fault_of scan.Stopped = fault.Source
+abbrev pub compare_fault_of : PassFault → CompareFault
+compare_fault_of scan.WrongLength = fault.WrongLength
+compare_fault_of scan.Source = fault.Source
+compare_fault_of scan.Stopped = fault.Source
 
 -- `WrongLength` says that the bytes aren't as many as an image has
 abbrev pub IsUncompared : Geometry → CompareFault → List ℕ → Type 0

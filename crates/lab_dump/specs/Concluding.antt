@@ -14,7 +14,7 @@ use Rattle.lab_dump.specs.declared.trace.Trace.TheVariants.{Never}
 use Rattle.lab_dump.specs.declared.doubts.Doubts.{Doubts}
 use Rattle.lab_dump.specs.declared.concluding.Excuse.{Excuse}
 use Rattle.lab_dump.specs.declared.concluding.Excuse.TheVariants.{Open, Factory, Rewritten}
-use Rattle.lab_dump.specs.Trace.{is_tied_in, place_in}
+use Rattle.lab_dump.specs.Trace.{is_tied_in, place_in_trace}
 use Rattle.lab_dump.specs.Count.{HasUnsound}
 use Rattle.lab_dump.specs.Bad.{is_plain, is_rewritten, keeps_below}
 use Rattle.lab_dump.specs.Doubts.{is_outside}
@@ -51,12 +51,12 @@ ties_in traces n = list_any (λ i. is_tied_in (get_or traces i Never)) (range_wi
 
 -- whether some of the first keys have their newest page in the block
 abbrev pub keeps_in : ℕ → List Trace → ℕ → ℕ → Bool
-keeps_in pages traces n block = list_any (λ i. is_in_block pages block (place_in (get_or traces i Never))) (range_with_len 0 n)
+keeps_in pages traces n block = list_any (λ i. is_in_block pages block (place_in_trace (get_or traces i Never))) (range_with_len 0 n)
 
 -- ---- in the end
 
 -- its parts have the sizes of the geometry
-pub record IsSized (g : Geometry) (d : Doubting) : Type 0 where
+pub record IsDoubtingSized (g : Geometry) (d : Doubting) : Type 0 where
   pub traces : length d.traces.items ≡ key_count g
   pub tables : length d.tables.items ≡ table_pages g * g.data_bytes
   pub unsound : length d.unsound.items ≡ g.blocks

@@ -9,7 +9,7 @@ use Rattle.page_layout.specs.declared.record.Key.{Key}
 use Rattle.page_layout.specs.declared.record.Key.TheVariants.{Sector, Translation, Table}
 use Rattle.page_layout.specs.Geometry.{translation_pages, table_pages}
 use Rattle.page_layout.specs.Page.{Page, Image}
-use Rattle.page_layout.specs.Sound.{record_of, is_erased_page, code_of}
+use Rattle.page_layout.specs.Sound.{record_of, is_erased_page, code_of_kind}
 use Rattle.page_layout.specs.Key.{key_of}
 use Rattle.page_layout.specs.Block.{is_broken}
 use Rattle.lab_dump.specs.declared.counts.PageCounts.{PageCounts}
@@ -19,7 +19,7 @@ use Rattle.lab_dump.specs.declared.counts.PageCounts.{PageCounts}
 -- there is a record, of this kind
 abbrev pub is_of_kind : Kind → Option Record → Bool
 is_of_kind k None = false
-is_of_kind k (Some r) = code_of r.kind == code_of k
+is_of_kind k (Some r) = code_of_kind r.kind == code_of_kind k
 
 -- the key's number is below the number of sectors, of translation pages or of table pages
 abbrev pub is_in_range : Geometry → Key → Bool

@@ -32,13 +32,13 @@ pub data Place : Type 0 where
   Whole : ℕ → Place
   Broken : ℕ → Place
 
-abbrev pub placed : (damaged sound : Option ℕ) → Place
-placed (Some row) sound = Broken row
-placed None (Some row) = Whole row
-placed None None = Nowhere
+abbrev pub broken_or_whole : (damaged sound : Option ℕ) → Place
+broken_or_whole (Some row) sound = Broken row
+broken_or_whole None (Some row) = Whole row
+broken_or_whole None None = Nowhere
 
 abbrev pub place_by : (sound said : Latest) → Place
-place_by sound said = placed (row_said_newer sound said) (place_of sound)
+place_by sound said = broken_or_whole (row_said_newer sound said) (place_of sound)
 
 -- what a sector reads as from there, where a page that is not sound reads as this
 abbrev pub content_in : Geometry → Image → (ℕ → List ℕ) → Place → List ℕ
@@ -100,14 +100,14 @@ pub record IsSaidNewer (g : Geometry) (last : Option ℕ) (image : Image) (n row
   pub newer : (other s : ℕ) → sequence_at (marks (until g last image)) (Sector n) other ≡ Some s → s < its.sequence
 
 -- and of all pages that say sector n and are not sound it has the greatest sequence, and is the first that has it
-pub record IsShown (g : Geometry) (last : Option ℕ) (image : Image) (n row : ℕ) : Type 0 where
+pub record IsNewestSaid (g : Geometry) (last : Option ℕ) (image : Image) (n row : ℕ) : Type 0 where
   pub is : IsSaidNewer g last image n row
   pub greatest : (other s : ℕ) → sequence_at (said_marks g last image) (Sector n) other ≡ Some s → s ≤ is.its.sequence
   pub first : (other : ℕ) → sequence_at (said_marks g last image) (Sector n) other ≡ Some is.its.sequence → row ≤ other
 
 -- A sector is shown as a page has it that is not sound just where that page is the first of the newest such, and newer than each sound one.
 abbrev pub DamagedLaw : Type 0
-DamagedLaw = (g : Geometry) (last : Option ℕ) (image : Image) (n row : ℕ) → (shown_place g last image n ≡ Broken row) ↔ IsShown g last image n row
+DamagedLaw = (g : Geometry) (last : Option ℕ) (image : Image) (n row : ℕ) → (shown_place g last image n ≡ Broken row) ↔ IsNewestSaid g last image n row
 
 -- Where no such page is newer, the sector is shown as ever.
 abbrev pub OtherwiseLaw : Type 0

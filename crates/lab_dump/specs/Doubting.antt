@@ -15,7 +15,7 @@ use Rattle.image_check.specs.Survey.{HasTableBytes, index_of}
 use Rattle.lab_dump.specs.declared.trace.Trace.{Trace}
 use Rattle.lab_dump.specs.declared.trace.Trace.TheVariants.{Never}
 use Rattle.lab_dump.specs.declared.doubting.Doubting.{Doubting}
-use Rattle.lab_dump.specs.Trace.{Tells}
+use Rattle.lab_dump.specs.Trace.{TellsTrace}
 use Rattle.lab_dump.specs.Count as count
 use Rattle.lab_dump.specs.Count.{HasUnsound}
 use Rattle.lab_dump.specs.Said.{said_below}
@@ -26,7 +26,7 @@ use Rattle.lab_dump.specs.Doubts.{is_erased_at, is_hole_below, is_outside}
 -- what the first rows say of the newest page of each key
 pub record HasTraces (g : Geometry) (marks : List (Option Record)) (rows : ℕ) (traces : List Trace) : Type 0 where
   pub size : length traces ≡ key_count g
-  pub at : (key : Key) → IsKeyOf g key → Tells (get_or traces (index_of g key) Never) (latest_below marks key rows)
+  pub at : (key : Key) → IsKeyOf g key → TellsTrace (get_or traces (index_of g key) Never) (latest_below marks key rows)
 
 -- ---- holes
 

@@ -70,8 +70,8 @@ is_outside g (Some r) = is_past g (key_of r)
 -- ---- together
 
 -- how many rows pass a test that are of blocks which pass another one
-unfoldable pub rows_of : Geometry → Image → (ℕ → Bool) → (ℕ → Bool) → ℕ
-rows_of g image test block = count_by (λ row. test row && block (row / g.pages)) (range_with_len 0 (length image))
+unfoldable pub rows_passing : Geometry → Image → (ℕ → Bool) → (ℕ → Bool) → ℕ
+rows_passing g image test block = count_by (λ row. test row && block (row / g.pages)) (range_with_len 0 (length image))
 
 -- whether the row's page is neither erased nor sound
 abbrev pub is_unsound_at : Image → ℕ → Bool
@@ -79,14 +79,14 @@ is_unsound_at image row = has_page is_broken (slice_get image row)
 
 -- how many rows of blocks that pass a test are so, or are holes
 abbrev pub doubtful_of : Geometry → Image → (ℕ → Bool) → ℕ
-doubtful_of g image block = rows_of g image (is_unsound_at image) block + rows_of g image (is_hole g image) block
+doubtful_of g image block = rows_passing g image (is_unsound_at image) block + rows_passing g image (is_hole g image) block
 
 -- how many pages are neither erased nor sound, how many are holes, how many of both stand in bad blocks whose pages leave nothing open, by why they
 -- do, and how many are sound and of a sector that the geometry leaves out
 unfoldable pub doubts_of : Geometry → Image → Doubts
 doubts_of g image = record {
-  unsound = rows_of g image (is_unsound_at image) (λ b. not (is_excused g image b));
-  holes = rows_of g image (is_hole g image) (λ b. not (is_excused g image b));
+  unsound = rows_passing g image (is_unsound_at image) (λ b. not (is_excused g image b));
+  holes = rows_passing g image (is_hole g image) (λ b. not (is_excused g image b));
   factory = doubtful_of g image (is_factory g image);
   rewritten = doubtful_of g image (is_rewritten g image);
   outside = count_by (λ p. is_outside g (record_of p)) image;

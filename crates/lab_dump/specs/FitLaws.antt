@@ -12,12 +12,12 @@ use Rattle.page_layout.specs.Key.{key_of}
 use Rattle.page_layout.specs.Live.{IsKeyOf}
 use Rattle.page_layout.specs.Raw.{raw_image}
 use Rattle.bad_blocks.specs.TablePage.{IsWellFormed}
-use Rattle.lab_dump.specs.declared.look.Look.TheVariants.{Sound}
+use Rattle.page_layout.specs.declared.look.PageLook.TheVariants.{Sound}
 use Rattle.lab_dump.specs.declared.fit.Fit.{Fit}
 use Rattle.lab_dump.specs.declared.told.PagesTold.{PagesTold}
-use Rattle.lab_dump.specs.Pages.{page_at}
+use Rattle.lab_dump.specs.Pages.{dump_page_at}
 use Rattle.lab_dump.specs.Sample.{looked_count, looked_row, look_at, is_sound, sample_of}
-use Rattle.lab_dump.specs.Told.{blocks_of, greatest, pages_told_of}
+use Rattle.lab_dump.specs.Told.{least_blocks_of, greatest_of_rows, pages_told_of}
 use Rattle.std.specs.declared.cmp.Ordering.TheVariants.{Less}
 use Rattle.lab_dump.specs.declared.fit.TableSays.TheVariants.{Short}
 use Rattle.lab_dump.specs.Fits.{fit_of, fits_of, missing_pages, rank, table_says}
@@ -26,7 +26,7 @@ use Rattle.lab_dump.specs.Fits.{fit_of, fits_of, missing_pages, rank, table_says
 
 -- Its numbers are within a die's limits and come to as many bytes as the dump has; what is said for it is so; and some page that was looked at
 -- is sound.
-pub record IsFit (all : List ℕ) (f : Fit) : Type 0 where
+pub record IsFitOfDump (all : List ℕ) (f : Fit) : Type 0 where
   pub limits : IsWithinLimits f.data_bytes f.spare_bytes f.pages f.blocks f.sectors
   pub whole : length all ≡ f.blocks * f.pages * (f.data_bytes + f.spare_bytes)
   pub evidence : f ≡ fit_of f.data_bytes f.spare_bytes f.pages f.blocks (sample_of f.data_bytes f.spare_bytes (f.blocks * f.pages) all) (pages_told_of f.data_bytes f.spare_bytes (f.blocks * f.pages) all)
@@ -34,15 +34,15 @@ pub record IsFit (all : List ℕ) (f : Fit) : Type 0 where
 
 -- those that fit are just these: none whose every page that was looked at is unsound
 abbrev pub FitLaw : Type 0
-FitLaw = (all : List ℕ) (f : Fit) → Contains (fits_of all) f ↔ IsFit all f
+FitLaw = (all : List ℕ) (f : Fit) → Contains (fits_of all) f ↔ IsFitOfDump all f
 
 -- whether the areas have these sizes, and a block so many pages
 abbrev pub has_numbers : ℕ → ℕ → ℕ → Fit → Bool
 has_numbers data_bytes spare_bytes pages f = (f.data_bytes == data_bytes) && (f.spare_bytes == spare_bytes) && (f.pages == pages)
 
 -- of those with such areas and so many pages in a block there is one at most: none is told twice
-abbrev pub OnceLaw : Type 0
-OnceLaw = (all : List ℕ) (data_bytes spare_bytes pages : ℕ) → count_by (has_numbers data_bytes spare_bytes pages) (fits_of all) ≤ 1
+abbrev pub NoFitTwiceLaw : Type 0
+NoFitTwiceLaw = (all : List ℕ) (data_bytes spare_bytes pages : ℕ) → count_by (has_numbers data_bytes spare_bytes pages) (fits_of all) ≤ 1
 
 -- the numbers are those of this geometry, but for the sectors
 pub record IsShapedAs (g : Geometry) (f : Fit) : Type 0 where
@@ -70,7 +70,7 @@ FewerLaw = (x y : Fit) → x.sound.0 ≡ y.sound.0 → x.table ≡ Short → y.t
 
 -- the page of a row is that of the raw image
 abbrev pub PageLaw : Type 0
-PageLaw = (g : Geometry) (all : List ℕ) (row : ℕ) → row < row_count g → slice_get (raw_image g all) row ≡ Some (page_at g.data_bytes g.spare_bytes all row)
+PageLaw = (g : Geometry) (all : List ℕ) (row : ℕ) → row < row_count g → slice_get (raw_image g all) row ≡ Some (dump_page_at g.data_bytes g.spare_bytes all row)
 
 -- the rows that are looked at are rows of the dump
 abbrev pub LookedLaw : Type 0
@@ -86,21 +86,21 @@ LookedAllLaw = (rows place : ℕ) → rows ≤ 4096 → looked_row rows place �
 
 -- ---- what the pages tell
 
--- no row has a greater number than the greatest, and one has it unless it is 0
+-- no row has a greater number than the greatest_of_rows, and one has it unless it is 0
 abbrev pub GreatestLaw : Type 0
-GreatestLaw = (f : ℕ → ℕ) (rows : ℕ) → ((row : ℕ) → row < rows → f row ≤ greatest f rows) × ((greatest f rows ≡ 0) ⊎ ((row : ℕ) × (row < rows) × (f row ≡ greatest f rows)))
+GreatestLaw = (f : ℕ → ℕ) (rows : ℕ) → ((row : ℕ) → row < rows → f row ≤ greatest_of_rows f rows) × ((greatest_of_rows f rows ≡ 0) ⊎ ((row : ℕ) × (row < rows) × (f row ≡ greatest_of_rows f rows)))
 
 -- What is told has room for what this is a page of, where a page has so many entries: for its sector, for the first sector of its translation
 -- page, or for the blocks before its table page.
-abbrev pub IsWithin : Key → ℕ → PagesTold → Type 0
-IsWithin (Sector n) entries t = n < t.sectors
-IsWithin (Translation n) entries t = n * entries < t.sectors
-IsWithin (Table u) entries t = u * entries ≤ t.blocks
+abbrev pub IsWithinTold : Key → ℕ → PagesTold → Type 0
+IsWithinTold (Sector n) entries t = n < t.sectors
+IsWithinTold (Translation n) entries t = n * entries < t.sectors
+IsWithinTold (Table u) entries t = u * entries ≤ t.blocks
 
 -- what so many rows tell has room for each sound page of them
 abbrev pub WithinLaw : Type 0
 WithinLaw = (data_bytes spare_bytes rows : ℕ) (all : List ℕ) (row : ℕ) (r : Record) → rows * (data_bytes + spare_bytes) ≤ length all → row < rows
-    → look_at data_bytes spare_bytes all row ≡ Sound r → IsWithin (key_of r) (data_bytes / 4) (pages_told_of data_bytes spare_bytes rows all)
+    → look_at data_bytes spare_bytes all row ≡ Sound r → IsWithinTold (key_of r) (data_bytes / 4) (pages_told_of data_bytes spare_bytes rows all)
 
 -- a die has at least the sectors that are told, where each sound page is of a sector, a translation page or a table page that it has
 abbrev pub LowerLaw : Type 0
@@ -110,4 +110,4 @@ LowerLaw = (g : Geometry) (all : List ℕ) → ((row : ℕ) (r : Record) → row
 -- a table page that is well formed for so many blocks tells of those up to its last entry, so the last table page tells all of them
 abbrev pub TableLaw : Type 0
 TableLaw = (entries blocks u : ℕ) (body : List ℕ) → 0 < entries → length body ≡ 4 * entries → u * entries ≤ blocks → IsWellFormed entries blocks u body
-    → blocks_of kind.Table u body ≡ min (u * entries + entries) blocks
+    → least_blocks_of kind.Table u body ≡ min (u * entries + entries) blocks

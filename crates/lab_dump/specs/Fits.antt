@@ -11,7 +11,7 @@ use Rattle.lab_dump.specs.declared.sample.Sample.{Sample}
 use Rattle.lab_dump.specs.declared.told.PagesTold.{PagesTold}
 use Rattle.lab_dump.specs.Sample.{sample_of}
 use Rattle.lab_dump.specs.Told.{pages_told_of}
-use Rattle.lab_dump.specs.Shape.{data_sizes, page_counts, rows_of, is_shape, has_shape}
+use Rattle.lab_dump.specs.Shape.{data_sizes, page_counts, rows_in_size, is_shape, has_shape}
 
 -- ---- one geometry
 
@@ -50,12 +50,12 @@ fit_of data_bytes spare_bytes pages blocks sample told = record {
 -- the one with such areas and so many pages in a block, if so many bytes are whole blocks of it
 abbrev pub shape_fits : ℕ → ℕ → ℕ → Sample → PagesTold → ℕ → List Fit
 shape_fits size data_bytes spare_bytes sample told pages =
-    if is_shape size data_bytes spare_bytes pages then fit_of data_bytes spare_bytes pages (rows_of size data_bytes spare_bytes / pages) sample told ∷ [] else []
+    if is_shape size data_bytes spare_bytes pages then fit_of data_bytes spare_bytes pages (rows_in_size size data_bytes spare_bytes / pages) sample told ∷ [] else []
 
 -- those with such areas: none where no page that is looked at is sound
 unfoldable pub area_fits : List ℕ → ℕ → ℕ → List Fit
 area_fits all data_bytes spare_bytes =
-    let rows = rows_of (length all) data_bytes spare_bytes in
+    let rows = rows_in_size (length all) data_bytes spare_bytes in
     let sample = sample_of data_bytes spare_bytes rows all in
     let told = pages_told_of data_bytes spare_bytes rows all in
     if has_shape (length all) data_bytes spare_bytes && nat_lt 0 sample.sound then flat_map (shape_fits (length all) data_bytes spare_bytes sample told) page_counts else []
@@ -71,17 +71,17 @@ fits_of all = flat_map (data_fits all) data_sizes
 -- ---- their order
 
 -- agreeing comes before having words for more blocks, that before saying nothing, and that before having words for fewer
-abbrev pub place : TableSays → ℕ
-place Agrees = 0
-place Short = 1
-place Silent = 2
-place Differs = 3
+abbrev pub table_place : TableSays → ℕ
+table_place Agrees = 0
+table_place Short = 1
+table_place Silent = 2
+table_place Differs = 3
 
 -- Which of two comes first: the one with more sound pages, then the one that the table agrees to, then the one with fewer missing pages, then the
 -- one with fewer bytes in unsound pages, then the one with the smaller numbers.
 abbrev pub rank : Fit → Fit → Ordering
 rank x y =
-    ordering_then (nat_cmp y.sound.0 x.sound.0) (ordering_then (nat_cmp (place x.table) (place y.table)) (ordering_then (nat_cmp x.missing y.missing) (ordering_then (nat_cmp x.unsound_bytes y.unsound_bytes)
+    ordering_then (nat_cmp y.sound.0 x.sound.0) (ordering_then (nat_cmp (table_place x.table) (table_place y.table)) (ordering_then (nat_cmp x.missing y.missing) (ordering_then (nat_cmp x.unsound_bytes y.unsound_bytes)
     (ordering_then (nat_cmp x.data_bytes y.data_bytes) (ordering_then (nat_cmp x.spare_bytes y.spare_bytes) (ordering_then (nat_cmp x.pages y.pages)
     (ordering_then (nat_cmp x.blocks y.blocks) (ordering_then (nat_cmp x.sectors y.sectors) (ordering_then (nat_cmp x.looked y.looked)
     (ordering_then (nat_cmp x.unsound y.unsound) (ordering_then (nat_cmp x.blocks_told y.blocks_told) (nat_cmp x.sectors_told y.sectors_told))))))))))))
@@ -95,6 +95,6 @@ pub record IsPossible (f : Fit) : Type 0 where
   pub looked : f.sound.0 + f.unsound ≤ f.looked
 
 -- at most so many were added, each of them possible
-pub record Adds (most : ℕ) (old new : List Fit) : Type 0 where
+pub record AddsFits (most : ℕ) (old new : List Fit) : Type 0 where
   pub few : length new ≤ length old + most
   pub possible : All IsPossible old → All IsPossible new

@@ -29,12 +29,12 @@ TellsSaid (held.Damaged kept) (latest.Tied a b s) = from_le_bytes w64 kept ≡ s
 TellsSaid _ _ = ⊥
 
 -- the second where the sector is shown from a page that is not sound
-abbrev pub TellsBy : Held → (sound said : Latest) → (damaged : Option ℕ) → Type 0
-TellsBy h sound said None = TellsSound h sound
-TellsBy h sound said (Some row) = TellsSaid h said
+abbrev pub TellsHeldBy : Held → (sound said : Latest) → (damaged : Option ℕ) → Type 0
+TellsHeldBy h sound said None = TellsSound h sound
+TellsHeldBy h sound said (Some row) = TellsSaid h said
 
-abbrev pub Tells : Held → (sound said : Latest) → Type 0
-Tells h sound said = TellsBy h sound said (row_said_newer sound said)
+abbrev pub TellsHeld : Held → (sound said : Latest) → Type 0
+TellsHeld h sound said = TellsHeldBy h sound said (row_said_newer sound said)
 
 -- the sequence that is held
 abbrev pub greatest_in : Held → Option ℕ

@@ -50,8 +50,8 @@ pages_below image n (suc row) = pages_below image n row ++ page_in_row n row (sl
 
 -- ALL SOUND PAGES OF A SECTOR, by rising row.
 -- Law: a page is in the list just where it is sound and of the sector (`HistoryLaw`).
-abbrev pub pages_of : Image → ℕ → List SectorPage
-pages_of image n = pages_below image n (length image)
+abbrev pub sector_pages_of : Image → ℕ → List SectorPage
+sector_pages_of image n = pages_below image n (length image)
 
 -- a page comes before another one: it has a later sequence, or the same and a lower row
 abbrev pub ComesBefore : SectorPage → SectorPage → Type 0
@@ -63,7 +63,7 @@ AreNewestFirst pages = (k : ℕ) (d : SectorPage) → k + 1 < length pages → C
 
 -- The history has the sound pages of the sector, newest first, and how many pages are neither erased nor sound.
 pub record IsHistory (image : Image) (n : ℕ) (h : History) : Type 0 where
-  pub all : IsPermutation (pages_of image n) h.pages.items
+  pub all : IsPermutation (sector_pages_of image n) h.pages.items
   pub order : AreNewestFirst h.pages.items
   pub unsound_is : h.unsound ≡ count_by is_broken image
 
@@ -75,19 +75,19 @@ pub record IsHistoryOf (g : Geometry) (n : ℕ) (h : History) (bytes : List ℕ)
 -- ---- while pages pass
 
 -- no more pages are listed than rows have passed, and there is room for a page of each row
-pub record HasRoom (all rows : ℕ) (pages : List SectorPage) (capacity : ℕ) : Type 0 where
+pub record HasHistoryRoom (all rows : ℕ) (pages : List SectorPage) (capacity : ℕ) : Type 0 where
   pub few : length pages ≤ rows
   pub room : all ≤ capacity
 
 -- those of the first rows were noted
-pub record Shows (n rows : ℕ) (image : Image) (pages : List SectorPage) (unsound : ℕ) : Type 0 where
+pub record ShowsHistory (n rows : ℕ) (image : Image) (pages : List SectorPage) (unsound : ℕ) : Type 0 where
   pub pages_are : pages ≡ pages_below image n rows
   pub unsound_is : unsound ≡ count_by is_broken (take rows image)
 
 -- ---- laws
 
 -- the page of a row is sound, of the sector, and has this sequence and version, and did this
-pub record IsPageOf (image : Image) (n : ℕ) (x : SectorPage) : Type 0 where
+pub record TellsSectorPage (image : Image) (n : ℕ) (x : SectorPage) : Type 0 where
   pub page : Page
   pub its : Record
   pub at : slice_get image x.row ≡ Some page
@@ -99,7 +99,7 @@ pub record IsPageOf (image : Image) (n : ℕ) (x : SectorPage) : Type 0 where
 
 -- A history tells just the sound pages of the sector.
 abbrev pub HistoryLaw : Type 0
-HistoryLaw = (image : Image) (n : ℕ) (x : SectorPage) → Contains (pages_of image n) x ↔ IsPageOf image n x
+HistoryLaw = (image : Image) (n : ℕ) (x : SectorPage) → Contains (sector_pages_of image n) x ↔ TellsSectorPage image n x
 
 -- Its first page is the newest one of the sector, where there is a newest one.
 pub record StartsWithRow (row : ℕ) (pages : List SectorPage) : Type 0 where

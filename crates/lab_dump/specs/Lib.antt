@@ -1,5 +1,3 @@
--- what a page is
-pub mod Look
 -- a page as its bytes, and its single bits
 pub mod PageBytes
 -- a dump that a reader gives, page by page

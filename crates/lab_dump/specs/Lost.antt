@@ -26,7 +26,7 @@ IsWhereSaid marks n (Some row) = IsNewest marks (Sector n) row
 IsWhereSaid marks n None = (row : ℕ) → sequence_at marks (Sector n) row ≡ None
 
 -- the sector's newest page has this sequence or a later one
-pub record IsSince (marks : List (Option Record)) (n next : ℕ) : Type 0 where
+pub record IsSectorSince (marks : List (Option Record)) (n next : ℕ) : Type 0 where
   pub row : ℕ
   pub sequence : ℕ
   pub newest_is : IsNewest marks (Sector n) row
@@ -41,26 +41,26 @@ is_there None row = false
 is_there (Some said) row = said == row
 
 -- by the row that is said, the sequence that was next, and what is known of the sector's newest page
-abbrev pub is_lost_by : Option ℕ → ℕ → Latest → Bool
-is_lost_by said next Never = is_some said
-is_lost_by said next (Once row s) = not (is_there said row) && nat_lt s next
-is_lost_by said next (Tied a b s) = true
+abbrev pub is_lost_by_latest : Option ℕ → ℕ → Latest → Bool
+is_lost_by_latest said next Never = is_some said
+is_lost_by_latest said next (Once row s) = not (is_there said row) && nat_lt s next
+is_lost_by_latest said next (Tied a b s) = true
 
 -- the row that a certificate says for sector n
 abbrev pub said_row : Claim → ℕ → Option ℕ
 said_row c n = get_or c.sectors n None
 
 -- whether sector n has lost a page
-unfoldable pub is_lost : Claim → Image → ℕ → Bool
-is_lost c image n = is_lost_by (said_row c n) c.next (latest_below (marks image) (Sector n) (length image))
+unfoldable pub has_lost_page : Claim → Image → ℕ → Bool
+has_lost_page c image n = is_lost_by_latest (said_row c n) c.next (latest_below (marks image) (Sector n) (length image))
 
 -- the sectors in order
 unfoldable pub lost_sectors_of : Claim → ℕ → Image → List Bool
-lost_sectors_of c sectors image = map (is_lost c image) (range_with_len 0 sectors)
+lost_sectors_of c sectors image = map (has_lost_page c image) (range_with_len 0 sectors)
 
 -- A sector has lost none just where its newest page stands where the certificate says, or has a sequence from the certificate's next one on.
-abbrev pub LostLaw : Type 0
-LostLaw = (c : Claim) (image : Image) (n : ℕ) → (is_lost c image n ≡ false) ↔ (IsWhereSaid (marks image) n (said_row c n) ⊎ IsSince (marks image) n c.next)
+abbrev pub HasLostPageLaw : Type 0
+HasLostPageLaw = (c : Claim) (image : Image) (n : ℕ) → (has_lost_page c image n ≡ false) ↔ (IsWhereSaid (marks image) n (said_row c n) ⊎ IsSectorSince (marks image) n c.next)
 
 -- ---- what goes on in a die
 
@@ -74,13 +74,13 @@ pub record IsDueNext (g : Geometry) (next : ℕ) (image : Image) (row : ℕ) (p 
 
 -- The log leads from one state to the other. Its programs take the next sequences in order, each that is next or a later one, and its erases
 -- are of blocks in which no key has its newest page. Each may pass or fail.
-abbrev pub GoesOn : Geometry → ℕ → Flash → List Operation → Flash → Type 0
-GoesOn g next old [] new = new ≡ old
-GoesOn g next old (Program row p passed left ∷ log) new =
-    (r : Record) × IsDueNext g next old.image row p r × (mid : Flash) × Steps old (Program row p passed left) mid × GoesOn g (r.sequence + 1) mid log new
-GoesOn g next old (Erase block passed left ∷ log) new = HoldsNone g.pages block old.image × (mid : Flash) × Steps old (Erase block passed left) mid × GoesOn g next mid log new
+abbrev pub LeadsInOrder : Geometry → ℕ → Flash → List Operation → Flash → Type 0
+LeadsInOrder g next old [] new = new ≡ old
+LeadsInOrder g next old (Program row p passed left ∷ log) new =
+    (r : Record) × IsDueNext g next old.image row p r × (mid : Flash) × Steps old (Program row p passed left) mid × LeadsInOrder g (r.sequence + 1) mid log new
+LeadsInOrder g next old (Erase block passed left ∷ log) new = HoldsNone g.pages block old.image × (mid : Flash) × Steps old (Erase block passed left) mid × LeadsInOrder g next mid log new
 
 -- Of a die whose certificate agreed with it no sector is told as lost, whatever went on since.
 abbrev pub NoneLostLaw : Type 0
 NoneLostLaw = (g : Geometry) (capacity : ℕ) (c : Claim) (old new : Flash) (log : List Operation) (n : ℕ) → old.geometry ≡ g → Agrees g capacity old.image c
-    → GoesOn g c.next old log new → n < g.sectors → is_lost c new.image n ≡ false
+    → LeadsInOrder g c.next old log new → n < g.sectors → has_lost_page c new.image n ≡ false

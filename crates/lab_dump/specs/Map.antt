@@ -21,9 +21,9 @@ abbrev pub ends_at : List MapMark → ℕ → Bool
 ends_at marks n = (n + 1 == length marks) || not (is_like (get_or marks n Untried) (get_or marks (n + 1) Untried))
 
 -- the first sector of the area that sector n is of: that after the last end of an area before it
-unfoldable pub first_of : List MapMark → ℕ → ℕ
-first_of marks zero = zero
-first_of marks (suc n) = if ends_at marks n then suc n else first_of marks n
+unfoldable pub first_in_area : List MapMark → ℕ → ℕ
+first_in_area marks zero = zero
+first_in_area marks (suc n) = if ends_at marks n then suc n else first_in_area marks n
 
 -- ---- the text
 
@@ -42,7 +42,7 @@ area_words position size mark = codes "0x" ++ (digits 16 false position ++ (code
 abbrev pub area_line : Geometry → List MapMark → ℕ → List ℕ
 area_line g marks n =
     if ends_at marks n
-    then area_words (first_of marks n * g.data_bytes) ((n + 1 - first_of marks n) * g.data_bytes) (get_or marks n Untried) ++ (10 ∷ [])
+    then area_words (first_in_area marks n * g.data_bytes) ((n + 1 - first_in_area marks n) * g.data_bytes) (get_or marks n Untried) ++ (10 ∷ [])
     else []
 
 -- those of the areas that end below n
@@ -80,7 +80,7 @@ pub record IsAreaTo (marks : List MapMark) (first n : ℕ) : Type 0 where
 -- An area ends with a sector just where it is the last one or the next is marked otherwise. So the areas have each sector once, each begins
 -- where the one before it has ended, and neighbours differ.
 pub record AreAreas (marks : List MapMark) (n : ℕ) : Type 0 where
-  pub area : IsAreaTo marks (first_of marks n) n
+  pub area : IsAreaTo marks (first_in_area marks n) n
   pub end : (ends_at marks n ≡ true) ↔ ((n + 1 ≡ length marks) ⊎ (get_or marks (n + 1) Untried ≢ get_or marks n Untried))
 
 abbrev pub AreasLaw : Type 0

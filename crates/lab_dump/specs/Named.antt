@@ -16,8 +16,8 @@ use Rattle.lab_dump.specs.Said.{said_of, says}
 abbrev pub names : ℕ → SaidPage → Bool
 names n x = x.newer && key_eq (key_of x.says) (Sector n)
 
-unfoldable pub is_named : Geometry → Image → ℕ → Bool
-is_named g dump n = list_any (names n) (said_of g dump)
+unfoldable pub is_named_newer : Geometry → Image → ℕ → Bool
+is_named_newer g dump n = list_any (names n) (said_of g dump)
 
 -- what the pages of the dump say is what the die's pages there were
 abbrev pub SaysTrue : Geometry → Image → Image → Type 0
@@ -28,4 +28,4 @@ SaysTrue g die dump = (row : ℕ) (p : Page) (r : Record) → slice_get dump row
 -- Where what they say is so, at most so many sectors whose newest page is gone are not named.
 abbrev pub OthersLaw : Type 0
 OthersLaw = (g : Geometry) (die dump : Image) (sectors : ℕ) → IsDumpOf g die dump → SaysTrue g die dump
-    → count_by (λ n. is_gone die dump n && not (is_named g dump n)) (range_with_len 0 sectors) ≤ most_others (doubts_of g dump) (legible_of g dump)
+    → count_by (λ n. is_gone die dump n && not (is_named_newer g dump n)) (range_with_len 0 sectors) ≤ most_others (doubts_of g dump) (legible_of g dump)

@@ -14,12 +14,12 @@ abbrev pub legible : List ℕ → Option Record
 legible bytes = if nat_le (seal_end bytes) (length bytes) then spelled (take (seal_end bytes) bytes) else None
 
 -- with the byte at which it stands
-abbrev pub read_as : ℕ → Option Record → Option Legible
-read_as at found = option_map (λ r. record { at = at; says = r }) found
+abbrev pub legible_at : ℕ → Option Record → Option Legible
+legible_at at found = option_map (λ r. record { at = at; says = r }) found
 
 -- what can be read at a byte of a dump
 abbrev pub read_at : List ℕ → ℕ → Option Legible
-read_at all at = read_as at (legible (drop at all))
+read_at all at = legible_at at (legible (drop at all))
 
 -- ---- the nearest one
 
@@ -47,7 +47,7 @@ nearest_below all zero = None
 nearest_below all (suc n) = nearer (nearest_below all n) (read_at all n)
 
 -- WHAT CAME NEAREST: of all records that can be read in a dump the first one of a table page, or else the first one.
--- Laws: it can be read, and no other one that can comes before it (`NearestLaw`); there is none just where none can be read (`NoneLaw`).
+-- Laws: it can be read, and no other one that can comes before it (`NearestLaw`); there is none just where none can be read (`NoneLegibleLaw`).
 abbrev pub nearest_of : List ℕ → Option Legible
 nearest_of all = nearest_below all (length all)
 
@@ -76,5 +76,5 @@ pub record IsNearest (all : List ℕ) (x : Legible) : Type 0 where
 abbrev pub NearestLaw : Type 0
 NearestLaw = (all : List ℕ) (x : Legible) → (nearest_of all ≡ Some x) ↔ IsNearest all x
 
-abbrev pub NoneLaw : Type 0
-NoneLaw = (all : List ℕ) → (nearest_of all ≡ None) ↔ ((at : ℕ) → read_at all at ≡ None)
+abbrev pub NoneLegibleLaw : Type 0
+NoneLegibleLaw = (all : List ℕ) → (nearest_of all ≡ None) ↔ ((at : ℕ) → read_at all at ≡ None)

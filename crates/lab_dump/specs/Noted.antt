@@ -23,7 +23,7 @@ pub record SeeingStands (g : Geometry) (rows : ℕ) (s : Seeing) : Type 0 where
   pub table : length s.table ≡ g.blocks
 
 -- it has what the first rows of the image show
-pub record Shows (g : Geometry) (rows : ℕ) (image : Image) (s : Seeing) : Type 0 where
+pub record ShowsDump (g : Geometry) (rows : ℕ) (image : Image) (s : Seeing) : Type 0 where
   pub survey : IsSurvey g image rows s.survey
   pub counts : s.counts ≡ page_counts_of g (take rows image)
   pub formed : HasFormed g image rows s.formed.items

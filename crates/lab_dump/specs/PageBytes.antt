@@ -7,8 +7,8 @@ use Rattle.page_layout.specs.Raw.{bytes_of_page}
 use Rattle.page_layout.specs.Sound.{record_of}
 
 -- the page of these bytes, of which so many are its data area
-abbrev pub page_of : ℕ → List ℕ → Page
-page_of size bytes = page (take size bytes) (drop size bytes)
+abbrev pub page_from_bytes : ℕ → List ℕ → Page
+page_from_bytes size bytes = page (take size bytes) (drop size bytes)
 
 -- whether the page is sound
 abbrev pub is_sound : Page → Bool

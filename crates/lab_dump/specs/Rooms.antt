@@ -17,19 +17,19 @@ use Rattle.lab_dump.specs.Doubting.{IsDoubting}
 use Rattle.lab_dump.specs.Noted as noted
 
 -- a page of this geometry has room in these
-pub record HasPage (g : Geometry) (body spare : List ℕ) : Type 0 where
+pub record HasPageRoom (g : Geometry) (body spare : List ℕ) : Type 0 where
   pub body_size : length body ≡ g.data_bytes
   pub spare_size : length spare ≡ g.spare_bytes
 
 -- nothing was seen yet of a die of this geometry
 pub record IsSurveyRoom (g : Geometry) (room : SurveyRoom) : Type 0 where
-  pub page : HasPage g room.body.items room.spare.items
+  pub page : HasPageRoom g room.body.items room.spare.items
   pub stands : noted.SeeingStands g 0 room.seeing
-  pub shows : (image : Image) → noted.Shows g 0 image room.seeing
+  pub shows : (image : Image) → noted.ShowsDump g 0 image room.seeing
 
 -- no sector is held yet
 pub record IsArrayRoom (g : Geometry) (room : ArrayRoom) : Type 0 where
-  pub page : HasPage g room.body.items room.spare.items
+  pub page : HasPageRoom g room.body.items room.spare.items
   pub held : room.held.items ≡ replicate g.sectors Never
   pub blank : room.zeros.items ≡ zeros g
   pub stands : doubting.DoubtingStands g 0 room.doubting
@@ -37,13 +37,13 @@ pub record IsArrayRoom (g : Geometry) (room : ArrayRoom) : Type 0 where
 
 -- no page is listed, and each row has room in the list
 pub record IsHistoryRoom (g : Geometry) (room : HistoryRoom) : Type 0 where
-  pub page : HasPage g room.body.items room.spare.items
+  pub page : HasPageRoom g room.body.items room.spare.items
   pub none : room.pages.items ≡ []
   pub places : row_count g ≤ vec_capacity room.pages
 
 -- no page has passed, and there is a place for each sector
 pub record IsCompareRoom (g : Geometry) (room : CompareRoom) : Type 0 where
-  pub page : HasPage g room.body.items room.spare.items
+  pub page : HasPageRoom g room.body.items room.spare.items
   pub stands : doubting.DoubtingStands g 0 room.doubting
   pub shows : (image : Image) → IsDoubting g 0 image room.doubting
   pub lost : length room.lost.items ≡ g.sectors

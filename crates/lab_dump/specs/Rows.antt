@@ -27,15 +27,15 @@ abbrev pub AskedLaw : Type 0
 AskedLaw = (r : Rows) (row : ℕ) → (is_asked (Some r) row ≡ true) ↔ ((r.first ≤ row) × (row < r.end))
 
 -- the other image has as many pages, those of the rows asked for, and an erased one in place of each other
-pub record IsWithin (g : Geometry) (rows : Option Rows) (image other : Image) : Type 0 where
+pub record KeepsOnlyAskedRows (g : Geometry) (rows : Option Rows) (image other : Image) : Type 0 where
   pub size : length other ≡ length image
   pub asked : (row : ℕ) → is_asked rows row ≡ true → slice_get other row ≡ slice_get image row
   pub others : (row : ℕ) (p : Page) → is_asked rows row ≡ false → slice_get image row ≡ Some p → slice_get other row ≡ Some (erased_page g)
 
 -- `within` is that image.
 abbrev pub WithinLaw : Type 0
-WithinLaw = (g : Geometry) (rows : Option Rows) (image : Image) → IsWithin g rows image (within g rows image)
+WithinLaw = (g : Geometry) (rows : Option Rows) (image : Image) → KeepsOnlyAskedRows g rows image (within g rows image)
 
 -- Where no rows are named the image is as it was.
-abbrev pub EachLaw : Type 0
-EachLaw = (g : Geometry) (image : Image) → within g None image ≡ image
+abbrev pub NoRowsNamedLaw : Type 0
+NoRowsNamedLaw = (g : Geometry) (image : Image) → within g None image ≡ image

@@ -40,15 +40,15 @@ RepeatsAs marks None = AreDistinct marks
 RepeatsAs marks (Some rows) = IsFirstRepeated marks rows.0 rows.1
 
 -- every number is in range, no two sound pages share a sequence, and each table page has a newest page, which is well formed
-pub record IsReadable (g : Geometry) (image : Image) : Type 0 where
+pub record HasReadableBlocks (g : Geometry) (image : Image) : Type 0 where
   pub numbers : AreInRange g (marks image)
   pub sequences : AreDistinct (marks image)
   pub tables : HasTables g image
 
 -- the states of the blocks, or none where the image isn't so
 abbrev pub BlocksAs : Geometry → Image → Option (List BlockState) → Type 0
-BlocksAs g image None = ¬ IsReadable g image
-BlocksAs g image (Some states) = IsReadable g image × AreStates g image states
+BlocksAs g image None = ¬ HasReadableBlocks g image
+BlocksAs g image (Some states) = HasReadableBlocks g image × AreStates g image states
 
 -- of each table page that has a newest page whether that is well formed
 abbrev pub FormedAs : Geometry → Image → List Bool → Type 0
@@ -74,7 +74,7 @@ pub record IsSurveyOf (g : Geometry) (rows : Option Rows) (s : DieSurvey) (bytes
   pub survey : IsSurveyed g (within g rows (raw_image g bytes)) s
 
 -- its lists are as long as the geometry says
-pub record IsWhole (g : Geometry) (s : DieSurvey) : Type 0 where
+pub record IsSurveyWhole (g : Geometry) (s : DieSurvey) : Type 0 where
   pub keys : length s.keys.items ≡ key_count g
   pub formed : length s.formed.items ≡ table_pages g
   pub unsound : length s.unsound.items ≡ g.blocks
@@ -82,10 +82,10 @@ pub record IsWhole (g : Geometry) (s : DieSurvey) : Type 0 where
 
 -- ---- why there is none
 
-abbrev pub fault_of : PassFault → SurveyFault
-fault_of scan.WrongLength = fault.WrongLength
-fault_of scan.Source = fault.Source
-fault_of scan.Stopped = fault.Source
+abbrev pub survey_fault_of : PassFault → SurveyFault
+survey_fault_of scan.WrongLength = fault.WrongLength
+survey_fault_of scan.Source = fault.Source
+survey_fault_of scan.Stopped = fault.Source
 
 -- `WrongLength` says that the bytes aren't as many as an image has
 abbrev pub IsUnsurveyed : Geometry → SurveyFault → List ℕ → Type 0

@@ -10,17 +10,17 @@ use Rattle.lab_dump.specs.declared.held.KeyState.TheVariants as state
 use Rattle.lab_dump.specs.Lost.{is_there}
 
 -- it says as much, but for the rows of a tie
-abbrev pub Tells : Trace → Latest → Type 0
-Tells Never latest.Never = Unit {0}
-Tells (Once at kept) (latest.Once row s) = (at ≡ row) × (from_le_bytes w64 kept ≡ s)
-Tells (Tied kept) (latest.Tied a b s) = from_le_bytes w64 kept ≡ s
-Tells _ _ = ⊥
+abbrev pub TellsTrace : Trace → Latest → Type 0
+TellsTrace Never latest.Never = Unit {0}
+TellsTrace (Once at kept) (latest.Once row s) = (at ≡ row) × (from_le_bytes w64 kept ≡ s)
+TellsTrace (Tied kept) (latest.Tied a b s) = from_le_bytes w64 kept ≡ s
+TellsTrace _ _ = ⊥
 
 -- whether a sector has lost a page of which this is held in the end, by the row that is said of it and the sequence that was next
-abbrev pub lost_in : Option ℕ → ℕ → Trace → Bool
-lost_in said next Never = is_some said
-lost_in said next (Once at kept) = not (is_there said at) && nat_lt (from_le_bytes w64 kept) next
-lost_in said next (Tied kept) = true
+abbrev pub is_lost_in_trace : Option ℕ → ℕ → Trace → Bool
+is_lost_in_trace said next Never = is_some said
+is_lost_in_trace said next (Once at kept) = not (is_there said at) && nat_lt (from_le_bytes w64 kept) next
+is_lost_in_trace said next (Tied kept) = true
 
 -- whether a page of this sequence is newer than all that are known
 abbrev pub is_before : Trace → ℕ → Bool
@@ -29,10 +29,10 @@ is_before (Once row kept) s = nat_lt (from_le_bytes w64 kept) s
 is_before (Tied kept) s = nat_lt (from_le_bytes w64 kept) s
 
 -- the row of the newest page, or none
-abbrev pub place_in : Trace → Option ℕ
-place_in Never = None
-place_in (Once row kept) = Some row
-place_in (Tied kept) = None
+abbrev pub place_in_trace : Trace → Option ℕ
+place_in_trace Never = None
+place_in_trace (Once row kept) = Some row
+place_in_trace (Tied kept) = None
 
 -- two pages share the greatest sequence
 abbrev pub is_tied_in : Trace → Bool
@@ -41,7 +41,7 @@ is_tied_in (Once row kept) = false
 is_tied_in (Tied kept) = true
 
 -- how the key stands
-abbrev pub state_in : Trace → KeyState
-state_in Never = state.Absent
-state_in (Once row kept) = state.Found
-state_in (Tied kept) = state.Tied
+abbrev pub key_state_in : Trace → KeyState
+key_state_in Never = state.Absent
+key_state_in (Once row kept) = state.Found
+key_state_in (Tied kept) = state.Tied

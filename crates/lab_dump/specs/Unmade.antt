@@ -8,10 +8,10 @@ use Rattle.lab_dump.specs.declared.make_fault.MakeFault.{MakeFault}
 use Rattle.lab_dump.specs.declared.make_fault.MakeFault.TheVariants as fault
 
 -- the fault for that of a pass
-abbrev pub fault_of : PassFault → MakeFault
-fault_of scan.WrongLength = fault.WrongLength
-fault_of scan.Source = fault.Source
-fault_of scan.Stopped = fault.Target
+abbrev pub make_fault_of : PassFault → MakeFault
+make_fault_of scan.WrongLength = fault.WrongLength
+make_fault_of scan.Source = fault.Source
+make_fault_of scan.Stopped = fault.Target
 
 -- `WrongLength` says that the bytes aren't as many as an image has
 abbrev pub IsUnmade : Geometry → MakeFault → List ℕ → Type 0

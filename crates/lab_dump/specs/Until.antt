@@ -23,15 +23,15 @@ page_until g None p = p
 page_until g (Some last) p = if is_later last (record_of p) then erased_page g else p
 
 -- THE IMAGE AS OF A SEQUENCE, or as it is where none is said.
--- Law: it has just the sound pages that have no later sequence (`CountsLaw`).
+-- Law: it has just the sound pages that have no later sequence (`CountsUntilLaw`).
 unfoldable pub until : Geometry → Option ℕ → Image → Image
 until g last image = map (page_until g last) image
 
 -- ---- laws
 
 -- As of a sequence those sound pages count that have this sequence or an earlier one, and no others.
-abbrev pub CountsLaw : Type 0
-CountsLaw = (g : Geometry) (image : Image) (last row : ℕ) (r : Record) → (get_or (marks (until g (Some last) image)) row None ≡ Some r) ↔ ((get_or (marks image) row None ≡ Some r) × (r.sequence ≤ last))
+abbrev pub CountsUntilLaw : Type 0
+CountsUntilLaw = (g : Geometry) (image : Image) (last row : ℕ) (r : Record) → (get_or (marks (until g (Some last) image)) row None ≡ Some r) ↔ ((get_or (marks image) row None ≡ Some r) × (r.sequence ≤ last))
 
 -- As of the greatest sequence, or any above, the image is as it is; so where none is said.
 abbrev pub AllCountLaw : Type 0

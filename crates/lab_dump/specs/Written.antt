@@ -20,12 +20,12 @@ use Rattle.lab_dump.specs.Until.{until}
 use Rattle.lab_dump.specs.Damaged.{IsSaidNewer, array_with, row_said_newer, said_marks}
 
 -- how sector n stands: with no sound page, with a newest one, or with two that share its greatest sequence
-unfoldable pub state_of : Image → ℕ → SectorShown
-state_of image n = shown_by (latest_below (marks image) (Sector n) (length image))
+unfoldable pub sector_state : Image → ℕ → SectorShown
+sector_state image n = shown_by (latest_below (marks image) (Sector n) (length image))
 
 -- how each sector stands, in order
 unfoldable pub states_of : Geometry → Image → List SectorShown
-states_of g image = map (state_of image) (range_with_len 0 g.sectors)
+states_of g image = map (sector_state image) (range_with_len 0 g.sectors)
 
 -- the same with pages shown that are not sound
 -- Law: a sector is shown so just where such a page is newer than each sound one (`MarkedLaw`).
@@ -49,7 +49,7 @@ pub record IsLeftUnsettled (g : Geometry) (image : Image) (left : Unsettled) : T
 
 -- The bytes are as many as an image has, the pieces are the array of the image that they are, as of a sequence where one is said, with pages shown that are not sound where
 -- that is asked for, what is held says how each sector is shown then, and what is left open is that of the image.
-pub record IsWritten (g : Geometry) (last : Option ℕ) (damaged : Bool) (pieces : Option (List (List ℕ))) (held : List Held) (left : Unsettled) (bytes : List ℕ) : Type 0 where
+pub record IsArrayWritten (g : Geometry) (last : Option ℕ) (damaged : Bool) (pieces : Option (List (List ℕ))) (held : List Held) (left : Unsettled) (bytes : List ℕ) : Type 0 where
   pub whole : length bytes ≡ image_bytes g
   pub array : IfSome pieces (λ ps. ps ≡ array_with g last damaged (raw_image g bytes))
   pub states : map shown_in held ≡ states_with g last damaged (raw_image g bytes)
@@ -57,15 +57,15 @@ pub record IsWritten (g : Geometry) (last : Option ℕ) (damaged : Bool) (pieces
 
 -- a sector is tied just where two of its pages share its greatest sequence
 abbrev pub TiedLaw : Type 0
-TiedLaw = (g : Geometry) (image : Image) (n : ℕ) → n < g.sectors → (state_of image n ≡ shown.Tied) ↔ IsAmbiguous g image n
+TiedLaw = (g : Geometry) (image : Image) (n : ℕ) → n < g.sectors → (sector_state image n ≡ shown.Tied) ↔ IsAmbiguous g image n
 
 -- With pages shown that are not sound, a sector is marked so just where such a page says something newer than each sound page of it; else it stands as
 -- without them.
 abbrev pub MarkedLaw : Type 0
 MarkedLaw = (g : Geometry) (last : Option ℕ) (image : Image) (n : ℕ)
     → ((damaged_state g last image n ≡ shown.Damaged) ↔ ((row : ℕ) × IsSaidNewer g last image n row))
-    × (((row : ℕ) → ¬ IsSaidNewer g last image n row) → damaged_state g last image n ≡ state_of (until g last image) n)
+    × (((row : ℕ) → ¬ IsSaidNewer g last image n row) → damaged_state g last image n ≡ sector_state (until g last image) n)
 
 -- Without them none is marked so.
 abbrev pub UnmarkedLaw : Type 0
-UnmarkedLaw = (image : Image) (n : ℕ) → state_of image n ≢ shown.Damaged
+UnmarkedLaw = (image : Image) (n : ℕ) → sector_state image n ≢ shown.Damaged

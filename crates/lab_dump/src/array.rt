@@ -5,8 +5,8 @@ ghost use Rattle.page_layout.specs.Page.{Image};
 ghost use Rattle.page_layout.specs.Array.{zeros};
 ghost use Rattle.lab_dump.specs.Doubting.{DoubtingStands, IsDoubting};
 ghost use Rattle.lab_dump.specs.Rooms.{IsArrayRoom};
-ghost use Rattle.lab_dump.specs.Unmade.{IsUnmade, fault_of};
-ghost use Rattle.lab_dump.specs.Written.{IsLeftUnsettled, IsWritten, TiedLaw};
+ghost use Rattle.lab_dump.specs.Unmade.{IsUnmade, make_fault_of};
+ghost use Rattle.lab_dump.specs.Written.{IsLeftUnsettled, IsArrayWritten, TiedLaw};
 
 use crate::damaged::DamagedWriting;
 use crate::doubting::Doubting;
@@ -104,7 +104,7 @@ fn conclude<T>(geometry: &Geometry, writing: Writing<T>) -> ArrayWritten<T>
 
 // Why no file was made, by why not all pages were taken, and the file as far as it was written.
 fn not_written<T>(fault: PassFault, target: T) -> Unwritten<T>
-    ensures fault { result.fault ≡ fault_of fault }
+    ensures fault { result.fault ≡ make_fault_of fault }
     ensures target { result.target ≡ target }
 {
     Unwritten {
@@ -136,7 +136,7 @@ pub fn write_array<R: DumpReader, T: Target + Drop>(
 ) -> Result<ArrayWritten<T>, Unwritten<T>>
     requires room { IsArrayRoom geometry.now room }
     requires pieces { IfSome (T.pieces target) (λ ps. ps ≡ replicate geometry.now.sectors (zeros geometry.now)) }
-    ensures ok { IfOk result (λ written. IfSome (R.remaining reader.old) (IsWritten geometry.now until false (T.pieces written.target) written.held.items written.left)) }
+    ensures ok { IfOk result (λ written. IfSome (R.remaining reader.old) (IsArrayWritten geometry.now until false (T.pieces written.target) written.held.items written.left)) }
     ensures sized { IfOk result (λ written. length written.held.items ≡ geometry.now.sectors) }
     ensures err { IfErr result (λ unwritten. IfSome (R.remaining reader.old) (IsUnmade geometry.now unwritten.fault)) }
     // Whatever the reader and the target do.
@@ -174,7 +174,7 @@ pub fn write_damaged<R: DumpReader, T: DamagedTarget + Drop>(
 ) -> Result<ArrayWritten<T>, Unwritten<T>>
     requires room { IsArrayRoom geometry.now room }
     requires pieces { IfSome (T.pieces target) (λ ps. ps ≡ replicate geometry.now.sectors (zeros geometry.now)) }
-    ensures ok { IfOk result (λ written. IfSome (R.remaining reader.old) (IsWritten geometry.now until true (T.pieces written.target) written.held.items written.left)) }
+    ensures ok { IfOk result (λ written. IfSome (R.remaining reader.old) (IsArrayWritten geometry.now until true (T.pieces written.target) written.held.items written.left)) }
     ensures sized { IfOk result (λ written. length written.held.items ≡ geometry.now.sectors) }
     ensures err { IfErr result (λ unwritten. IfSome (R.remaining reader.old) (IsUnmade geometry.now unwritten.fault)) }
     // Whatever the reader and the target do.

@@ -2,7 +2,7 @@
 ghost use Rattle.std.specs.Prelude.{◌≡◌, ◌≢◌, ◌↔◌, ℕ, ◌<◌, ◌≤◌, ◌^◌, true, false, length, get_or, IfOk, IfErr, IfSome, IsTrue, Err, None};
 ghost use Rattle.certificate.specs.Claim.{sizes_of};
 ghost use Rattle.lab_dump.specs.declared.trace.Trace.TheVariants.{Never};
-ghost use Rattle.lab_dump.specs.Trace.{lost_in};
+ghost use Rattle.lab_dump.specs.Trace.{is_lost_in_trace};
 ghost use Rattle.lab_dump.specs.Compared.{IsComparedTo, IsUncompared};
 ghost use Rattle.lab_dump.specs.Rooms.{IsCompareRoom};
 
@@ -31,9 +31,9 @@ pub enum CompareFault {
 }
 
 impl From<PassFault> for CompareFault {
-    ghost use Rattle.lab_dump.specs.Compared.{fault_of};
+    ghost use Rattle.lab_dump.specs.Compared.{compare_fault_of};
 
-    ghost from_gives = { λ scan fault. fault ≡ fault_of scan };
+    ghost from_gives = { λ scan fault. fault ≡ compare_fault_of scan };
 
     fn from(fault: PassFault) -> CompareFault {
         match fault {
@@ -71,7 +71,7 @@ fn note_lost(certificate: &Certificate, traces: &[Trace], lost: &mut [bool])
     requires few { length traces.now < 2 ^ 32 }
     requires room { length lost.old ≡ length certificate.now.sectors }
     ensures size { length lost.new ≡ length lost.old }
-    ensures each { (n : ℕ) → n < length lost.old → get_or lost.new n false ≡ lost_in (get_or certificate.now.sectors n None) certificate.now.next (get_or traces.now n Never) }
+    ensures each { (n : ℕ) → n < length lost.old → get_or lost.new n false ≡ is_lost_in_trace (get_or certificate.now.sectors n None) certificate.now.next (get_or traces.now n Never) }
 {
     let next = certificate.next_sequence();
     for n in 0..lost.len() {

@@ -10,7 +10,7 @@ ghost use Rattle.lab_dump.specs.Doubts.{doubts_of, legible_of};
 ghost use Rattle.lab_dump.specs.Doubting.{DoubtingStands, HasTraces, IsDoubting};
 ghost use Rattle.lab_dump.specs.Said.{said_below, said_of};
 ghost use Rattle.lab_dump.specs.Concluding;
-ghost use Rattle.lab_dump.specs.Concluding.{IsSeen, IsSized, excuse_of, keeps_in, ties_in};
+ghost use Rattle.lab_dump.specs.Concluding.{IsSeen, IsDoubtingSized, excuse_of, keeps_in, ties_in};
 
 use crate::doubting::Doubting;
 use crate::doubts::Doubts;
@@ -136,7 +136,7 @@ fn class_of(geometry: &Geometry, traces: &[Trace], tables: &[u8], block: u32) ->
 
 // Why the pages of a block leave nothing open, if they do.
 fn excuse_at(geometry: &Geometry, doubting: &Doubting, plain: bool, block: u32) -> Excuse
-    requires sized { IsSized geometry.now doubting.now }
+    requires sized { IsDoubtingSized geometry.now doubting.now }
     requires within { block < geometry.now.blocks }
     ensures { (image : Image) → length image ≡ row_count geometry.now → IsSeen geometry.now image doubting.now plain → result ≡ excuse_of geometry.now image block }
 {
@@ -157,7 +157,7 @@ fn one_open(excuse: Excuse) -> u32
 
 // How many of the pages that say something are of blocks whose pages may leave something open.
 fn count_legible(geometry: &Geometry, doubting: &Doubting, plain: bool) -> u32
-    requires sized { IsSized geometry.now doubting.now }
+    requires sized { IsDoubtingSized geometry.now doubting.now }
     requires rows { All (λ x. x.row < row_count geometry.now) doubting.now.said.items }
     requires few { length doubting.now.said.items ≤ row_count geometry.now }
     ensures { (image : Image) → length image ≡ row_count geometry.now → IsSeen geometry.now image doubting.now plain → doubting.now.said.items ≡ said_below geometry.now image (row_count geometry.now)
@@ -180,7 +180,7 @@ fn is_plain(strange: u32, traces: &[Trace]) -> bool
 
 // Sums up what the pages of each block leave open.
 fn sum_blocks(geometry: &Geometry, doubting: &Doubting, plain: bool) -> Doubts
-    requires { IsSized geometry.now doubting.now }
+    requires { IsDoubtingSized geometry.now doubting.now }
     ensures { (image : Image) → length image ≡ row_count geometry.now → IsSeen geometry.now image doubting.now plain → result ≡ doubts_of geometry.now image }
 {
     let mut doubts = Doubts {

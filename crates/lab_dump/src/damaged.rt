@@ -10,7 +10,7 @@ ghost use Rattle.page_layout.specs.Block.{is_broken};
 ghost use Rattle.lab_dump.specs.Damaged.{DamagedLaw, OtherwiseLaw, SaysSector};
 ghost use Rattle.lab_dump.specs.Held.{pieces_after};
 ghost use Rattle.lab_dump.specs.Said.{says};
-ghost use Rattle.lab_dump.specs.Writing.{WritingStands, Shows};
+ghost use Rattle.lab_dump.specs.Writing.{WritingStands, ShowsSectorPieces};
 ghost use Rattle.lab_dump.specs.Written.{MarkedLaw, UnmarkedLaw};
 
 use crate::held::Change;
@@ -89,9 +89,9 @@ impl<T: DamagedTarget> Writing<T> {
         requires spelled { spelled spare.now ≡ Some says.now }
         requires stands { WritingStands geometry.now self.old.held.items self.old.zeros.items (T.pieces self.old.target) }
         ensures stands { OnOk result (WritingStands geometry.now self.new.held.items self.new.zeros.items (T.pieces self.new.target)) }
-        ensures shows { OnOk result ((image : Image) (said : List (Option Record)) (reads : ℕ → List ℕ) → Shows geometry.now row image said reads self.old.held.items (T.pieces self.old.target)
+        ensures shows { OnOk result ((image : Image) (said : List (Option Record)) (reads : ℕ → List ℕ) → ShowsSectorPieces geometry.now row image said reads self.old.held.items (T.pieces self.old.target)
             → get_or (marks image) row None ≡ None → get_or said row None ≡ Some says.now → reads row ≡ content_of_kind geometry.now says.now.kind body.now
-            → Shows geometry.now (row + 1) image said reads self.new.held.items (T.pieces self.new.target)) }
+            → ShowsSectorPieces geometry.now (row + 1) image said reads self.new.held.items (T.pieces self.new.target)) }
         ensures until { self.new.until ≡ self.old.until }
         ensures doubting { self.new.doubting ≡ self.old.doubting }
         ensures failed { OnErr result (T.failed self.new.target ≡ true) }

@@ -9,7 +9,7 @@ ghost use Rattle.image_check.specs.Survey.{HasTableBytes};
 ghost use Rattle.lab_dump.specs.Count.{HasUnsound, one};
 ghost use Rattle.lab_dump.specs.Doubts.{is_outside};
 ghost use Rattle.lab_dump.specs.Doubting.{DoubtingStands, HasHoles, HasTraces, IsDoubting};
-ghost use Rattle.lab_dump.specs.Trace.{place_in};
+ghost use Rattle.lab_dump.specs.Trace.{place_in_trace};
 
 use crate::counts::{note_unsound, one_strange};
 use crate::keys::index_of;
@@ -107,8 +107,8 @@ fn note_trace(geometry: &Geometry, traces: &mut [Trace], row: u32, found: Option
 
 // Whether the newest page is that of this row.
 fn is_at(trace: Trace, row: u32) -> bool
-    ensures yes { result ≡ true → place_in trace ≡ Some row }
-    ensures no { result ≡ false → place_in trace ≢ Some row }
+    ensures yes { result ≡ true → place_in_trace trace ≡ Some row }
+    ensures no { result ≡ false → place_in_trace trace ≢ Some row }
 {
     match trace.row() {
         Some(found) => found == row,

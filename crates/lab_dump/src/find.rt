@@ -4,7 +4,7 @@ ghost use Rattle.std.specs.List.{flat_map};
 ghost use Rattle.std.specs.List.Sorted.{IsSorted};
 ghost use Rattle.page_layout.specs.Limits.{IsDataSize, IsSpareSize, IsPageCount};
 ghost use Rattle.lab_dump.specs.Shape.{page_counts};
-ghost use Rattle.lab_dump.specs.Fits.{shape_fits, area_fits, data_fits, fits_of, Adds, IsPossible, rank};
+ghost use Rattle.lab_dump.specs.Fits.{shape_fits, area_fits, data_fits, fits_of, AddsFits, IsPossible, rank};
 ghost use Rattle.lab_dump.specs.Rooms.{IsFitRoom};
 
 use crate::dump::Dump;
@@ -65,7 +65,7 @@ fn add_shape(
     requires looked { sample.sound + sample.unsound ≤ sample.looked }
     requires place { length fits.old.items < vec_capacity fits.old }
     ensures added { fits.new.items ≡ fits.old.items ++ shape_fits size data_bytes spare_bytes sample told pages }
-    ensures any { Adds 1 fits.old.items fits.new.items }
+    ensures any { AddsFits 1 fits.old.items fits.new.items }
     ensures places { vec_capacity fits.new ≡ vec_capacity fits.old }
 {
     let Some(geometry) = shape(size, data_bytes, spare_bytes, pages) else {
@@ -90,7 +90,7 @@ pub fn add_shapes(
     requires looked { sample.sound + sample.unsound ≤ sample.looked }
     requires place { length fits.old.items + 7 ≤ vec_capacity fits.old }
     ensures added { fits.new.items ≡ fits.old.items ++ flat_map (shape_fits size data_bytes spare_bytes sample told) page_counts }
-    ensures any { Adds 7 fits.old.items fits.new.items }
+    ensures any { AddsFits 7 fits.old.items fits.new.items }
     ensures places { vec_capacity fits.new ≡ vec_capacity fits.old }
 {
     for pages in page_counts() {
@@ -112,7 +112,7 @@ fn add_areas<D: Dump>(
     requires room { 4352 ≤ length page.old }
     requires place { length fits.old.items + 7 ≤ vec_capacity fits.old }
     ensures added { OnOk result ((all : List ℕ) → D.bytes dump.old ≡ Some all → size ≡ length all → fits.new.items ≡ fits.old.items ++ area_fits all data_bytes spare_bytes) }
-    ensures any { OnOk result (Adds 7 fits.old.items fits.new.items) }
+    ensures any { OnOk result (AddsFits 7 fits.old.items fits.new.items) }
     ensures places { OnOk result (vec_capacity fits.new ≡ vec_capacity fits.old) }
     ensures source { OnErr result (D.failed dump.new ≡ true) }
     ensures same { D.bytes dump.new ≡ D.bytes dump.old }
@@ -142,7 +142,7 @@ fn add_data<D: Dump>(
     requires room { 4352 ≤ length page.old }
     requires place { length fits.old.items + 1575 ≤ vec_capacity fits.old }
     ensures added { OnOk result ((all : List ℕ) → D.bytes dump.old ≡ Some all → size ≡ length all → fits.new.items ≡ fits.old.items ++ data_fits all data_bytes) }
-    ensures any { OnOk result (Adds 1575 fits.old.items fits.new.items) }
+    ensures any { OnOk result (AddsFits 1575 fits.old.items fits.new.items) }
     ensures places { OnOk result (vec_capacity fits.new ≡ vec_capacity fits.old) }
     ensures source { OnErr result (D.failed dump.new ≡ true) }
     ensures same { D.bytes dump.new ≡ D.bytes dump.old }
@@ -163,7 +163,7 @@ fn add_all<D: Dump>(
     requires room { 4352 ≤ length page.old }
     requires place { length fits.old.items + 11025 ≤ vec_capacity fits.old }
     ensures added { OnOk result ((all : List ℕ) → D.bytes dump.old ≡ Some all → size ≡ length all → fits.new.items ≡ fits.old.items ++ fits_of all) }
-    ensures any { OnOk result (Adds 11025 fits.old.items fits.new.items) }
+    ensures any { OnOk result (AddsFits 11025 fits.old.items fits.new.items) }
     ensures source { OnErr result (D.failed dump.new ≡ true) }
     ensures same { D.bytes dump.new ≡ D.bytes dump.old }
 {

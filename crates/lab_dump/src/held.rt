@@ -3,7 +3,7 @@ ghost use Rattle.std.specs.Prelude.{◌≡◌, ℕ, Some, count_by, map};
 ghost use Rattle.page_layout.specs.Greatest.{step};
 ghost use Rattle.page_layout.specs.declared.newest.Latest.{Latest};
 ghost use Rattle.lab_dump.specs.Damaged.{Broken, Whole, place_by};
-ghost use Rattle.lab_dump.specs.Held.{Moves, Tells, damaged_of, greatest_in, is_damaged, mark_in, shown_in};
+ghost use Rattle.lab_dump.specs.Held.{Moves, TellsHeld, damaged_of, greatest_in, is_damaged, mark_in, shown_in};
 
 use crate::mark::{MapMark, Marked};
 
@@ -57,8 +57,8 @@ pub(crate) enum Change {
 
 // Of a sector shown from a page of this sequence that is not sound, with one sound page more.
 fn step_damaged(kept: [u8; 8], sequence: u64) -> (Held, Change)
-    ensures tells { (latest said : Latest) (row : ℕ) → Tells (Held.Damaged kept) latest said → Tells result.0 (step latest row (Some sequence)) said }
-    ensures moves { (latest said : Latest) (row : ℕ) → Tells (Held.Damaged kept) latest said → Moves result.1 (Whole row) (place_by latest said) (place_by (step latest row (Some sequence)) said) }
+    ensures tells { (latest said : Latest) (row : ℕ) → TellsHeld (Held.Damaged kept) latest said → TellsHeld result.0 (step latest row (Some sequence)) said }
+    ensures moves { (latest said : Latest) (row : ℕ) → TellsHeld (Held.Damaged kept) latest said → Moves result.1 (Whole row) (place_by latest said) (place_by (step latest row (Some sequence)) said) }
 {
     if sequence < u64::from_le_bytes(kept) {
         (Held::Damaged(kept), Change::Stays)
@@ -69,8 +69,8 @@ fn step_damaged(kept: [u8; 8], sequence: u64) -> (Held, Change)
 
 // Of one shown from a page of this sequence.
 fn step_once(kept: [u8; 8], sequence: u64) -> (Held, Change)
-    ensures tells { (latest said : Latest) (row : ℕ) → Tells (Held.Once kept) latest said → Tells result.0 (step latest row (Some sequence)) said }
-    ensures moves { (latest said : Latest) (row : ℕ) → Tells (Held.Once kept) latest said → Moves result.1 (Whole row) (place_by latest said) (place_by (step latest row (Some sequence)) said) }
+    ensures tells { (latest said : Latest) (row : ℕ) → TellsHeld (Held.Once kept) latest said → TellsHeld result.0 (step latest row (Some sequence)) said }
+    ensures moves { (latest said : Latest) (row : ℕ) → TellsHeld (Held.Once kept) latest said → Moves result.1 (Whole row) (place_by latest said) (place_by (step latest row (Some sequence)) said) }
 {
     let greatest = u64::from_le_bytes(kept);
     if greatest < sequence {
@@ -84,8 +84,8 @@ fn step_once(kept: [u8; 8], sequence: u64) -> (Held, Change)
 
 // Of one of which two pages share this sequence, the greatest.
 fn step_tied(kept: [u8; 8], sequence: u64) -> (Held, Change)
-    ensures tells { (latest said : Latest) (row : ℕ) → Tells (Held.Tied kept) latest said → Tells result.0 (step latest row (Some sequence)) said }
-    ensures moves { (latest said : Latest) (row : ℕ) → Tells (Held.Tied kept) latest said → Moves result.1 (Whole row) (place_by latest said) (place_by (step latest row (Some sequence)) said) }
+    ensures tells { (latest said : Latest) (row : ℕ) → TellsHeld (Held.Tied kept) latest said → TellsHeld result.0 (step latest row (Some sequence)) said }
+    ensures moves { (latest said : Latest) (row : ℕ) → TellsHeld (Held.Tied kept) latest said → Moves result.1 (Whole row) (place_by latest said) (place_by (step latest row (Some sequence)) said) }
 {
     if u64::from_le_bytes(kept) < sequence {
         (Held::Once(sequence.to_le_bytes()), Change::Newest)
@@ -111,8 +111,8 @@ pub fn damaged_count(held: &[Held]) -> u64
 impl Held {
     // What is held with one sound page of the sector more, and what that does.
     pub(crate) fn step(self, sequence: u64) -> (Held, Change)
-        ensures tells { (latest said : Latest) (row : ℕ) → Tells self latest said → Tells result.0 (step latest row (Some sequence)) said }
-        ensures moves { (latest said : Latest) (row : ℕ) → Tells self latest said → Moves result.1 (Whole row) (place_by latest said) (place_by (step latest row (Some sequence)) said) }
+        ensures tells { (latest said : Latest) (row : ℕ) → TellsHeld self latest said → TellsHeld result.0 (step latest row (Some sequence)) said }
+        ensures moves { (latest said : Latest) (row : ℕ) → TellsHeld self latest said → Moves result.1 (Whole row) (place_by latest said) (place_by (step latest row (Some sequence)) said) }
     {
         match self {
             Held::Never => (Held::Once(sequence.to_le_bytes()), Change::Newest),
@@ -136,8 +136,8 @@ impl Held {
 
     // What is held with one page more that is not sound and says the sector, and what that does.
     pub(crate) fn step_said(self, sequence: u64) -> (Held, Change)
-        ensures tells { (latest said : Latest) (row : ℕ) → Tells self latest said → Tells result.0 latest (step said row (Some sequence)) }
-        ensures moves { (latest said : Latest) (row : ℕ) → Tells self latest said → Moves result.1 (Broken row) (place_by latest said) (place_by latest (step said row (Some sequence))) }
+        ensures tells { (latest said : Latest) (row : ℕ) → TellsHeld self latest said → TellsHeld result.0 latest (step said row (Some sequence)) }
+        ensures moves { (latest said : Latest) (row : ℕ) → TellsHeld self latest said → Moves result.1 (Broken row) (place_by latest said) (place_by latest (step said row (Some sequence))) }
     {
         match self.greatest() {
             Some(greatest) if sequence <= greatest => (self, Change::Stays),

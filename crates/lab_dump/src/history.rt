@@ -100,13 +100,13 @@ impl Taker for Recalling {
     ghost use Rattle.std.specs.Prelude.{◌≡◌, ◌<◌, ◌≤◌, ◌+◌, ℕ, length, slice_get, vec_capacity, OnOk, OnErr, Some};
     ghost use Rattle.page_layout.specs.Geometry.{row_count};
     ghost use Rattle.page_layout.specs.Page.{Image, page};
-    ghost use Rattle.lab_dump.specs.History.{HasRoom, Shows};
+    ghost use Rattle.lab_dump.specs.History.{HasHistoryRoom, ShowsHistory};
 
     ghost fixed = { λ s. Some s.sector };
 
-    ghost stands = { λ s g rows. HasRoom (row_count g) rows s.pages.items (vec_capacity s.pages) × (s.unsound ≤ rows) };
+    ghost stands = { λ s g rows. HasHistoryRoom (row_count g) rows s.pages.items (vec_capacity s.pages) × (s.unsound ≤ rows) };
 
-    ghost shows = { λ s g rows image. Shows s.sector rows image s.pages.items s.unsound };
+    ghost shows = { λ s g rows image. ShowsHistory s.sector rows image s.pages.items s.unsound };
 
     // it never stops
     ghost stopped = { λ _. ⊥ };

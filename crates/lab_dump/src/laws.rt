@@ -1,11 +1,11 @@
 //! What the definitions in `specs/` come to, proved: each function's contract is the law, and its body is empty.
-ghost use Rattle.lab_dump.specs.Bound.{BoundLaw, HoleLostLaw, KeptLaw, OwnRowLaw};
+ghost use Rattle.lab_dump.specs.Bound.{BoundLaw, HoleLostLaw, NotGoneReadsSameLaw, OwnRowLaw};
 ghost use Rattle.lab_dump.specs.Bad.{RewrittenLaw, RewrittenToldLaw};
 ghost use Rattle.lab_dump.specs.Doubts.{HoleLaw, ToldOnceLaw};
-ghost use Rattle.lab_dump.specs.Lost.{LostLaw, NoneLostLaw};
+ghost use Rattle.lab_dump.specs.Lost.{HasLostPageLaw, NoneLostLaw};
 ghost use Rattle.lab_dump.specs.Named.{OthersLaw};
 ghost use Rattle.lab_dump.specs.Map.{AreasLaw};
-ghost use Rattle.lab_dump.specs.FitLaws.{FewerLaw, FitLaw, OnceLaw, OwnGeometryLaw, ShortLaw, PageLaw, LookedLaw, LookedRiseLaw, LookedAllLaw, GreatestLaw, WithinLaw, LowerLaw, TableLaw};
+ghost use Rattle.lab_dump.specs.FitLaws.{FewerLaw, FitLaw, NoFitTwiceLaw, OwnGeometryLaw, ShortLaw, PageLaw, LookedLaw, LookedRiseLaw, LookedAllLaw, GreatestLaw, WithinLaw, LowerLaw, TableLaw};
 
 /// The areas of a map have each sector once, each begins where the one before it has ended, and neighbours differ.
 pub fn areas_law()
@@ -15,7 +15,7 @@ pub fn areas_law()
 /// A sector has lost no page just where its newest page stands where the certificate says, or has a sequence from the certificate's next one
 /// on.
 pub fn lost_law()
-    ensures { LostLaw }
+    ensures { HasLostPageLaw }
 {}
 
 /// Of a die whose certificate agreed with it no sector is told as lost after any log of programs that take the next sequences in order and of
@@ -50,7 +50,7 @@ pub fn bad_block_laws()
 pub fn bound_laws()
     ensures own { OwnRowLaw }
     ensures bound { BoundLaw }
-    ensures kept { KeptLaw }
+    ensures kept { NotGoneReadsSameLaw }
     ensures others { OthersLaw }
 {}
 
@@ -58,7 +58,7 @@ pub fn bound_laws()
 /// once. A die's own geometry is one of them.
 pub fn fit_laws()
     ensures fit { FitLaw }
-    ensures once { OnceLaw }
+    ensures once { NoFitTwiceLaw }
     ensures own { OwnGeometryLaw }
 {}
 

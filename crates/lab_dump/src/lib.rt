@@ -32,7 +32,6 @@ mod held;
 mod history;
 mod keys;
 mod laws;
-mod look;
 mod make_fault;
 mod map;
 mod map_head;
@@ -71,7 +70,6 @@ pub use laws::{
     areas_law, bad_block_laws, bound_laws, fit_laws, hole_laws, looked_laws, lost_law,
     none_lost_law, short_laws, told_laws,
 };
-pub use look::{Look, look_at, look_with};
 pub use make_fault::MakeFault;
 pub use map::print_map;
 pub use map_head::{Remark, print_map_head};

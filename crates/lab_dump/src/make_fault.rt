@@ -19,9 +19,9 @@ pub enum MakeFault {
 }
 
 impl From<PassFault> for MakeFault {
-    ghost use Rattle.lab_dump.specs.Unmade.{fault_of};
+    ghost use Rattle.lab_dump.specs.Unmade.{make_fault_of};
 
-    ghost from_gives = { λ scan fault. fault ≡ fault_of scan };
+    ghost from_gives = { λ scan fault. fault ≡ make_fault_of scan };
 
     fn from(fault: PassFault) -> MakeFault {
         match fault {

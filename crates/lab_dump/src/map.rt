@@ -1,7 +1,7 @@
 //! The lines of a map.
 ghost use Rattle.std.specs.Prelude.{◌≡◌, ◌+◌, ◌<◌, ◌++◌, ◌∷◌, [], true, IfOk, OnOk, OnErr, map, length, get_or};
 ghost use Rattle.std.specs.Io.KnownBytes.{Appends};
-ghost use Rattle.lab_dump.specs.Map.{area_line, area_words, areas_below, ends_at, first_of, is_like, map_text};
+ghost use Rattle.lab_dump.specs.Map.{area_line, area_words, areas_below, ends_at, first_in_area, is_like, map_text};
 
 use crate::area::{Area, area_between};
 use crate::map_head::{Remark, print_map_head};
@@ -56,8 +56,8 @@ fn print_end<W: MapWriter, M: Marked>(
 ) -> Result<u32, LineFault>
     requires sized { length sectors.now ≡ geometry.now.sectors }
     requires within { sector < geometry.now.sectors }
-    requires first { first ≡ first_of (map M.marked sectors.now) sector }
-    ensures next { IfOk result (λ next. next ≡ first_of (map M.marked sectors.now) (sector + 1)) }
+    requires first { first ≡ first_in_area (map M.marked sectors.now) sector }
+    ensures next { IfOk result (λ next. next ≡ first_in_area (map M.marked sectors.now) (sector + 1)) }
     ensures printed { OnOk result (Appends (W.contents out.old) (W.contents out.new) (area_line geometry.now (map M.marked sectors.now) sector)) }
     ensures failed { OnErr result (W.failed out.new ≡ true) }
 {

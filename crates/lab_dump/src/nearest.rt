@@ -1,6 +1,6 @@
 //! What can be read of a dump that nothing fits: records that stand in its bytes, at whatever place.
 ghost use Rattle.std.specs.Prelude.{◌≡◌, ◌+◌, ◌-◌, ◌<◌, ◌≤◌, true, false, List, ℕ, length, drop, min, IfOk, OnErr, Some, None};
-ghost use Rattle.lab_dump.specs.Nearest.{HasBehind, LegibleLaw, NearestLaw, NoneLaw, is_settled, is_table, legible, nearer, nearest_below, nearest_of, read_as};
+ghost use Rattle.lab_dump.specs.Nearest.{HasBehind, LegibleLaw, NearestLaw, NoneLegibleLaw, is_settled, is_table, legible, nearer, nearest_below, nearest_of, legible_at};
 ghost use Rattle.lab_dump.specs.Rooms.{IsNearestRoom};
 
 use crate::dump::Dump;
@@ -54,7 +54,7 @@ impl NearestRoom {
 pub fn nearest_laws()
     ensures legible { LegibleLaw }
     ensures nearest { NearestLaw }
-    ensures none { NoneLaw }
+    ensures none { NoneLegibleLaw }
 {}
 
 // Whether a record may begin at a place: a version stands where that of its spare area would.
@@ -117,7 +117,7 @@ fn nearer(nearest: Option<Legible>, next: Legible) -> Legible
 fn look(bytes: &[u8], first: u64, place: usize, nearest: Option<Legible>) -> Option<Legible>
     requires within { place < length bytes.now }
     requires fits { first + place < 18446744073709551616 }
-    ensures { result ≡ nearer nearest (read_as (first + place) (legible (drop place bytes.now))) }
+    ensures { result ≡ nearer nearest (legible_at (first + place) (legible (drop place bytes.now))) }
 {
     match front_record(&bytes[place..]) {
         Some(says) => Some(nearer(

@@ -4,7 +4,7 @@ ghost use Rattle.std.specs.Io.KnownBytes.{IsAtEnd};
 ghost use Rattle.page_layout.specs.Geometry.{row_count};
 ghost use Rattle.page_layout.specs.Page.{Image};
 ghost use Rattle.lab_dump.specs.Rows.{within};
-ghost use Rattle.lab_dump.specs.Scan.{HasMore, IsTaken, IsUntaken};
+ghost use Rattle.lab_dump.specs.Scan.{HasMore, IsTaken, IsUntakenByPass};
 ghost use Rattle.lab_dump.specs.declared.pass.PassFault.TheVariants as faults;
 
 use crate::rows::{Rows, show_page};
@@ -91,9 +91,9 @@ pub trait Taker {
 }
 
 impl From<Cut> for PassFault {
-    ghost use Rattle.lab_dump.specs.Scan.{fault_of};
+    ghost use Rattle.lab_dump.specs.Scan.{pass_fault_of};
 
-    ghost from_gives = { λ cut fault. fault ≡ fault_of cut };
+    ghost from_gives = { λ cut fault. fault ≡ pass_fault_of cut };
 
     fn from(cut: Cut) -> PassFault {
         match cut {
@@ -143,7 +143,7 @@ pub fn scan<R: DumpReader, T: Taker>(
     ensures fixed { OnOk result (T.fixed taker.new ≡ T.fixed taker.old) }
     ensures stands { OnOk result (T.stands taker.new geometry.now (row_count geometry.now)) }
     ensures taken { OnOk result (IfSome (R.remaining reader.old) (IsTaken geometry.now (T.shows taker.new geometry.now (row_count geometry.now)))) }
-    ensures untaken { IfErr result (λ fault. IfSome (R.remaining reader.old) (IsUntaken geometry.now fault)) }
+    ensures untaken { IfErr result (λ fault. IfSome (R.remaining reader.old) (IsUntakenByPass geometry.now fault)) }
     ensures source { result ≡ Err faults.Source → R.failed reader.new ≡ true }
     ensures stopped { result ≡ Err faults.Stopped → T.stopped taker.new }
 {
@@ -173,7 +173,7 @@ pub fn scan_rows<R: DumpReader, T: Taker>(
     ensures fixed { OnOk result (T.fixed taker.new ≡ T.fixed taker.old) }
     ensures stands { OnOk result (T.stands taker.new geometry.now (row_count geometry.now)) }
     ensures taken { OnOk result (IfSome (R.remaining reader.old) (IsTaken geometry.now (λ image. T.shows taker.new geometry.now (row_count geometry.now) (within geometry.now rows image)))) }
-    ensures untaken { IfErr result (λ fault. IfSome (R.remaining reader.old) (IsUntaken geometry.now fault)) }
+    ensures untaken { IfErr result (λ fault. IfSome (R.remaining reader.old) (IsUntakenByPass geometry.now fault)) }
     ensures source { result ≡ Err faults.Source → R.failed reader.new ≡ true }
     ensures stopped { result ≡ Err faults.Stopped → T.stopped taker.new }
 {

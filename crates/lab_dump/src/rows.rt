@@ -1,7 +1,7 @@
 //! The rows that are asked for.
 ghost use Rattle.std.specs.Prelude.{◌≡◌, length};
 ghost use Rattle.page_layout.specs.Page.{page};
-ghost use Rattle.lab_dump.specs.Rows.{is_asked, shown_page, AskedLaw, EachLaw, WithinLaw};
+ghost use Rattle.lab_dump.specs.Rows.{is_asked, shown_page, AskedLaw, NoRowsNamedLaw, WithinLaw};
 
 use page_layout::geometry::Geometry;
 
@@ -36,7 +36,7 @@ pub fn within_law()
 
 /// Where no rows are named the image is shown as it is.
 pub fn each_law()
-    ensures { EachLaw }
+    ensures { NoRowsNamedLaw }
 {}
 
 // Leaves the page of a row that is asked for as it is, and makes an erased one of any other.

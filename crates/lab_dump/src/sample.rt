@@ -1,13 +1,13 @@
 //! What the pages of some rows are, spread over the dump.
 ghost use Rattle.std.specs.Prelude.{◌≡◌, ◌+◌, ◌*◌, ◌<◌, ◌≤◌, List, ℕ, length, IfOk, Some, OnErr, true};
 ghost use Rattle.page_layout.specs.Geometry.{page_bytes, row_count};
-ghost use Rattle.lab_dump.specs.Sample.{looked_count, looked_row, none_looked, noted, sample_of};
+ghost use Rattle.lab_dump.specs.Sample.{looked_count, looked_row, none_looked, sample_with_page, sample_of};
 
 use crate::dump::Dump;
-use crate::look::Look;
 use crate::row_page::look_at_row;
 use image_check::DumpFault;
 use page_layout::geometry::Geometry;
+use page_layout::look::PageLook;
 
 // At most so many rows are looked at,
 const MOST_LOOKED: u32 = 4096;
@@ -41,20 +41,20 @@ impl Sample {
     }
 
     /// The sample with one page more.
-    pub fn noted(self, look: Look) -> Sample
+    pub fn noted(self, look: PageLook) -> Sample
         requires { self.sound + self.unsound < 4096 }
-        ensures { result ≡ noted self look }
+        ensures { result ≡ sample_with_page self look }
     {
         match look {
-            Look::Sound(_) => Sample {
+            PageLook::Sound(_) => Sample {
                 sound: self.sound + 1,
                 ..self
             },
-            Look::Unsound => Sample {
+            PageLook::Unsound => Sample {
                 unsound: self.unsound + 1,
                 ..self
             },
-            Look::Erased => self,
+            PageLook::Erased => self,
         }
     }
 }

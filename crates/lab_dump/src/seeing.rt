@@ -1,7 +1,7 @@
 //! What one pass over the pages of a dump shows.
 ghost use Rattle.std.specs.Prelude.{◌≡◌, IfOk};
 ghost use Rattle.page_layout.specs.Page.{Image};
-ghost use Rattle.lab_dump.specs.Noted.{SeeingStands, Shows};
+ghost use Rattle.lab_dump.specs.Noted.{SeeingStands, ShowsDump};
 
 use crate::counts::PageCounts;
 use crate::doubting::Doubting;
@@ -35,7 +35,7 @@ impl Seeing {
     // Nothing seen yet. All the memory of a survey is taken here.
     pub(crate) fn new(alloc: Global, geometry: &Geometry) -> Result<Seeing, AllocError>
         ensures stands { IfOk result (SeeingStands geometry.now 0) }
-        ensures shows { IfOk result (λ s. (image : Image) → Shows geometry.now 0 image s) }
+        ensures shows { IfOk result (λ s. (image : Image) → ShowsDump geometry.now 0 image s) }
     {
         let keys = geometry.sectors() + geometry.translation_pages() + geometry.table_pages();
         Ok(Seeing {
@@ -54,11 +54,11 @@ impl Taker for Seeing {
     ghost use Rattle.std.specs.Prelude.{◌≡◌, ◌<◌, ◌+◌, ℕ, length, slice_get, OnOk, OnErr, Some};
     ghost use Rattle.page_layout.specs.Geometry.{row_count};
     ghost use Rattle.page_layout.specs.Page.{Image, page};
-    ghost use Rattle.lab_dump.specs.Noted.{SeeingStands, Shows};
+    ghost use Rattle.lab_dump.specs.Noted.{SeeingStands, ShowsDump};
 
     ghost stands = { λ s g rows. SeeingStands g rows s };
 
-    ghost shows = { λ s g rows image. Shows g rows image s };
+    ghost shows = { λ s g rows image. ShowsDump g rows image s };
 
     // it never stops
     ghost stopped = { λ _. ⊥ };

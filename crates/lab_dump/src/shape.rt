@@ -2,7 +2,7 @@
 ghost use Rattle.std.specs.Prelude.{◌≡◌, ◌+◌, ◌*◌, ◌/◌, ◌<◌, ◌≤◌, ◌^◌, All, IfSome, IfNone, false, true};
 ghost use Rattle.page_layout.specs.Geometry.{row_count};
 ghost use Rattle.page_layout.specs.Limits.{IsDataSize, IsSpareSize, IsPageCount};
-ghost use Rattle.lab_dump.specs.Shape.{data_sizes, page_counts, has_shape, rows_of, IsShapeOf};
+ghost use Rattle.lab_dump.specs.Shape.{data_sizes, page_counts, has_shape, rows_in_size, IsShapeOf};
 
 use page_layout::geometry::Geometry;
 
@@ -45,7 +45,7 @@ pub fn first_shape(size: u64, data_bytes: u32, spare_bytes: u32) -> Option<Geome
     ensures none { IfNone result (has_shape size data_bytes spare_bytes ≡ false) }
     ensures some { IfSome result (λ geometry. has_shape size data_bytes spare_bytes ≡ true) }
     ensures areas { IfSome result (λ geometry. (geometry.data_bytes ≡ data_bytes) × (geometry.spare_bytes ≡ spare_bytes)) }
-    ensures rows { IfSome result (λ geometry. row_count geometry ≡ rows_of size data_bytes spare_bytes) }
+    ensures rows { IfSome result (λ geometry. row_count geometry ≡ rows_in_size size data_bytes spare_bytes) }
 {
     let counts = page_counts();
     for pages in counts {

@@ -6,10 +6,10 @@ ghost use Rattle.image_check.specs.Room.{IsScratch};
 ghost use Rattle.image_check.specs.Surveyed.{IsSized, Surveys};
 ghost use Rattle.lab_dump.specs.declared.held.KeyState.TheVariants.{Absent};
 ghost use Rattle.lab_dump.specs.declared.trace.Trace.TheVariants.{Never};
-ghost use Rattle.lab_dump.specs.Noted.{SeeingStands, Shows};
+ghost use Rattle.lab_dump.specs.Noted.{SeeingStands, ShowsDump};
 ghost use Rattle.lab_dump.specs.Rooms.{IsSurveyRoom};
-ghost use Rattle.lab_dump.specs.Surveyed.{BlocksAs, IsSurveyed, IsSurveyOf, IsWhole, IsUnsurveyed, MountsLaw};
-ghost use Rattle.lab_dump.specs.Trace.{state_in};
+ghost use Rattle.lab_dump.specs.Surveyed.{BlocksAs, IsSurveyed, IsSurveyOf, IsSurveyWhole, IsUnsurveyed, MountsLaw};
+ghost use Rattle.lab_dump.specs.Trace.{key_state_in};
 
 use crate::counts::PageCounts;
 use crate::doubts::Unsettled;
@@ -37,9 +37,9 @@ pub enum SurveyFault {
 }
 
 impl From<PassFault> for SurveyFault {
-    ghost use Rattle.lab_dump.specs.Surveyed.{fault_of};
+    ghost use Rattle.lab_dump.specs.Surveyed.{survey_fault_of};
 
-    ghost from_gives = { λ scan fault. fault ≡ fault_of scan };
+    ghost from_gives = { λ scan fault. fault ≡ survey_fault_of scan };
 
     fn from(fault: PassFault) -> SurveyFault {
         match fault {
@@ -79,7 +79,7 @@ pub fn mounts_law()
 fn note_keys(traces: &[Trace], keys: &mut [KeyState])
     requires room { length keys.old ≡ length traces.now }
     ensures size { length keys.new ≡ length traces.now }
-    ensures each { (i : ℕ) → i < length traces.now → get_or keys.new i Absent ≡ state_in (get_or traces.now i Never) }
+    ensures each { (i : ℕ) → i < length traces.now → get_or keys.new i Absent ≡ key_state_in (get_or traces.now i Never) }
 {
     for i in 0..traces.len() {
         keys[i] = traces[i].state();
@@ -103,8 +103,8 @@ fn blocks_of(survey: &mut Survey, mut scratch: Scratch) -> Option<Vec<BlockState
 // What was seen in the end. It takes no memory.
 fn conclude(geometry: &Geometry, seeing: Seeing) -> DieSurvey
     requires { SeeingStands geometry.now (row_count geometry.now) seeing }
-    ensures whole { IsWhole geometry.now result }
-    ensures survey { (image : Image) → length image ≡ row_count geometry.now → Shows geometry.now (row_count geometry.now) image seeing → IsSurveyed geometry.now image result }
+    ensures whole { IsSurveyWhole geometry.now result }
+    ensures survey { (image : Image) → length image ≡ row_count geometry.now → ShowsDump geometry.now (row_count geometry.now) image seeing → IsSurveyed geometry.now image result }
 {
     let (mut survey, mut keys, mut doubting) = (seeing.survey, seeing.keys, seeing.doubting);
     note_keys(&doubting.traces, &mut keys);
@@ -171,7 +171,7 @@ pub fn survey_dump<R: DumpReader>(
     rows: Option<Rows>,
 ) -> Result<DieSurvey, SurveyFault>
     requires { IsSurveyRoom geometry.now room }
-    ensures whole { IfOk result (IsWhole geometry.now) }
+    ensures whole { IfOk result (IsSurveyWhole geometry.now) }
     ensures ok { IfOk result (λ survey. IfSome (R.remaining reader.old) (IsSurveyOf geometry.now rows survey)) }
     ensures err { IfErr result (λ fault. IfSome (R.remaining reader.old) (IsUnsurveyed geometry.now fault)) }
     ensures source { result ≡ Err SurveyFault.Source → R.failed reader.new ≡ true }

@@ -20,7 +20,7 @@ pub trait Pieces {
 /// A file with a piece for each sector, that is written out of order. It is handed zeros, or a sound page.
 pub trait Target: Pieces {
     ghost use Rattle.std.specs.Prelude.{◌≡◌, OnOk, OnErr, true, option_map, set, replicate, length};
-    ghost use Rattle.lab_dump.specs.Writing.{HoldsSector};
+    ghost use Rattle.lab_dump.specs.Writing.{IsPageOfSector};
 
     /// Writes a page's data area as the piece of this number, counted from 0, in place of what stood there. It is as long as each piece.
     /// The page, with this spare area, is sound and holds the sector of that number.
@@ -29,7 +29,7 @@ pub trait Target: Pieces {
     ///
     /// Where it could not be written. Nothing is promised of the file then.
     fn put(&mut self, number: u32, body: &[u8], spare: &[u8]) -> Result<(), TargetFault>
-        requires { HoldsSector number body.now spare.now }
+        requires { IsPageOfSector number body.now spare.now }
         ensures written { OnOk result (Self.pieces self.new ≡ option_map (λ ps. set ps number body.now) (Self.pieces self.old)) }
         ensures failed { OnErr result (Self.failed self.new ≡ true) };
 

@@ -2,16 +2,16 @@
 ghost use Rattle.std.specs.Prelude.{◌≡◌, ◌+◌, ◌*◌, ◌/◌, ◌<◌, ◌≤◌, ◌^◌, List, ℕ, length, take, IfOk, Some, OnErr, true, false};
 ghost use Rattle.page_layout.specs.Geometry.{page_bytes, row_count};
 ghost use Rattle.page_layout.specs.Page.{page};
-ghost use Rattle.lab_dump.specs.Look.{look_of};
-ghost use Rattle.lab_dump.specs.Pages.{page_in};
-ghost use Rattle.lab_dump.specs.Told.{words_used, blocks_by, sectors_by, may_raise, most_by, most_in, raised, pages_told_of};
+ghost use Rattle.page_layout.specs.PageLook.{look_of};
+ghost use Rattle.lab_dump.specs.PageBytes.{page_from_bytes};
+ghost use Rattle.lab_dump.specs.Told.{words_used, blocks_by, sectors_by, may_raise, most_by, most_in, told_with_page, pages_told_of};
 
 use crate::dump::Dump;
-use crate::look::{Look, look_at};
 use crate::row_page::read_row;
 use byteorder::{ByteOrder, LittleEndian};
 use image_check::DumpFault;
 use page_layout::geometry::Geometry;
+use page_layout::look::{PageLook, look_at};
 use page_layout::record::{Kind, Record};
 use page_layout::word::read_word;
 
@@ -44,11 +44,11 @@ fn words_used(body: &[u8]) -> u32
 }
 
 // How many blocks a page tells of.
-fn blocks_by(look: Look, body: &[u8]) -> u64
+fn blocks_by(look: PageLook, body: &[u8]) -> u64
     requires { length body.now ≤ 4096 }
     ensures { result ≡ blocks_by look body.now }
 {
-    let Look::Sound(
+    let PageLook::Sound(
         Record {
             kind: Kind::Table,
             number,
@@ -62,11 +62,11 @@ fn blocks_by(look: Look, body: &[u8]) -> u64
 }
 
 // How many sectors a page tells of, which has so many entries if it is a translation page.
-fn sectors_by(look: Look, entries: u32) -> u64
+fn sectors_by(look: PageLook, entries: u32) -> u64
     requires { entries ≤ 1024 }
     ensures { result ≡ sectors_by look entries }
 {
-    let Look::Sound(found) = look else {
+    let PageLook::Sound(found) = look else {
         return 0;
     };
     match found.kind {
@@ -100,9 +100,9 @@ fn may_raise(told: PagesTold, most: PagesTold) -> bool
 
 impl PagesTold {
     // What is told with one page more.
-    fn raised(self, look: Look, body: &[u8]) -> PagesTold
+    fn raised(self, look: PageLook, body: &[u8]) -> PagesTold
         requires { length body.now ≤ 4096 }
-        ensures { result ≡ raised self look body.now }
+        ensures { result ≡ told_with_page self look body.now }
     {
         let entries = body.len() as u32 / 4;
         PagesTold {
@@ -115,7 +115,7 @@ impl PagesTold {
     pub fn may_rise(self, geometry: &Geometry, spare: &[u8]) -> bool
         requires { length spare.now ≡ geometry.now.spare_bytes }
         ensures is { result ≡ may_raise self (most_in geometry.now.data_bytes spare.now) }
-        ensures same { result ≡ false → (body : List ℕ) → length body ≡ geometry.now.data_bytes → self ≡ raised self (look_of (page body spare.now)) body }
+        ensures same { result ≡ false → (body : List ℕ) → length body ≡ geometry.now.data_bytes → self ≡ told_with_page self (look_of (page body spare.now)) body }
     {
         let number = LittleEndian::read_u32(&spare[4..8]);
         let most = most_by(spare[3], number, geometry.entries());
@@ -125,7 +125,7 @@ impl PagesTold {
     /// What is told with one page more, by its bytes. A page is not hashed that could not tell more if it were sound.
     pub fn noted(self, geometry: &Geometry, page: &[u8]) -> PagesTold
         requires { length page.now ≡ page_bytes geometry.now }
-        ensures { result ≡ raised self (look_of (page_in geometry.now.data_bytes page.now)) (take geometry.now.data_bytes page.now) }
+        ensures { result ≡ told_with_page self (look_of (page_from_bytes geometry.now.data_bytes page.now)) (take geometry.now.data_bytes page.now) }
     {
         let (body, spare) = page.split_at(geometry.data_bytes());
         if !self.may_rise(geometry, spare) {

@@ -3,7 +3,7 @@ ghost use Rattle.std.specs.Prelude.{◌≡◌, Some};
 ghost use Rattle.page_layout.specs.Greatest.{step};
 ghost use Rattle.page_layout.specs.declared.newest.Latest.{Latest};
 ghost use Rattle.lab_dump.specs.Lost;
-ghost use Rattle.lab_dump.specs.Trace.{Tells, is_before, lost_in, place_in, is_tied_in, state_in};
+ghost use Rattle.lab_dump.specs.Trace.{TellsTrace, is_before, is_lost_in_trace, place_in_trace, is_tied_in, key_state_in};
 
 use crate::held::KeyState;
 
@@ -32,7 +32,7 @@ fn is_there(said: Option<u32>, row: u32) -> bool
 impl Trace {
     // What is held with one sound page of the key more, of this row, which is later than all so far.
     pub(crate) fn step(self, row: u32, sequence: u64) -> Trace
-        ensures { (latest : Latest) → Tells self latest → Tells result (step latest row (Some sequence)) }
+        ensures { (latest : Latest) → TellsTrace self latest → TellsTrace result (step latest row (Some sequence)) }
     {
         let kept = match self {
             Trace::Never => return Trace::Once(row, sequence.to_le_bytes()),
@@ -50,7 +50,7 @@ impl Trace {
 
     // The row of the newest page, or `None` where there is none: no page is of the key, or two share its greatest sequence.
     pub(crate) fn row(self) -> Option<u32>
-        ensures { result ≡ place_in self }
+        ensures { result ≡ place_in_trace self }
     {
         match self {
             Trace::Once(row, _) => Some(row),
@@ -60,7 +60,7 @@ impl Trace {
 
     // How the key stands.
     pub(crate) fn state(self) -> KeyState
-        ensures { result ≡ state_in self }
+        ensures { result ≡ key_state_in self }
     {
         match self {
             Trace::Never => KeyState::Absent,
@@ -88,7 +88,7 @@ impl Trace {
 
     // Whether the sector has lost a page, by the row that is said of it and the sequence that was next.
     pub(crate) fn is_lost(self, said: Option<u32>, next: u64) -> bool
-        ensures { result ≡ lost_in said next self }
+        ensures { result ≡ is_lost_in_trace said next self }
     {
         match self {
             Trace::Never => said.is_some(),

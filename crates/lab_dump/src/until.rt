@@ -1,13 +1,13 @@
 //! The pages that count as of a sequence.
 ghost use Rattle.std.specs.Prelude.{◌≡◌};
-ghost use Rattle.lab_dump.specs.Until.{AllCountLaw, CountsLaw, ThenLaw, record_until};
+ghost use Rattle.lab_dump.specs.Until.{AllCountLaw, CountsUntilLaw, ThenLaw, record_until};
 
 use page_layout::record::Record;
 
 /// As of a sequence those sound pages count that have this sequence or an earlier one, and no others. As of the greatest sequence, or any above, the
 /// dump is as it is. Of a die of which nothing was erased since, the array as of a sequence is the array then.
 pub fn until_laws()
-    ensures counts { CountsLaw }
+    ensures counts { CountsUntilLaw }
     ensures all { AllCountLaw }
     ensures then { ThenLaw }
 {}

@@ -7,7 +7,7 @@ ghost use Rattle.page_layout.specs.Array.{content_of_kind, zeros};
 ghost use Rattle.page_layout.specs.Sound.{record_of};
 ghost use Rattle.lab_dump.specs.Held.{pieces_after};
 ghost use Rattle.page_layout.specs.declared.record.Kind.TheVariants as kinds;
-ghost use Rattle.lab_dump.specs.Writing.{HoldsSector, WritingStands, Shows, sector_in};
+ghost use Rattle.lab_dump.specs.Writing.{IsPageOfSector, WritingStands, ShowsSectorPieces, sector_in};
 
 use crate::doubting::Doubting;
 use crate::held::{Change, Held};
@@ -40,7 +40,7 @@ fn put_change<T: Target>(
     blank: &[u8],
 ) -> Result<(), TargetFault>
     requires blank { blank.now ≡ zeros geometry.now }
-    requires sound { kind ≡ kinds.Sector → HoldsSector sector areas.0.now areas.1.now }
+    requires sound { kind ≡ kinds.Sector → IsPageOfSector sector areas.0.now areas.1.now }
     ensures written { OnOk result (T.pieces target.new ≡ pieces_after change sector (content_of_kind geometry.now kind areas.entry.0.now) (zeros geometry.now) (T.pieces target.old)) }
     ensures failed { OnErr result (T.failed target.new ≡ true) }
 {
@@ -75,9 +75,9 @@ impl<T: Target> Writing<T> {
         requires looked { record_of (page body.now spare.now) ≡ Some found.now }
         requires stands { WritingStands geometry.now self.old.held.items self.old.zeros.items (T.pieces self.old.target) }
         ensures stands { OnOk result (WritingStands geometry.now self.new.held.items self.new.zeros.items (T.pieces self.new.target)) }
-        ensures shows { OnOk result ((image : Image) (said : List (Option Record)) (reads : ℕ → List ℕ) (p : Page) → Shows geometry.now row image said reads self.old.held.items (T.pieces self.old.target)
+        ensures shows { OnOk result ((image : Image) (said : List (Option Record)) (reads : ℕ → List ℕ) (p : Page) → ShowsSectorPieces geometry.now row image said reads self.old.held.items (T.pieces self.old.target)
             → slice_get image row ≡ Some p → body.now ≡ p.body → record_of p ≡ Some found.now → get_or said row None ≡ None
-            → Shows geometry.now (row + 1) image said reads self.new.held.items (T.pieces self.new.target)) }
+            → ShowsSectorPieces geometry.now (row + 1) image said reads self.new.held.items (T.pieces self.new.target)) }
         ensures until { self.new.until ≡ self.old.until }
         ensures doubting { self.new.doubting ≡ self.old.doubting }
         ensures failed { OnErr result (T.failed self.new.target ≡ true) }

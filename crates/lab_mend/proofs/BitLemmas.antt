@@ -7,7 +7,7 @@ use Rattle.std.proofs.lemmas.List.{length-set, length-take-le, length-drop, get_
 use Rattle.std.proofs.lemmas.Nat.Bits.{bit_at_xor, bit_at-lt, bit_at-pow_same, bit_at-pow_other, same_from_bits}
 use Rattle.page_layout.specs.Page.{Page}
 use Rattle.page_layout.specs.Raw.{bytes_of_page}
-use Rattle.lab_dump.specs.PageBytes.{bits_of, bit_in, page_of, bit_count, page_bit}
+use Rattle.lab_dump.specs.PageBytes.{bits_of, bit_in, page_from_bytes, bit_count, page_bit}
 use Rattle.lab_dump.proofs.PageLemmas.{page_again, bytes_again}
 use Rattle.lab_mend.specs.Bits.{turned_bytes, with_bit_turned, TurnedLaw}
 
@@ -82,11 +82,11 @@ others_of bytes k l j = (
 -- ---- pages
 
 -- the same page, where the first so many bytes are its data area
-pub turned_page : (size : ℕ) (bytes : List ℕ) (k : ℕ) → size ≤ length bytes → with_bit_turned (page_of size bytes) k ≡ page_of size (turned_bytes bytes k)
+pub turned_page : (size : ℕ) (bytes : List ℕ) (k : ℕ) → size ≤ length bytes → with_bit_turned (page_from_bytes size bytes) k ≡ page_from_bytes size (turned_bytes bytes k)
 turned_page size bytes k l =
-    ap (λ n. page_of n (turned_bytes (bytes_of_page (page_of size bytes)) k)) (length-take-le size bytes l) ∙ ap (λ b. page_of size (turned_bytes b k)) (bytes_again size bytes)
+    ap (λ n. page_from_bytes n (turned_bytes (bytes_of_page (page_from_bytes size bytes)) k)) (length-take-le size bytes l) ∙ ap (λ b. page_from_bytes size (turned_bytes b k)) (bytes_again size bytes)
 
-pub count_page : (size : ℕ) (bytes : List ℕ) → bit_count (page_of size bytes) ≡ bits_of bytes
+pub count_page : (size : ℕ) (bytes : List ℕ) → bit_count (page_from_bytes size bytes) ≡ bits_of bytes
 count_page size bytes = ap bits_of (bytes_again size bytes)
 
 pub bytes_turned : (p : Page) (k : ℕ) → bytes_of_page (with_bit_turned p k) ≡ turned_bytes (bytes_of_page p) k
@@ -101,9 +101,9 @@ spare_turned p k = omega (arith, length-drop (length p.body) (turned_bytes (byte
 -- turned twice it is as it was
 pub turned_twice : (p : Page) (k : ℕ) → k < bit_count p → with_bit_turned (with_bit_turned p k) k ≡ p
 turned_twice p k l =
-    ap (λ n. page_of n (turned_bytes (bytes_of_page (with_bit_turned p k)) k)) (body_turned p k)
-    ∙ (ap (λ b. page_of (length p.body) (turned_bytes b k)) (bytes_turned p k)
-    ∙ (ap (page_of (length p.body)) (turned_back (bytes_of_page p) k l) ∙ page_again p))
+    ap (λ n. page_from_bytes n (turned_bytes (bytes_of_page (with_bit_turned p k)) k)) (body_turned p k)
+    ∙ (ap (λ b. page_from_bytes (length p.body) (turned_bytes b k)) (bytes_turned p k)
+    ∙ (ap (page_from_bytes (length p.body)) (turned_back (bytes_of_page p) k l) ∙ page_again p))
 
 pub count_turned : (p : Page) (k : ℕ) → bit_count (with_bit_turned p k) ≡ bit_count p
 count_turned p k = ap bits_of (bytes_turned p k) ∙ ap (λ n. 8 * n) (length-turned (bytes_of_page p) k)

@@ -17,7 +17,7 @@ use Rattle.page_layout.specs.Geometry.{page_bytes}
 use Rattle.page_layout.specs.Sound.{record_of, is_filled, is_erased_page}
 use Rattle.page_layout.specs.Block.{is_programmed}
 use Rattle.page_layout.proofs.RecordLemmas.{erased_no_record}
-use Rattle.lab_dump.specs.PageBytes.{page_of, is_sound}
+use Rattle.lab_dump.specs.PageBytes.{page_from_bytes, is_sound}
 use Rattle.lab_dump.proofs.PageLemmas.{page_again}
 use Rattle.lab_mend.specs.declared.choice.Origin.{Origin}
 use Rattle.lab_mend.specs.declared.choice.Origin.TheVariants.{Sound, Conflict, Majority, Tried, Erased, Unsound}
@@ -25,9 +25,9 @@ use Rattle.lab_mend.specs.declared.trial.Trial.{Trial}
 use Rattle.lab_mend.specs.declared.trial.Trial.TheVariants.{Taken, Tied, Nothing}
 use Rattle.lab_mend.specs.Majority.{majority, majority_byte, column}
 use Rattle.lab_mend.proofs.MajorityLemmas.{majority_set}
-use Rattle.lab_mend.specs.Trial.{bits_apart, with_turned, is_tried}
+use Rattle.lab_mend.specs.Trial.{differing_bits, with_turned, is_tried}
 use Rattle.lab_mend.proofs.TrialLemmas.{IsTurned, HasApart, turned_in, bits_once, bit_apart, other_bits}
-use Rattle.lab_mend.specs.Choice.{Choice, is_same, zero_page, chosen, by_found, by_turns, by_trial, by_programmed, by_majority, by_sound, choice, NoneSound, AllErased, IsFirstProgrammed, IsTrial, IsFound, OriginMeans, AreSized, ChoiceLaw, ErasedLaw, AreAmong, OrderLaw, ZeroLaw}
+use Rattle.lab_mend.specs.Choice.{Choice, is_same, zero_page, chosen, by_found, by_turns, by_trial, by_programmed, by_majority, by_sound, choice, NoneSound, AllErased, IsFirstProgrammed, IsTrial, IsSoundBetween, OriginMeans, AreDieSized, ChoiceLaw, ErasedReadingsLaw, AreAmong, ReadingOrderLaw, ZeroLaw}
 
 -- ---- pages of a list
 
@@ -98,7 +98,7 @@ same_to_itself p = (bytes_eq-Decides (bytes_of_page p) (bytes_of_page p)).1 refl
 
 pub same_page : (p q : Page) → length p.body ≡ length q.body → is_same p q ≡ true → p ≡ q
 same_page p q size e =
-    sym (page_again p) ∙ (ap (λ n. page_of n (bytes_of_page p)) size ∙ (ap (page_of (length q.body)) ((bytes_eq-Decides (bytes_of_page p) (bytes_of_page q)).0 e) ∙ page_again q))
+    sym (page_again p) ∙ (ap (λ n. page_from_bytes n (bytes_of_page p)) size ∙ (ap (page_from_bytes (length q.body)) ((bytes_eq-Decides (bytes_of_page p) (bytes_of_page q)).0 e) ∙ page_again q))
 
 pub all_same : (p q : Page) (more : List Page) → list_all (is_same p) more ≡ true → Contains more q → is_same p q ≡ true
 all_same p q [] e h = absurd (let l = h.1 in omega arith)
@@ -128,7 +128,7 @@ none_of (Some r) e = absurd (true≢false e)
 pub none_sound : (ps : List Page) → All (λ p. is_sound p ≡ false) ps → NoneSound ps
 none_sound ps h k d l = none_of (record_of (get_or ps k d)) (h k d l)
 
-same_size : (g : Geometry) (ps : List Page) (p q : Page) → AreSized g ps → Contains ps p → Contains ps q → length p.body ≡ length q.body
+same_size : (g : Geometry) (ps : List Page) (p q : Page) → AreDieSized g ps → Contains ps p → Contains ps q → length p.body ≡ length q.body
 same_size g ps p q sized a b =
     let left = All-contains (λ (x : Page). (length x.body ≡ g.data_bytes) × (length x.spare ≡ g.spare_bytes)) ps p sized a in
     let right = All-contains (λ (x : Page). (length x.body ≡ g.data_bytes) × (length x.spare ≡ g.spare_bytes)) ps q sized b in
@@ -172,9 +172,9 @@ first_programmed (x ∷ xs) p more e = elim (cases_Bool (is_programmed x)) [
 ]
 
 -- a page with so many of the bits turned in which they differ, if it is sound
-pub turned_found : (pages : List Page) (p q : Page) (more : List Page) (n : ℕ) → filter is_programmed pages ≡ p ∷ more → IsKept is_sound (with_turned p (bits_apart p (p ∷ more)) n) q → IsFound pages p q n
+pub turned_found : (pages : List Page) (p q : Page) (more : List Page) (n : ℕ) → filter is_programmed pages ≡ p ∷ more → IsKept is_sound (with_turned p (differing_bits p (p ∷ more)) n) q → IsSoundBetween pages p q n
 turned_found pages p q more n e kept =
-    let bits : List ℕ = bits_apart p (p ∷ more) in
+    let bits : List ℕ = differing_bits p (p ∷ more) in
     let h : IsTurned p bits n q = turned_in bits p q n (bits_once p (p ∷ more)) kept.in_list in
     record {
       sound = kept.passes;
@@ -190,39 +190,39 @@ turned_found pages p q more n e kept =
     }
 
 -- one of the sound pages with so many bits turned, or what comes next
-found_means : (g : Geometry) (pages : List Page) (p : Page) (more : List Page) (n : ℕ) → filter is_programmed pages ≡ p ∷ more → IsTrial pages p (length (bits_apart p (p ∷ more)))
-    → (sound : List Page) → filter is_sound (with_turned p (bits_apart p (p ∷ more)) n) ≡ sound → (next : Choice) → OriginMeans g pages next.its next.origin
-    → OriginMeans g pages (by_found p n (length (bits_apart p (p ∷ more))) sound next).its (by_found p n (length (bits_apart p (p ∷ more))) sound next).origin
+found_means : (g : Geometry) (pages : List Page) (p : Page) (more : List Page) (n : ℕ) → filter is_programmed pages ≡ p ∷ more → IsTrial pages p (length (differing_bits p (p ∷ more)))
+    → (sound : List Page) → filter is_sound (with_turned p (differing_bits p (p ∷ more)) n) ≡ sound → (next : Choice) → OriginMeans g pages next.its next.origin
+    → OriginMeans g pages (by_found p n (length (differing_bits p (p ∷ more))) sound next).its (by_found p n (length (differing_bits p (p ∷ more))) sound next).origin
 found_means g pages p more n e trial [] is next means = means
 found_means g pages p more n e trial (q ∷ others) is next means = by (list_all (is_same q) others) refl
   where
     d : ℕ
-    d = length (bits_apart p (p ∷ more))
+    d = length (differing_bits p (p ∷ more))
 
-    first : IsFound pages p q n
-    first = turned_found pages p q more n e (first_kept is_sound (with_turned p (bits_apart p (p ∷ more)) n) q others is)
+    first : IsSoundBetween pages p q n
+    first = turned_found pages p q more n e (first_kept is_sound (with_turned p (differing_bits p (p ∷ more)) n) q others is)
 
     by : (b : Bool) → list_all (is_same q) others ≡ b → OriginMeans g pages (cond b (chosen q (Tried (Taken n d))) (chosen p (Tried (Tied n d)))).its (cond b (chosen q (Tried (Taken n d))) (chosen p (Tried (Tied n d)))).origin
     by true all = (p, trial, first)
     by false apart =
         let o = other_of q others apart in
-        let second = turned_found pages p o.its more n e (later_kept is_sound (with_turned p (bits_apart p (p ∷ more)) n) q o.its others is o.in_list) in
+        let second = turned_found pages p o.its more n e (later_kept is_sound (with_turned p (differing_bits p (p ∷ more)) n) q o.its others is o.in_list) in
         (trial, q, o.its, first, second, λ same. true≢false (sym (same_to_itself q) ∙ (ap (is_same q) same ∙ o.apart)))
 
-turns_means : (g : Geometry) (pages : List Page) (p : Page) (more : List Page) → filter is_programmed pages ≡ p ∷ more → IsTrial pages p (length (bits_apart p (p ∷ more))) → (numbers : List ℕ)
-    → OriginMeans g pages (by_turns p (bits_apart p (p ∷ more)) numbers).its (by_turns p (bits_apart p (p ∷ more)) numbers).origin
+turns_means : (g : Geometry) (pages : List Page) (p : Page) (more : List Page) → filter is_programmed pages ≡ p ∷ more → IsTrial pages p (length (differing_bits p (p ∷ more))) → (numbers : List ℕ)
+    → OriginMeans g pages (by_turns p (differing_bits p (p ∷ more)) numbers).its (by_turns p (differing_bits p (p ∷ more)) numbers).origin
 unfolding by_turns
 turns_means g pages p more e trial [] = trial
 turns_means g pages p more e trial (n ∷ ns) =
-    found_means g pages p more n e trial (filter is_sound (with_turned p (bits_apart p (p ∷ more)) n)) refl (by_turns p (bits_apart p (p ∷ more)) ns) (turns_means g pages p more e trial ns)
+    found_means g pages p more n e trial (filter is_sound (with_turned p (differing_bits p (p ∷ more)) n)) refl (by_turns p (differing_bits p (p ∷ more)) ns) (turns_means g pages p more e trial ns)
 
 trial_means : (g : Geometry) (pages : List Page) → NoneSound pages → (p : Page) (more : List Page) → filter is_programmed pages ≡ p ∷ more
-    → OriginMeans g pages (by_trial p (bits_apart p (p ∷ more))).its (by_trial p (bits_apart p (p ∷ more))).origin
+    → OriginMeans g pages (by_trial p (differing_bits p (p ∷ more))).its (by_trial p (differing_bits p (p ∷ more))).origin
 unfolding by_trial
 trial_means g pages none p more e = by (is_tried (length bits)) refl
   where
     bits : List ℕ
-    bits = bits_apart p (p ∷ more)
+    bits = differing_bits p (p ∷ more)
 
     by : (b : Bool) → is_tried (length bits) ≡ b → OriginMeans g pages (cond b (by_turns p bits (range_with_len 1 (length bits))) (chosen p Unsound)).its (cond b (by_turns p bits (range_with_len 1 (length bits))) (chosen p Unsound)).origin
     by true is =
@@ -230,7 +230,7 @@ trial_means g pages none p more e = by (is_tried (length bits)) refl
         turns_means g pages p more e (record {
           none = none;
           is_first = first_programmed pages p more e;
-          count = ap (λ xs. length (bits_apart p xs)) (sym e);
+          count = ap (λ xs. length (differing_bits p xs)) (sym e);
           some = leb-true 1 (length bits) both.0;
           few = leb-true (length bits) 16 both.1;
         }) (range_with_len 1 (length bits))
@@ -252,7 +252,7 @@ majority_means g ps none = by (nat_le 3 (length ps) && is_sound (majority g ps))
         (none, leb-true 3 (length ps) both.0, refl, both.1)
     by false is = programmed_means g ps none (filter is_programmed ps) refl
 
-sound_means : (g : Geometry) (ps : List Page) → AreSized g ps → (sound : List Page) → filter is_sound ps ≡ sound → OriginMeans g ps (by_sound g ps sound).its (by_sound g ps sound).origin
+sound_means : (g : Geometry) (ps : List Page) → AreDieSized g ps → (sound : List Page) → filter is_sound ps ≡ sound → OriginMeans g ps (by_sound g ps sound).its (by_sound g ps sound).origin
 sound_means g ps sized [] e = majority_means g ps (none_sound ps (none_kept is_sound ps e))
 sound_means g ps sized (p ∷ more) e = by (list_all (is_same p) more) refl
   where
@@ -315,11 +315,11 @@ ordered g ps qs p x y Conflict Conflict to from at sound h k = ap (λ z. chosen 
 ordered g ps qs p x y Sound Conflict to from at sound h k = absurd (k.7 (h.2 k.1 (from k.1 k.3) k.5 ∙ sym (h.2 k.2 (from k.2 k.4) k.6)))
 ordered g ps qs p x y Conflict Sound to from at sound h k = absurd (h.7 (k.2 h.1 (to h.1 h.3) h.5 ∙ sym (k.2 h.2 (to h.2 h.4) h.6)))
 
-sized_among : (g : Geometry) (ps qs : List Page) → AreSized g ps → AreAmong qs ps → AreSized g qs
+sized_among : (g : Geometry) (ps qs : List Page) → AreDieSized g ps → AreAmong qs ps → AreDieSized g qs
 sized_among g ps qs sized from k d l =
     All-contains (λ (x : Page). (length x.body ≡ g.data_bytes) × (length x.spare ≡ g.spare_bytes)) ps (get_or qs k d) sized (from (get_or qs k d) (k, l, get_or_default qs k (get_or qs k d) d l))
 
-pub order_law : OrderLaw
+pub order_law : ReadingOrderLaw
 order_law g ps qs p sized to from at sound =
     ordered g ps qs p (choice g ps).its (choice g qs).its (choice g ps).origin (choice g qs).origin to from at sound (choice_law g ps sized) (choice_law g qs (sized_among g ps qs sized from))
 
@@ -355,7 +355,7 @@ erased_majority g p ps each =
     let bytes : bytes_of_page p ≡ map (λ j. majority_byte (column (p ∷ ps) j)) (range_with_len 0 (page_bytes g)) =
     fill_by_all (λ j. majority_byte (column (p ∷ ps) j)) (bytes_of_page p) (page_bytes g) 0 (blank_size g p first)
     (λ j l. blank_byte g p j first l ∙ sym (ap majority_byte (column_set g (p ∷ ps) j l each) ∙ majority_set (length (p ∷ ps)) (omega arith))) in
-    ap (page_of g.data_bytes) (sym bytes) ∙ (ap (λ n. page_of n (bytes_of_page p)) (sym first.body_size) ∙ page_again p)
+    ap (page_from_bytes g.data_bytes) (sym bytes) ∙ (ap (λ n. page_from_bytes n (bytes_of_page p)) (sym first.body_size) ∙ page_again p)
   where
     column_set : (g : Geometry) (ps : List Page) (j : ℕ) → j < page_bytes g → ((q : Page) → Contains ps q → IsBlank g q) → column ps j ≡ replicate (length ps) 255
     column_set g [] j l each = refl
@@ -385,12 +385,12 @@ erased_origin g p ps each =
     and_left true b e = e
     and_left false b e = refl
 
-blank_in : (g : Geometry) (ps : List Page) → AreSized g ps → AllErased ps → (q : Page) → Contains ps q → IsBlank g q
+blank_in : (g : Geometry) (ps : List Page) → AreDieSized g ps → AllErased ps → (q : Page) → Contains ps q → IsBlank g q
 blank_in g ps sized all q at =
     let sizes = All-contains (λ (x : Page). (length x.body ≡ g.data_bytes) × (length x.spare ≡ g.spare_bytes)) ps q sized at in
     record { body_size = sizes.0; spare_size = sizes.1; erased = All-contains (λ (x : Page). is_erased_page x ≡ true) ps q all at }
 
-pub erased_law : ErasedLaw
+pub erased_law : ErasedReadingsLaw
 erased_law g [] sized some = absurd (omega arith)
 erased_law g (p ∷ ps) sized some = (
   λ e. let means : OriginMeans g (p ∷ ps) (choice g (p ∷ ps)).its Erased = subst (OriginMeans g (p ∷ ps) (choice g (p ∷ ps)).its) e (choice_law g (p ∷ ps) sized) in means.0,

@@ -13,10 +13,10 @@ use Rattle.page_layout.specs.Geometry.{page_bytes}
 use Rattle.page_layout.specs.Page.{Page}
 use Rattle.page_layout.specs.Raw.{bytes_of_page}
 use Rattle.page_layout.specs.Block.{is_programmed}
-use Rattle.lab_dump.specs.PageBytes.{page_of, is_sound}
+use Rattle.lab_dump.specs.PageBytes.{page_from_bytes, is_sound}
 use Rattle.lab_dump.proofs.PageLemmas.{bytes_again}
 use Rattle.lab_mend.specs.declared.choice.Origin.TheVariants.{Sound, Conflict, Majority, Erased}
-use Rattle.lab_mend.specs.Pages.{piece_at, page_in, pages_in}
+use Rattle.lab_mend.specs.Pages.{piece_at, page_of_reading, pages_in}
 use Rattle.lab_mend.specs.Majority.{majority}
 use Rattle.lab_mend.specs.Choice.{is_same, zero_page, chosen, by_programmed, by_majority, by_sound, choice}
 use Rattle.lab_mend.specs.Found.{sound_below, programmed_below, HasOne, HasTwo, WritesChoice}
@@ -25,31 +25,31 @@ use Rattle.lab_mend.specs.Found.{sound_below, programmed_below, HasOne, HasTwo, 
 
 pub length-pages_in : (g : Geometry) (bytes : List ℕ) (count : ℕ) → length (pages_in g bytes count) ≡ count
 unfolding pages_in
-length-pages_in g bytes count = length-map-range_with_len (page_in g bytes) 0 count
+length-pages_in g bytes count = length-map-range_with_len (page_of_reading g bytes) 0 count
 
-pub bytes_of_page_in : (g : Geometry) (bytes : List ℕ) (i : ℕ) → bytes_of_page (page_in g bytes i) ≡ piece_at bytes (page_bytes g) i
+pub bytes_of_page_in : (g : Geometry) (bytes : List ℕ) (i : ℕ) → bytes_of_page (page_of_reading g bytes i) ≡ piece_at bytes (page_bytes g) i
 bytes_of_page_in g bytes i = bytes_again g.data_bytes (piece_at bytes (page_bytes g) i)
 
-pub same_pieces : (g : Geometry) (bytes : List ℕ) (i j : ℕ) → is_same (page_in g bytes i) (page_in g bytes j) ≡ bytes_eq (piece_at bytes (page_bytes g) i) (piece_at bytes (page_bytes g) j)
-same_pieces g bytes i j = ap (λ xs. bytes_eq xs (bytes_of_page (page_in g bytes j))) (bytes_of_page_in g bytes i) ∙ ap (bytes_eq (piece_at bytes (page_bytes g) i)) (bytes_of_page_in g bytes j)
+pub same_pieces : (g : Geometry) (bytes : List ℕ) (i j : ℕ) → is_same (page_of_reading g bytes i) (page_of_reading g bytes j) ≡ bytes_eq (piece_at bytes (page_bytes g) i) (piece_at bytes (page_bytes g) j)
+same_pieces g bytes i j = ap (λ xs. bytes_eq xs (bytes_of_page (page_of_reading g bytes j))) (bytes_of_page_in g bytes i) ∙ ap (bytes_eq (piece_at bytes (page_bytes g) i)) (bytes_of_page_in g bytes j)
 
 -- the same bytes are the same page
-pub as_first : (g : Geometry) (bytes : List ℕ) (i : ℕ) → bytes_eq (piece_at bytes (page_bytes g) 0) (piece_at bytes (page_bytes g) i) ≡ true → is_sound (page_in g bytes 0) ≡ is_sound (page_in g bytes i)
-as_first g bytes i e = ap (λ xs. is_sound (page_of g.data_bytes xs)) ((bytes_eq-Decides (piece_at bytes (page_bytes g) 0) (piece_at bytes (page_bytes g) i)).0 e)
+pub as_first : (g : Geometry) (bytes : List ℕ) (i : ℕ) → bytes_eq (piece_at bytes (page_bytes g) 0) (piece_at bytes (page_bytes g) i) ≡ true → is_sound (page_of_reading g bytes 0) ≡ is_sound (page_of_reading g bytes i)
+as_first g bytes i e = ap (λ xs. is_sound (page_from_bytes g.data_bytes xs)) ((bytes_eq-Decides (piece_at bytes (page_bytes g) 0) (piece_at bytes (page_bytes g) i)).0 e)
 
 -- ---- those that pass a test
 
-kept_yes : (f : Page → Bool) (g : Geometry) (bytes : List ℕ) (i : ℕ) → f (page_in g bytes i) ≡ true → filter f (pages_in g bytes (i + 1)) ≡ filter f (pages_in g bytes i) ++ page_in g bytes i ∷ []
+kept_yes : (f : Page → Bool) (g : Geometry) (bytes : List ℕ) (i : ℕ) → f (page_of_reading g bytes i) ≡ true → filter f (pages_in g bytes (i + 1)) ≡ filter f (pages_in g bytes i) ++ page_of_reading g bytes i ∷ []
 unfolding pages_in
 kept_yes f g bytes i e =
-    filter_of_map_range_with_len_more f (page_in g bytes) 0 i i (omega arith)
-    ∙ ap (λ b. filter f (map (page_in g bytes) (range_with_len 0 i)) ++ cond b (page_in g bytes i ∷ []) []) e
+    filter_of_map_range_with_len_more f (page_of_reading g bytes) 0 i i (omega arith)
+    ∙ ap (λ b. filter f (map (page_of_reading g bytes) (range_with_len 0 i)) ++ cond b (page_of_reading g bytes i ∷ []) []) e
 
-kept_no : (f : Page → Bool) (g : Geometry) (bytes : List ℕ) (i : ℕ) → f (page_in g bytes i) ≡ false → filter f (pages_in g bytes (i + 1)) ≡ filter f (pages_in g bytes i)
+kept_no : (f : Page → Bool) (g : Geometry) (bytes : List ℕ) (i : ℕ) → f (page_of_reading g bytes i) ≡ false → filter f (pages_in g bytes (i + 1)) ≡ filter f (pages_in g bytes i)
 unfolding pages_in
 kept_no f g bytes i e =
-    filter_of_map_range_with_len_more f (page_in g bytes) 0 i i (omega arith)
-    ∙ (ap (λ b. filter f (map (page_in g bytes) (range_with_len 0 i)) ++ cond b (page_in g bytes i ∷ []) []) e ∙ append-nil (filter f (map (page_in g bytes) (range_with_len 0 i))))
+    filter_of_map_range_with_len_more f (page_of_reading g bytes) 0 i i (omega arith)
+    ∙ (ap (λ b. filter f (map (page_of_reading g bytes) (range_with_len 0 i)) ++ cond b (page_of_reading g bytes i ∷ []) []) e ∙ append-nil (filter f (map (page_of_reading g bytes) (range_with_len 0 i))))
 
 kept_none : (f : Page → Bool) (g : Geometry) (bytes : List ℕ) → filter f (pages_in g bytes 0) ≡ []
 unfolding pages_in
@@ -58,32 +58,32 @@ kept_none f g bytes = refl
 pub sound_none : (g : Geometry) (bytes : List ℕ) → sound_below g bytes 0 ≡ []
 sound_none g bytes = kept_none is_sound g bytes
 
-pub sound_yes : (g : Geometry) (bytes : List ℕ) (i : ℕ) → is_sound (page_in g bytes i) ≡ true → sound_below g bytes (i + 1) ≡ sound_below g bytes i ++ page_in g bytes i ∷ []
+pub sound_yes : (g : Geometry) (bytes : List ℕ) (i : ℕ) → is_sound (page_of_reading g bytes i) ≡ true → sound_below g bytes (i + 1) ≡ sound_below g bytes i ++ page_of_reading g bytes i ∷ []
 sound_yes g bytes i e = kept_yes is_sound g bytes i e
 
-pub sound_no : (g : Geometry) (bytes : List ℕ) (i : ℕ) → is_sound (page_in g bytes i) ≡ false → sound_below g bytes (i + 1) ≡ sound_below g bytes i
+pub sound_no : (g : Geometry) (bytes : List ℕ) (i : ℕ) → is_sound (page_of_reading g bytes i) ≡ false → sound_below g bytes (i + 1) ≡ sound_below g bytes i
 sound_no g bytes i e = kept_no is_sound g bytes i e
 
 -- ---- one sound page more
 
-pub one_first : (g : Geometry) (bytes : List ℕ) (count i : ℕ) (sound : List Page) → i < count → sound ≡ [] → HasOne g bytes count (sound ++ page_in g bytes i ∷ []) i
-one_first g bytes count i sound within none = record { within = within; more = []; are = ap (λ xs. xs ++ page_in g bytes i ∷ []) none; same = refl }
+pub one_first : (g : Geometry) (bytes : List ℕ) (count i : ℕ) (sound : List Page) → i < count → sound ≡ [] → HasOne g bytes count (sound ++ page_of_reading g bytes i ∷ []) i
+one_first g bytes count i sound within none = record { within = within; more = []; are = ap (λ xs. xs ++ page_of_reading g bytes i ∷ []) none; same = refl }
 
 list_all_push : (f : Page → Bool) (ps : List Page) (p : Page) → list_all f ps ≡ true → f p ≡ true → list_all f (ps ++ p ∷ []) ≡ true
 list_all_push f ps p all here = list_all-append f ps (p ∷ []) ∙ and_from (list_all f ps) (list_all f (p ∷ [])) all (and_from (f p) true here refl)
 
-pub one_more : (g : Geometry) (bytes : List ℕ) (count kept i : ℕ) (sound : List Page) → HasOne g bytes count sound kept → is_same (page_in g bytes kept) (page_in g bytes i) ≡ true → HasOne g bytes count (sound ++ page_in g bytes i ∷ []) kept
+pub one_more : (g : Geometry) (bytes : List ℕ) (count kept i : ℕ) (sound : List Page) → HasOne g bytes count sound kept → is_same (page_of_reading g bytes kept) (page_of_reading g bytes i) ≡ true → HasOne g bytes count (sound ++ page_of_reading g bytes i ∷ []) kept
 one_more g bytes count kept i sound h e = record {
   within = h.within;
-  more = h.more ++ page_in g bytes i ∷ [];
-  are = ap (λ xs. xs ++ page_in g bytes i ∷ []) h.are;
-  same = list_all_push (is_same (page_in g bytes kept)) h.more (page_in g bytes i) h.same e;
+  more = h.more ++ page_of_reading g bytes i ∷ [];
+  are = ap (λ xs. xs ++ page_of_reading g bytes i ∷ []) h.are;
+  same = list_all_push (is_same (page_of_reading g bytes kept)) h.more (page_of_reading g bytes i) h.same e;
 }
 
-pub two_of_one : (g : Geometry) (bytes : List ℕ) (count kept i : ℕ) (sound : List Page) → HasOne g bytes count sound kept → is_same (page_in g bytes kept) (page_in g bytes i) ≡ false → HasTwo (sound ++ page_in g bytes i ∷ [])
+pub two_of_one : (g : Geometry) (bytes : List ℕ) (count kept i : ℕ) (sound : List Page) → HasOne g bytes count sound kept → is_same (page_of_reading g bytes kept) (page_of_reading g bytes i) ≡ false → HasTwo (sound ++ page_of_reading g bytes i ∷ [])
 two_of_one g bytes count kept i sound h e =
-    let p : Page = page_in g bytes kept in
-    let q : Page = page_in g bytes i in
+    let p : Page = page_of_reading g bytes kept in
+    let q : Page = page_of_reading g bytes i in
     record {
       its = p;
       more = h.more ++ q ∷ [];
@@ -104,10 +104,10 @@ two_more sound q h = record {
 pub programmed_none : (g : Geometry) (bytes : List ℕ) → programmed_below g bytes 0 ≡ []
 programmed_none g bytes = kept_none is_programmed g bytes
 
-pub programmed_no : (g : Geometry) (bytes : List ℕ) (i : ℕ) → is_programmed (page_in g bytes i) ≡ false → programmed_below g bytes (i + 1) ≡ programmed_below g bytes i
+pub programmed_no : (g : Geometry) (bytes : List ℕ) (i : ℕ) → is_programmed (page_of_reading g bytes i) ≡ false → programmed_below g bytes (i + 1) ≡ programmed_below g bytes i
 programmed_no g bytes i e = kept_no is_programmed g bytes i e
 
-pub programmed_yes : (g : Geometry) (bytes : List ℕ) (i : ℕ) → is_programmed (page_in g bytes i) ≡ true → programmed_below g bytes (i + 1) ≡ programmed_below g bytes i ++ page_in g bytes i ∷ []
+pub programmed_yes : (g : Geometry) (bytes : List ℕ) (i : ℕ) → is_programmed (page_of_reading g bytes i) ≡ true → programmed_below g bytes (i + 1) ≡ programmed_below g bytes i ++ page_of_reading g bytes i ∷ []
 programmed_yes g bytes i e = kept_yes is_programmed g bytes i e
 
 -- ---- what is written
@@ -115,7 +115,7 @@ programmed_yes g bytes i e = kept_yes is_programmed g bytes i e
 pub sound_written : (g : Geometry) (bytes out : List ℕ) (count i : ℕ) → HasOne g bytes count (sound_below g bytes count) i → out ≡ piece_at bytes (page_bytes g) i → WritesChoice (choice g (pages_in g bytes count)) Sound out
 unfolding choice
 sound_written g bytes out count i h e =
-    let p : Page = page_in g bytes i in
+    let p : Page = page_of_reading g bytes i in
     let picked : by_sound g (pages_in g bytes count) (sound_below g bytes count) ≡ chosen p Sound =
     ap (by_sound g (pages_in g bytes count)) h.are ∙ ap (λ b. cond b (chosen p Sound) (chosen (zero_page g) Conflict)) h.same in
     subst (λ c. WritesChoice c Sound out) (sym picked) (record { origin_is = refl; bytes_are = e ∙ sym (bytes_of_page_in g bytes i) })
@@ -131,9 +131,9 @@ pub choice_unsound : (g : Geometry) (bytes : List ℕ) (count : ℕ) → sound_b
 unfolding choice
 choice_unsound g bytes count none = ap (by_sound g (pages_in g bytes count)) none
 
-first_page : (g : Geometry) (bytes : List ℕ) (count : ℕ) (d : Page) → 0 < count → get_or (pages_in g bytes count) 0 d ≡ page_in g bytes 0
+first_page : (g : Geometry) (bytes : List ℕ) (count : ℕ) (d : Page) → 0 < count → get_or (pages_in g bytes count) 0 d ≡ page_of_reading g bytes 0
 unfolding pages_in
-first_page g bytes count d some = get_or-map-range_with_len (page_in g bytes) 0 count 0 0 d some (omega arith)
+first_page g bytes count d some = get_or-map-range_with_len (page_of_reading g bytes) 0 count 0 0 d some (omega arith)
 
 pub erased_written : (g : Geometry) (bytes out : List ℕ) (count : ℕ) → 0 < count → programmed_below g bytes count ≡ [] → out ≡ piece_at bytes (page_bytes g) 0
     → WritesChoice (by_programmed g (pages_in g bytes count) (programmed_below g bytes count)) Erased out

@@ -11,9 +11,9 @@ use Rattle.image_check.specs.declared.page_reader.Cut.{Cut}
 use Rattle.image_check.specs.declared.page_reader.Cut.TheVariants.{Ended, Failed}
 use Rattle.lab_dump.specs.declared.pass.PassFault.{PassFault}
 use Rattle.lab_dump.specs.declared.pass.PassFault.TheVariants as fault
-use Rattle.lab_dump.specs.Scan.{IsCut, HasMore}
+use Rattle.lab_dump.specs.Scan.{HasMore, ReadsFewer, Tell}
 use Rattle.lab_mend.specs.Pages.{piece_at}
-use Rattle.lab_mend.specs.InStep.{IsAt, AreAt, Tell, AreBetween, AreRead, CutAt, LongAt}
+use Rattle.lab_mend.specs.InStep.{IsAt, AreAt, AreBetween, AreRead, CutAt, LongAt}
 
 -- ---- one reader
 
@@ -49,7 +49,7 @@ ended_early (Some xs) (Some zs) file at size ys h reads few e =
     let long = ap length all in
     omega (arith, length-drop at file, length-append ys zs)
 
-pub cut_at : (known after : Option (List ℕ)) (files : List (List ℕ)) (i at size : ℕ) (cut : Cut) → i < length files → IsAt known (get_or files i []) at → IsCut size known after cut → CutAt files (at + size) i cut
+pub cut_at : (known after : Option (List ℕ)) (files : List (List ℕ)) (i at size : ℕ) (cut : Cut) → i < length files → IsAt known (get_or files i []) at → ReadsFewer size known after cut → CutAt files (at + size) i cut
 cut_at known after files i at size Ended within h short = record { within = within; short = ended_early known after (get_or files i []) at size short.bytes h short.read short.few short.ends }
 cut_at known after files i at size Failed within h short = within
 

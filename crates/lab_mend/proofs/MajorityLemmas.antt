@@ -15,10 +15,10 @@ use Rattle.page_layout.specs.declared.geometry.Geometry.{Geometry}
 use Rattle.page_layout.specs.Geometry.{page_bytes}
 use Rattle.page_layout.specs.Page.{Page}
 use Rattle.page_layout.specs.Raw.{bytes_of_page}
-use Rattle.lab_dump.specs.PageBytes.{page_of, page_bit}
+use Rattle.lab_dump.specs.PageBytes.{page_from_bytes, page_bit}
 use Rattle.lab_dump.proofs.PageLemmas.{bytes_again}
 use Rattle.lab_mend.specs.Majority.{votes, majority_bit, byte_of, column, majority_byte, majority, MajorityLaw}
-use Rattle.lab_mend.specs.Pages.{piece_at, page_in, pages_in, bytes_at}
+use Rattle.lab_mend.specs.Pages.{piece_at, page_of_reading, pages_in, bytes_at}
 
 -- ---- a byte by its bits
 
@@ -165,12 +165,12 @@ pub column_is : (g : Geometry) (bytes : List ℕ) (count j : ℕ) → j < page_b
 unfolding pages_in bytes_at
 column_is g bytes count j l = over 0 count
   where
-    over : (from n : ℕ) → column (map (page_in g bytes) (range_with_len from n)) j ≡ map (λ i. get_or bytes (i * page_bytes g + j) 0) (range_with_len from n)
+    over : (from n : ℕ) → column (map (page_of_reading g bytes) (range_with_len from n)) j ≡ map (λ i. get_or bytes (i * page_bytes g + j) 0) (range_with_len from n)
     over from zero = refl
     over from (suc n) =
-        let head : get_or (bytes_of_page (page_in g bytes from)) j 0 ≡ get_or bytes (from * page_bytes g + j) 0 =
+        let head : get_or (bytes_of_page (page_of_reading g bytes from)) j 0 ≡ get_or bytes (from * page_bytes g + j) 0 =
         ap (λ bs. get_or bs j 0) (bytes_again g.data_bytes (piece_at bytes (page_bytes g) from)) ∙ byte_in_piece bytes (page_bytes g) from j l in
-        ap (λ x. x ∷ column (map (page_in g bytes) (range_with_len (from + 1) n)) j) head ∙ ap (λ xs. get_or bytes (from * page_bytes g + j) 0 ∷ xs) (over (from + 1) n)
+        ap (λ x. x ∷ column (map (page_of_reading g bytes) (range_with_len (from + 1) n)) j) head ∙ ap (λ xs. get_or bytes (from * page_bytes g + j) 0 ∷ xs) (over (from + 1) n)
 
 pub length-bytes_at : (bytes : List ℕ) (size count j : ℕ) → length (bytes_at bytes size count j) ≡ count
 unfolding bytes_at
@@ -232,6 +232,6 @@ byte_fits bytes n l =
     let few : 2 ^ n ≤ 128 = power_most n l in
     omega arith
 
-pub majority_again : (g : Geometry) (pages : List Page) → page_of g.data_bytes (bytes_of_page (majority g pages)) ≡ majority g pages
+pub majority_again : (g : Geometry) (pages : List Page) → page_from_bytes g.data_bytes (bytes_of_page (majority g pages)) ≡ majority g pages
 unfolding majority
-majority_again g pages = ap (page_of g.data_bytes) (bytes_again g.data_bytes (map (λ j. majority_byte (column pages j)) (range_with_len 0 (page_bytes g))))
+majority_again g pages = ap (page_from_bytes g.data_bytes) (bytes_again g.data_bytes (map (λ j. majority_byte (column pages j)) (range_with_len 0 (page_bytes g))))

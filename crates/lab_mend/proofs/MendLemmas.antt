@@ -12,7 +12,7 @@ use Rattle.page_layout.specs.declared.record.Record.{Record}
 use Rattle.page_layout.specs.Page.{Page}
 use Rattle.page_layout.specs.Sound.{record_of, is_erased_page}
 use Rattle.page_layout.specs.Block.{is_broken}
-use Rattle.lab_dump.specs.PageBytes.{is_sound, page_of, bits_of, bit_count}
+use Rattle.lab_dump.specs.PageBytes.{is_sound, page_from_bytes, bits_of, bit_count}
 use Rattle.lab_mend.specs.Bits.{turned_bytes, with_bit_turned}
 use Rattle.lab_mend.specs.declared.mending.Made.{Made}
 use Rattle.lab_mend.specs.declared.mending.Made.TheVariants.{Sound, Erased}
@@ -214,25 +214,25 @@ made_whole Erased q h = erased_whole q h
 -- ---- by the bytes of a page, of which the first so many are its data area
 
 -- what is asked of the page that was, with a bit turned
-pub asked_turned : (test : Page → Bool) (size : ℕ) (bytes now turned : List ℕ) (k : ℕ) (answer b : Bool) → now ≡ bytes → turned ≡ turned_bytes now k → answer ≡ test (page_of size turned) → answer ≡ b → test (page_of size (turned_bytes bytes k)) ≡ b
-asked_turned test size bytes now turned k answer b same once is e = ap (λ x. test (page_of size (turned_bytes x k))) (sym same) ∙ (ap (λ x. test (page_of size x)) (sym once) ∙ (sym is ∙ e))
+pub asked_turned : (test : Page → Bool) (size : ℕ) (bytes now turned : List ℕ) (k : ℕ) (answer b : Bool) → now ≡ bytes → turned ≡ turned_bytes now k → answer ≡ test (page_from_bytes size turned) → answer ≡ b → test (page_from_bytes size (turned_bytes bytes k)) ≡ b
+asked_turned test size bytes now turned k answer b same once is e = ap (λ x. test (page_from_bytes size (turned_bytes x k))) (sym same) ∙ (ap (λ x. test (page_from_bytes size x)) (sym once) ∙ (sym is ∙ e))
 
 -- no bit passes so far, this one either
-pub none_more : (test : Page → Bool) (size : ℕ) (bytes : List ℕ) (k : ℕ) → test (page_of size (turned_bytes bytes k)) ≡ false → ((j : ℕ) → j < k → test (page_of size (turned_bytes bytes j)) ≡ false) → (j : ℕ) → j < k + 1 → test (page_of size (turned_bytes bytes j)) ≡ false
-none_more test size bytes k here before j l = elim (cases_eq j k) [ inl e ↦ subst (λ n. test (page_of size (turned_bytes bytes n)) ≡ false) (sym e) here | inr ne ↦ before j (omega arith) ]
+pub none_more : (test : Page → Bool) (size : ℕ) (bytes : List ℕ) (k : ℕ) → test (page_from_bytes size (turned_bytes bytes k)) ≡ false → ((j : ℕ) → j < k → test (page_from_bytes size (turned_bytes bytes j)) ≡ false) → (j : ℕ) → j < k + 1 → test (page_from_bytes size (turned_bytes bytes j)) ≡ false
+none_more test size bytes k here before j l = elim (cases_eq j k) [ inl e ↦ subst (λ n. test (page_from_bytes size (turned_bytes bytes n)) ≡ false) (sym e) here | inr ne ↦ before j (omega arith) ]
 
-pub found_in : (size : ℕ) (bytes : List ℕ) (k : ℕ) → size ≤ length bytes → k < bits_of bytes → is_sound (page_of size (turned_bytes bytes k)) ≡ true
-    → ((j : ℕ) → j < k → is_sound (page_of size (turned_bytes bytes j)) ≡ false) → lowest_bit (page_of size bytes) ≡ Some k
+pub found_in : (size : ℕ) (bytes : List ℕ) (k : ℕ) → size ≤ length bytes → k < bits_of bytes → is_sound (page_from_bytes size (turned_bytes bytes k)) ≡ true
+    → ((j : ℕ) → j < k → is_sound (page_from_bytes size (turned_bytes bytes j)) ≡ false) → lowest_bit (page_from_bytes size bytes) ≡ Some k
 found_in size bytes k room within here before =
-    lowest_is (page_of size bytes) k (subst (λ n. k < n) (sym (count_page size bytes)) within) (ap is_sound (turned_page size bytes k room) ∙ here) (λ j l. ap is_sound (turned_page size bytes j room) ∙ before j l)
+    lowest_is (page_from_bytes size bytes) k (subst (λ n. k < n) (sym (count_page size bytes)) within) (ap is_sound (turned_page size bytes k room) ∙ here) (λ j l. ap is_sound (turned_page size bytes j room) ∙ before j l)
 
-pub none_in : (size : ℕ) (bytes : List ℕ) → size ≤ length bytes → ((j : ℕ) → j < bits_of bytes → is_sound (page_of size (turned_bytes bytes j)) ≡ false) → lowest_bit (page_of size bytes) ≡ None
-none_in size bytes room none = lowest_none (page_of size bytes) (λ j l. ap is_sound (turned_page size bytes j room) ∙ none j (subst (λ n. j < n) (count_page size bytes) l))
+pub none_in : (size : ℕ) (bytes : List ℕ) → size ≤ length bytes → ((j : ℕ) → j < bits_of bytes → is_sound (page_from_bytes size (turned_bytes bytes j)) ≡ false) → lowest_bit (page_from_bytes size bytes) ≡ None
+none_in size bytes room none = lowest_none (page_from_bytes size bytes) (λ j l. ap is_sound (turned_page size bytes j room) ∙ none j (subst (λ n. j < n) (count_page size bytes) l))
 
-pub erased_in : (size : ℕ) (bytes : List ℕ) (k : ℕ) → size ≤ length bytes → k < bits_of bytes → is_erased_page (page_of size (turned_bytes bytes k)) ≡ true
-    → ((j : ℕ) → j < k → is_erased_page (page_of size (turned_bytes bytes j)) ≡ false) → erased_bit (page_of size bytes) ≡ Some k
+pub erased_in : (size : ℕ) (bytes : List ℕ) (k : ℕ) → size ≤ length bytes → k < bits_of bytes → is_erased_page (page_from_bytes size (turned_bytes bytes k)) ≡ true
+    → ((j : ℕ) → j < k → is_erased_page (page_from_bytes size (turned_bytes bytes j)) ≡ false) → erased_bit (page_from_bytes size bytes) ≡ Some k
 erased_in size bytes k room within here before =
-    erased_is (page_of size bytes) k (subst (λ n. k < n) (sym (count_page size bytes)) within) (ap is_erased_page (turned_page size bytes k room) ∙ here) (λ j l. ap is_erased_page (turned_page size bytes j room) ∙ before j l)
+    erased_is (page_from_bytes size bytes) k (subst (λ n. k < n) (sym (count_page size bytes)) within) (ap is_erased_page (turned_page size bytes k room) ∙ here) (λ j l. ap is_erased_page (turned_page size bytes j room) ∙ before j l)
 
-pub unerased_in : (size : ℕ) (bytes : List ℕ) → size ≤ length bytes → ((j : ℕ) → j < bits_of bytes → is_erased_page (page_of size (turned_bytes bytes j)) ≡ false) → erased_bit (page_of size bytes) ≡ None
-unerased_in size bytes room none = erased_none (page_of size bytes) (λ j l. ap is_erased_page (turned_page size bytes j room) ∙ none j (subst (λ n. j < n) (count_page size bytes) l))
+pub unerased_in : (size : ℕ) (bytes : List ℕ) → size ≤ length bytes → ((j : ℕ) → j < bits_of bytes → is_erased_page (page_from_bytes size (turned_bytes bytes j)) ≡ false) → erased_bit (page_from_bytes size bytes) ≡ None
+unerased_in size bytes room none = erased_none (page_from_bytes size bytes) (λ j l. ap is_erased_page (turned_page size bytes j room) ∙ none j (subst (λ n. j < n) (count_page size bytes) l))

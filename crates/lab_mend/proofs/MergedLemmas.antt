@@ -9,7 +9,7 @@ use Rattle.page_layout.specs.Geometry.{row_count, page_bytes}
 use Rattle.page_layout.specs.Page.{Page, page}
 use Rattle.page_layout.specs.Raw.{page_from}
 use Rattle.lab_dump.specs.Scan.{image_bytes}
-use Rattle.lab_dump.specs.PageBytes.{page_of}
+use Rattle.lab_dump.specs.PageBytes.{page_from_bytes}
 use Rattle.image_check.specs.declared.page_reader.Cut.{Cut}
 use Rattle.image_check.specs.declared.page_reader.Cut.TheVariants as cut
 use Rattle.lab_dump.specs.declared.pass.PassFault.{PassFault}
@@ -20,24 +20,24 @@ use Rattle.lab_mend.specs.declared.merging.RowTally.{RowTally}
 use Rattle.lab_mend.specs.declared.merging.TriedRow.{TriedRow}
 use Rattle.lab_mend.specs.declared.merge.MergeFault.{MergeFault}
 use Rattle.lab_mend.specs.declared.merge.MergeFault.TheVariants as fault
-use Rattle.lab_mend.specs.Pages.{page_in, pages_in}
+use Rattle.lab_mend.specs.Pages.{page_of_reading, pages_in}
 use Rattle.lab_mend.specs.InStep.{AreAt, AreRead, CutAt, LongAt, HaveEnded}
-use Rattle.lab_mend.specs.Merging.{unsound_below, tried_below, piece_of, Shows, AreOwn, MergingStands}
-use Rattle.lab_mend.specs.Merged.{row_of, IsMerged, IsUnmerged, fault_of_cut, fault_of_end, IsPinned}
+use Rattle.lab_mend.specs.Merging.{unsound_rows_below, tried_below, piece_of, ShowsMerge, AreOwn, MergingStands}
+use Rattle.lab_mend.specs.Merged.{pages_of_row, IsMerged, IsUnmerged, fault_of_cut, fault_of_end, IsPinned}
 
 -- ---- the pages of a row
 
-pub row_read : (g : Geometry) (known : List (Option (List ℕ))) (files : List (List ℕ)) (row count size : ℕ) (pieces : List ℕ) → size ≡ page_bytes g → count ≡ length known → AreRead known files (row * page_bytes g) size pieces → row_of g files row ≡ pages_in g pieces count
+pub row_read : (g : Geometry) (known : List (Option (List ℕ))) (files : List (List ℕ)) (row count size : ℕ) (pieces : List ℕ) → size ≡ page_bytes g → count ≡ length known → AreRead known files (row * page_bytes g) size pieces → pages_of_row g files row ≡ pages_in g pieces count
 unfolding pages_in
 row_read g known files row count size pieces one all read =
     let f : List ℕ → Page = λ file. page_from g file (row * page_bytes g) in
     let h : AreRead known files (row * page_bytes g) (page_bytes g) pieces = subst (λ n. AreRead known files (row * page_bytes g) n pieces) one read in
     let few : length files ≡ count = (let n = h.now.size in omega arith) in
-    same_lists (map f files) (map (page_in g pieces) (range_with_len 0 count)) (length-map files f ∙ (few ∙ sym (length-map-range_with_len (page_in g pieces) 0 count))) (λ i d l.
+    same_lists (map f files) (map (page_of_reading g pieces) (range_with_len 0 count)) (length-map files f ∙ (few ∙ sym (length-map-range_with_len (page_of_reading g pieces) 0 count))) (λ i d l.
     let within : i < length files = omega (arith, length-map files f) in
     get_or-map f files i [] d within
     ∙ (sym (page_sliced g (get_or files i []) (row * page_bytes g))
-    ∙ (ap (page_of g.data_bytes) (sym (h.are i within)) ∙ sym (get_or-map-range_with_len (page_in g pieces) 0 count i i d (omega arith) (omega arith)))))
+    ∙ (ap (page_from_bytes g.data_bytes) (sym (h.are i within)) ∙ sym (get_or-map-range_with_len (page_of_reading g pieces) 0 count i i d (omega arith) (omega arith)))))
 
 next_at : (row size : ℕ) → row * size + size ≡ (row + 1) * size
 next_at row size = omega arith
@@ -50,12 +50,12 @@ row_next g known files row size pieces one h =
 -- ---- all of them
 
 pub merged : (g : Geometry) (files : List (List ℕ)) (conflicts unsound : List ℕ) (tried : List TriedRow) (tally : RowTally) (scratch : List ℕ) (pieces : Option (List (List ℕ))) → MergingStands g (row_count g) conflicts tally scratch pieces
-    → Shows g (row_of g files) (row_count g) conflicts tally pieces → unsound ≡ unsound_below g (row_of g files) (row_count g) → tried ≡ tried_below g (row_of g files) (row_count g) → HaveEnded files (image_bytes g)
+    → ShowsMerge g (pages_of_row g files) (row_count g) conflicts tally pieces → unsound ≡ unsound_rows_below g (pages_of_row g files) (row_count g) → tried ≡ tried_below g (pages_of_row g files) (row_count g) → HaveEnded files (image_bytes g)
     → IsMerged g files conflicts unsound tried tally pieces
 merged g files conflicts unsound tried tally scratch pieces stands h are tried_are ended = record {
   whole = ended;
-  pages = if_both pieces (AreOwn g (row_count g) conflicts) (λ ps. (n : ℕ) → n < row_count g → get_or ps n [] ≡ piece_of g (row_of g files n)) (λ ps. ps ≡ map (λ n. piece_of g (row_of g files n)) (range_with_len 0 (row_count g))) stands.own h.pieces_are
-      (λ ps own each. fill_by_all (λ n. piece_of g (row_of g files n)) ps (row_count g) [] own.size each);
+  pages = if_both pieces (AreOwn g (row_count g) conflicts) (λ ps. (n : ℕ) → n < row_count g → get_or ps n [] ≡ piece_of g (pages_of_row g files n)) (λ ps. ps ≡ map (λ n. piece_of g (pages_of_row g files n)) (range_with_len 0 (row_count g))) stands.own h.pieces_are
+      (λ ps own each. fill_by_all (λ n. piece_of g (pages_of_row g files n)) ps (row_count g) [] own.size each);
   conflicts_are = h.conflicts_are;
   unsound_are = are;
   tried_are = tried_are;

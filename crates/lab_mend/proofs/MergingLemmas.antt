@@ -20,7 +20,7 @@ use Rattle.lab_mend.specs.declared.trial.Trial.TheVariants.{Taken, Tied, Nothing
 use Rattle.lab_mend.specs.declared.merging.RowTally.{RowTally}
 use Rattle.lab_mend.specs.declared.merging.TriedRow.{TriedRow}
 use Rattle.lab_mend.specs.Majority.{majority}
-use Rattle.lab_mend.specs.Trial.{bits_apart, with_turned, is_tried}
+use Rattle.lab_mend.specs.Trial.{differing_bits, with_turned, is_tried}
 use Rattle.lab_mend.specs.Choice.{Choice, is_same, zero_page, chosen, by_found, by_turns, by_trial, by_programmed, by_majority, by_sound, choice}
 use Rattle.lab_mend.specs.Found.{WritesChoice}
 use
@@ -35,16 +35,16 @@ use
       tried_row,
       with_tried,
       conflicts_below,
-      unsound_below,
+      unsound_rows_below,
       tried_below,
       tally_below,
       piece_of,
-      Shows,
+      ShowsMerge,
       AreOwn,
       AreListed,
       AreTried,
-      AreFew,
-      HasRoom,
+      IsTallyWithin,
+      HasConflictRoom,
       HasTriedRoom,
       MergingStands,
     }
@@ -78,21 +78,21 @@ unsound_is rows n (Tried (Nothing d)) = refl
 unsound_is rows n Erased = append-nil rows
 unsound_is rows n Unsound = refl
 
-unsound_more : (g : Geometry) (rows : ℕ → List Page) (n : ℕ) → unsound_below g rows (n + 1) ≡ with_unsound (unsound_below g rows n) n (choice g (rows n)).origin
-unfolding unsound_below
+unsound_more : (g : Geometry) (rows : ℕ → List Page) (n : ℕ) → unsound_rows_below g rows (n + 1) ≡ with_unsound (unsound_rows_below g rows n) n (choice g (rows n)).origin
+unfolding unsound_rows_below
 unsound_more g rows n =
     ap (filter (is_from g rows Unsound)) (range_more n)
     ∙ (filter-append (is_from g rows Unsound) (range_with_len 0 n) (n ∷ []) ∙ unsound_is (filter (is_from g rows Unsound) (range_with_len 0 n)) n (choice g (rows n)).origin)
 
-pub none_unsound : (g : Geometry) (rows : ℕ → List Page) → [] ≡ unsound_below g rows 0
-unfolding unsound_below
+pub none_unsound : (g : Geometry) (rows : ℕ → List Page) → [] ≡ unsound_rows_below g rows 0
+unfolding unsound_rows_below
 none_unsound g rows = refl
 
 -- the same, of what the code holds after it
-pub unsound_next : (g : Geometry) (rows : ℕ → List Page) (n : ℕ) (pages : List Page) (o : Origin) (old new out : List ℕ) → rows n ≡ pages → WritesChoice (choice g pages) o out → old ≡ unsound_below g rows n → new ≡ with_unsound old n o → new ≡ unsound_below g rows (n + 1)
+pub unsound_next : (g : Geometry) (rows : ℕ → List Page) (n : ℕ) (pages : List Page) (o : Origin) (old new out : List ℕ) → rows n ≡ pages → WritesChoice (choice g pages) o out → old ≡ unsound_rows_below g rows n → new ≡ with_unsound old n o → new ≡ unsound_rows_below g rows (n + 1)
 unsound_next g rows n pages o old new out are written before after =
     let origin : o ≡ (choice g (rows n)).origin = written.origin_is ∙ ap (λ ps. (choice g ps).origin) (sym are) in
-    after ∙ (ap (λ xs. with_unsound xs n o) before ∙ (ap (with_unsound (unsound_below g rows n) n) origin ∙ sym (unsound_more g rows n)))
+    after ∙ (ap (λ xs. with_unsound xs n o) before ∙ (ap (with_unsound (unsound_rows_below g rows n) n) origin ∙ sym (unsound_more g rows n)))
 
 -- ---- the rows of which pages were tried
 
@@ -190,7 +190,7 @@ tally_more g rows n =
     (count_more (is_from g rows Sound) n) (count_more (is_from g rows Majority) n) (count_more (is_turned g rows) n) (count_more (is_from g rows Erased) n) (count_more (is_from g rows Unsound) n)
     ∙ counted_is (the_tally s m k e u) o
 
-few_more : (n : ℕ) (t : RowTally) (o : Origin) → AreFew n t → AreFew (n + 1) (with_origin_counted t o)
+few_more : (n : ℕ) (t : RowTally) (o : Origin) → IsTallyWithin n t → IsTallyWithin (n + 1) (with_origin_counted t o)
 few_more n t Sound h = let d = h.sound in let a = h.majority in let i = h.turned in let b = h.erased in let c = h.unsound in record { sound = omega arith; majority = omega arith; turned = omega arith; erased = omega arith; unsound = omega arith }
 few_more n t Conflict h = let d = h.sound in let a = h.majority in let i = h.turned in let b = h.erased in let c = h.unsound in record { sound = omega arith; majority = omega arith; turned = omega arith; erased = omega arith; unsound = omega arith }
 few_more n t Majority h = let d = h.sound in let a = h.majority in let i = h.turned in let b = h.erased in let c = h.unsound in record { sound = omega arith; majority = omega arith; turned = omega arith; erased = omega arith; unsound = omega arith }
@@ -235,7 +235,7 @@ unsound_listed_more n rows Unsound h = listed_push n rows h
 pub unsound_listed_next : (n : ℕ) (old new : List ℕ) (o : Origin) → new ≡ with_unsound old n o → AreListed n old → AreListed (n + 1) new
 unsound_listed_next n old new o is h = subst (AreListed (n + 1)) (sym is) (unsound_listed_more n old o h)
 
-pub room_named : (all n : ℕ) (rows new : List ℕ) (o : Origin) (old_room new_room : ℕ) → HasRoom all n rows old_room → new ≡ named rows n o → new_room ≡ old_room → HasRoom all (n + 1) new new_room
+pub room_named : (all n : ℕ) (rows new : List ℕ) (o : Origin) (old_room new_room : ℕ) → HasConflictRoom all n rows old_room → new ≡ named rows n o → new_room ≡ old_room → HasConflictRoom all (n + 1) new new_room
 room_named all n rows new o old_room new_room h is same = record { few = (let size = ap length is in let more = by o in let few = h.few in omega arith); room = (let room = h.room in omega arith) }
   where
     by : (x : Origin) → length (named rows n x) ≤ length rows + 1
@@ -246,7 +246,7 @@ room_named all n rows new o old_room new_room h is same = record { few = (let si
     by Erased = omega arith
     by Unsound = omega arith
 
-pub room_unsound : (all n : ℕ) (rows new : List ℕ) (o : Origin) (old_room new_room : ℕ) → HasRoom all n rows old_room → new ≡ with_unsound rows n o → new_room ≡ old_room → HasRoom all (n + 1) new new_room
+pub room_unsound : (all n : ℕ) (rows new : List ℕ) (o : Origin) (old_room new_room : ℕ) → HasConflictRoom all n rows old_room → new ≡ with_unsound rows n o → new_room ≡ old_room → HasConflictRoom all (n + 1) new new_room
 room_unsound all n rows new o old_room new_room h is same = record { few = (let size = ap length is in let more = by o in let few = h.few in omega arith); room = (let room = h.room in omega arith) }
   where
     by : (x : Origin) → length (with_unsound rows n x) ≤ length rows + 1
@@ -259,7 +259,7 @@ room_unsound all n rows new o old_room new_room h is same = record { few = (let 
     by Erased = omega arith
     by Unsound = omega (arith, length-append rows (n ∷ []))
 
-pub room_first : (all capacity : ℕ) (rows : List ℕ) → rows ≡ [] → all ≤ capacity → HasRoom all 0 rows capacity
+pub room_first : (all capacity : ℕ) (rows : List ℕ) → rows ≡ [] → all ≤ capacity → HasConflictRoom all 0 rows capacity
 room_first all capacity rows none room = record { few = (let size = ap length none in omega arith); room = room }
 
 pub none_listed : AreListed 0 []
@@ -328,7 +328,7 @@ written_more g of n piece ps inside is h row l = elim (cases_eq row n) [
 ]
 
 pub shows_more : (g : Geometry) (of : ℕ → List Page) (n : ℕ) (rows : List ℕ) (t : RowTally) (pages : List Page) (o : Origin) (old scratch : List ℕ) (pieces : Option (List (List ℕ))) → n < row_count g → MergingStands g n rows t old pieces
-    → Shows g of n rows t pieces → of n ≡ pages → WritesChoice (choice g pages) o scratch → Shows g of (n + 1) (named rows n o) (with_origin_counted t o) (option_map (λ ps. set ps n scratch) pieces)
+    → ShowsMerge g of n rows t pieces → of n ≡ pages → WritesChoice (choice g pages) o scratch → ShowsMerge g of (n + 1) (named rows n o) (with_origin_counted t o) (option_map (λ ps. set ps n scratch) pieces)
 shows_more g of n rows t pages o old scratch pieces within stands h are written =
     let origin : o ≡ (choice g (of n)).origin = written.origin_is ∙ ap (λ ps. (choice g ps).origin) (sym are) in
     let piece : scratch ≡ piece_of g (of n) = written.bytes_are ∙ ap (piece_of g) (sym are) in
@@ -364,7 +364,7 @@ trial_conflict p bits e = by (is_tried (length bits)) e
 
 not_conflict : (g : Geometry) (pages programmed : List Page) → (by_programmed g pages programmed).origin ≡ Conflict → ⊥
 not_conflict g pages [] e = cc
-not_conflict g pages (p ∷ more) e = trial_conflict p (bits_apart p (p ∷ more)) e
+not_conflict g pages (p ∷ more) e = trial_conflict p (differing_bits p (p ∷ more)) e
 
 no_conflict : (g : Geometry) (pages : List Page) → (by_majority g pages).origin ≡ Conflict → ⊥
 unfolding by_majority
@@ -404,16 +404,16 @@ stands_next g n rows t pages o old out pieces within h size written rows' t' scr
     subst (λ (x : Option (List (List ℕ))). MergingStands g (n + 1) rows' t' scratch x) (sym d) second
 
 pub shows_next : (g : Geometry) (of : ℕ → List Page) (n : ℕ) (rows : List ℕ) (t : RowTally) (pages : List Page) (o : Origin) (old out : List ℕ) (pieces : Option (List (List ℕ))) → n < row_count g → MergingStands g n rows t old pieces
-    → Shows g of n rows t pieces → of n ≡ pages → WritesChoice (choice g pages) o out → (rows' : List ℕ) (t' : RowTally) (scratch : List ℕ) (pieces' : Option (List (List ℕ))) → rows' ≡ named rows n o → t' ≡ with_origin_counted t o → scratch ≡ out
-    → pieces' ≡ option_map (λ ps. set ps n scratch) pieces → Shows g of (n + 1) rows' t' pieces'
+    → ShowsMerge g of n rows t pieces → of n ≡ pages → WritesChoice (choice g pages) o out → (rows' : List ℕ) (t' : RowTally) (scratch : List ℕ) (pieces' : Option (List (List ℕ))) → rows' ≡ named rows n o → t' ≡ with_origin_counted t o → scratch ≡ out
+    → pieces' ≡ option_map (λ ps. set ps n scratch) pieces → ShowsMerge g of (n + 1) rows' t' pieces'
 shows_next g of n rows t pages o old out pieces within stands h are written rows' t' scratch pieces' a b c d =
     let its : WritesChoice (choice g pages) o scratch = subst (λ (x : List ℕ). WritesChoice (choice g pages) o x) (sym c) written in
-    let next : Shows g of (n + 1) (named rows n o) (with_origin_counted t o) (option_map (λ ps. set ps n scratch) pieces) = shows_more g of n rows t pages o old scratch pieces within stands h are its in
-    let first : Shows g of (n + 1) rows' (with_origin_counted t o) (option_map (λ ps. set ps n scratch) pieces) =
-    subst (λ (x : List ℕ). Shows g of (n + 1) x (with_origin_counted t o) (option_map (λ ps. set ps n scratch) pieces)) (sym a) next in
-    let second : Shows g of (n + 1) rows' t' (option_map (λ ps. set ps n scratch) pieces) =
-    subst (λ (x : RowTally). Shows g of (n + 1) rows' x (option_map (λ ps. set ps n scratch) pieces)) (sym b) first in
-    subst (λ (x : Option (List (List ℕ))). Shows g of (n + 1) rows' t' x) (sym d) second
+    let next : ShowsMerge g of (n + 1) (named rows n o) (with_origin_counted t o) (option_map (λ ps. set ps n scratch) pieces) = shows_more g of n rows t pages o old scratch pieces within stands h are its in
+    let first : ShowsMerge g of (n + 1) rows' (with_origin_counted t o) (option_map (λ ps. set ps n scratch) pieces) =
+    subst (λ (x : List ℕ). ShowsMerge g of (n + 1) x (with_origin_counted t o) (option_map (λ ps. set ps n scratch) pieces)) (sym a) next in
+    let second : ShowsMerge g of (n + 1) rows' t' (option_map (λ ps. set ps n scratch) pieces) =
+    subst (λ (x : RowTally). ShowsMerge g of (n + 1) rows' x (option_map (λ ps. set ps n scratch) pieces)) (sym b) first in
+    subst (λ (x : Option (List (List ℕ))). ShowsMerge g of (n + 1) rows' t' x) (sym d) second
 
 -- ---- before the first row
 
@@ -429,7 +429,7 @@ stands_first g scratch pieces size whole = record {
   });
 }
 
-pub shows_first : (g : Geometry) (of : ℕ → List Page) (pieces : Option (List (List ℕ))) → Shows g of 0 [] (the_tally 0 0 0 0 0) pieces
+pub shows_first : (g : Geometry) (of : ℕ → List Page) (pieces : Option (List (List ℕ))) → ShowsMerge g of 0 [] (the_tally 0 0 0 0 0) pieces
 unfolding conflicts_below tally_below
 shows_first g of pieces = record { conflicts_are = refl; tally_is = refl; pieces_are = all pieces }
   where

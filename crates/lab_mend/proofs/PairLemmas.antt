@@ -10,13 +10,13 @@ use Rattle.page_layout.specs.Block.{is_broken}
 use Rattle.lab_dump.specs.PageBytes.{is_sound, bit_count, page_bit}
 use Rattle.lab_mend.specs.declared.mending.Turned.{Turned}
 use Rattle.lab_mend.specs.declared.pairs.BitPair.{BitPair}
-use Rattle.lab_mend.specs.declared.pairs.Turn.{Turn}
-use Rattle.lab_mend.specs.declared.pairs.Turn.TheVariants.{One, Two, Tied, Nothing}
+use Rattle.lab_mend.specs.declared.pairs.BitTurn.{BitTurn}
+use Rattle.lab_mend.specs.declared.pairs.BitTurn.TheVariants.{One, Two, Tied, Nothing}
 use Rattle.lab_mend.specs.Bits.{with_bit_turned, DiffersAt}
 use Rattle.lab_mend.specs.Mend.{erased_bit, first_turn, lowest_bit, mend_of}
 use Rattle.lab_mend.specs.Repairing.{IsTurnTold}
-use Rattle.lab_mend.specs.Trial.{bits_apart, turned_count, with_turned, HasBytes}
-use Rattle.lab_mend.specs.Pairs.{second_bits, pairs_with, sound_pairs, by_pairs, one_or_two, page_turn_of, turned_by, turned_back, repaired, MakeSound, HasTwoPairs, Tells, TurnLaw, DiffersInTwo, IsOneBitOff, AreTwoBitsOff, RepairedLaw, OnlyLaw, KeptLaw, AgainLaw}
+use Rattle.lab_mend.specs.Trial.{differing_bits, turned_count, with_turned, HasBytes}
+use Rattle.lab_mend.specs.Pairs.{second_bits, pairs_with, sound_pairs, by_pairs, one_or_two, page_turn_of, page_turned_by, turned_back, repaired, MakeSound, HasTwoPairs, TellsBitTurn, TurnLaw, DiffersInTwo, IsOneBitOff, AreTwoBitsOff, RepairedLaw, OnlyLaw, UnbrokenStaysLaw, AgainLaw}
 use Rattle.lab_mend.proofs.BitLemmas.{count_turned, turned_law, turned_twice}
 use Rattle.lab_mend.proofs.MendLemmas.{broken_from, made_by, made_whole, mend_broken, mend_law, sound_whole, unmended}
 use Rattle.lab_mend.proofs.TrialLemmas.{alone, AreBits, bit_together, bits_once, either_in, in_turned, passes_from, passes_in, passing_bits}
@@ -195,23 +195,23 @@ two_from p b c more e = record {
 none_left : (p : Page) → sound_pairs p ≡ [] → (k l : ℕ) → MakeSound p k l → ⊥
 none_left p e k l h = let at : Contains [] (pair_of k l) = subst (λ bs. Contains bs (pair_of k l)) e (sound_in p k l h) in let m = at.1 in omega arith
 
-same_turn : {t u : Turn} → Some t ≡ Some u → t ≡ u
+same_turn : {t u : BitTurn} → Some t ≡ Some u → t ≡ u
 same_turn e = cc
 
-told_pairs : (p : Page) (t : Turn) → mend_of p ≡ None → (bs : List BitPair) → sound_pairs p ≡ bs → by_pairs bs ≡ t → Tells p t
-told_pairs p t none [] e is = subst (Tells p) is (none, none_left p e)
-told_pairs p t none (b ∷ []) e is = let h = only_from p b e in subst (Tells p) is (none, h.makes, h.only)
-told_pairs p t none (b ∷ c ∷ more) e is = subst (Tells p) is (none, two_from p b c more e)
+told_pairs : (p : Page) (t : BitTurn) → mend_of p ≡ None → (bs : List BitPair) → sound_pairs p ≡ bs → by_pairs bs ≡ t → TellsBitTurn p t
+told_pairs p t none [] e is = subst (TellsBitTurn p) is (none, none_left p e)
+told_pairs p t none (b ∷ []) e is = let h = only_from p b e in subst (TellsBitTurn p) is (none, h.makes, h.only)
+told_pairs p t none (b ∷ c ∷ more) e is = subst (TellsBitTurn p) is (none, two_from p b c more e)
 
-no_turn : {t : Turn} → None ≡ Some t → ⊥
+no_turn : {t : BitTurn} → None ≡ Some t → ⊥
 no_turn e = cc
 
-told_two : (p : Page) (t : Turn) → mend_of p ≡ None → (b : Bool) → cond b (Some (by_pairs (sound_pairs p))) None ≡ Some t → Tells p t
+told_two : (p : Page) (t : BitTurn) → mend_of p ≡ None → (b : Bool) → cond b (Some (by_pairs (sound_pairs p))) None ≡ Some t → TellsBitTurn p t
 told_two p t none true e = told_pairs p t none (sound_pairs p) refl (same_turn e)
 told_two p t none false e = absurd (no_turn e)
 
-told_by : (bits : ℕ) (p : Page) (t : Turn) (o : Option Turned) → mend_of p ≡ o → one_or_two bits p o ≡ Some t → Tells p t
-told_by bits p t (Some one) is e = subst (Tells p) (same_turn e) is
+told_by : (bits : ℕ) (p : Page) (t : BitTurn) (o : Option Turned) → mend_of p ≡ o → one_or_two bits p o ≡ Some t → TellsBitTurn p t
+told_by bits p t (Some one) is e = subst (TellsBitTurn p) (same_turn e) is
 told_by bits p t None is e = told_two p t is (nat_le 2 bits) e
 
 pub turn_broken : (bits : ℕ) (p : Page) → is_broken p ≡ true → page_turn_of bits p ≡ one_or_two bits p (mend_of p)
@@ -237,7 +237,7 @@ turn_none bits p few is e =
     sym (turn_broken bits p is ∙ (ap (one_or_two bits p) (mend_broken p is ∙ sym e) ∙ ap (λ b. cond b (Some (by_pairs (sound_pairs p))) None) test))
 
 -- the pair that is turned
-pub two_makes : (p : Page) (b : BitPair) (t : Turn) → t ≡ by_pairs (sound_pairs p) → t ≡ Two b → MakeSound p b.low b.high
+pub two_makes : (p : Page) (b : BitPair) (t : BitTurn) → t ≡ by_pairs (sound_pairs p) → t ≡ Two b → MakeSound p b.low b.high
 two_makes p b t found is = by (sound_pairs p) refl (sym found ∙ is)
   where
     same_pair : (x : BitPair) → Two x ≡ Two b → x ≡ b
@@ -251,18 +251,18 @@ two_makes p b t found is = by (sound_pairs p) refl (sym found ∙ is)
 pub turn_law : TurnLaw
 turn_law bits p t e = by (is_broken p) refl
   where
-    by : (b : Bool) → is_broken p ≡ b → (is_broken p ≡ true) × Tells p t
+    by : (b : Bool) → is_broken p ≡ b → (is_broken p ≡ true) × TellsBitTurn p t
     by true is = (is, told_by bits p t (mend_of p) refl (sym (turn_broken bits p is) ∙ e))
     by false is = absurd (no_turn (sym (turn_whole bits p is) ∙ e))
 
 -- ---- the repaired page
 
-pub repaired_by : (bits : ℕ) (p : Page) (o : Option Turn) → page_turn_of bits p ≡ o → repaired bits p ≡ turned_by p o
+pub repaired_by : (bits : ℕ) (p : Page) (o : Option BitTurn) → page_turn_of bits p ≡ o → repaired bits p ≡ page_turned_by p o
 unfolding repaired
-repaired_by bits p o e = ap (turned_by p) e
+repaired_by bits p o e = ap (page_turned_by p) e
 
 -- with what was turned turned back it is as it was
-back_by : (bits : ℕ) (p : Page) (t : Turn) → page_turn_of bits p ≡ Some t → Tells p t → turned_back (turned_by p (Some t)) (Some t) ≡ p
+back_by : (bits : ℕ) (p : Page) (t : BitTurn) → page_turn_of bits p ≡ Some t → TellsBitTurn p t → turned_back (page_turned_by p (Some t)) (Some t) ≡ p
 back_by bits p (One t) e tells = turned_twice p t.bit ((mend_law p t).0 tells).within
 back_by bits p (Two b) e tells =
     let makes = tells.1 in
@@ -274,12 +274,12 @@ back_by bits p Nothing e tells = refl
 pub back_again : (bits : ℕ) (p : Page) → turned_back (repaired bits p) (page_turn_of bits p) ≡ p
 back_again bits p = by (page_turn_of bits p) refl
   where
-    by : (o : Option Turn) → page_turn_of bits p ≡ o → turned_back (repaired bits p) o ≡ p
+    by : (o : Option BitTurn) → page_turn_of bits p ≡ o → turned_back (repaired bits p) o ≡ p
     by None e = repaired_by bits p None e
     by (Some t) e = ap (λ q. turned_back q (Some t)) (repaired_by bits p (Some t) e) ∙ back_by bits p t e (turn_law bits p t e).1
 
 -- what is told of a page is so of what is left of it
-left_by : (p : Page) (t : Turn) → is_broken p ≡ true → Tells p t → IsTurnTold t (turned_by p (Some t))
+left_by : (p : Page) (t : BitTurn) → is_broken p ≡ true → TellsBitTurn p t → IsTurnTold t (page_turned_by p (Some t))
 left_by p (One t) is tells =
     let mend = (mend_law p t).0 tells in
     (made_by p t.bit t.made mend.makes, subst (λ n. t.bit < n) (sym (count_turned p t.bit)) mend.within)
@@ -290,7 +290,7 @@ left_by p Tied is tells = is
 left_by p Nothing is tells = is
 
 -- the page whose bits turned back are this one's is this one
-again_by : (q : Page) (t : Turn) → Tells (turned_back q (Some t)) t → turned_by (turned_back q (Some t)) (Some t) ≡ q
+again_by : (q : Page) (t : BitTurn) → TellsBitTurn (turned_back q (Some t)) t → page_turned_by (turned_back q (Some t)) (Some t) ≡ q
 again_by q (One t) tells =
     let within = ((mend_law (with_bit_turned q t.bit) t).0 tells).within in
     turned_twice q t.bit (subst (λ n. t.bit < n) (count_turned q t.bit) within)
@@ -303,7 +303,7 @@ again_by q (Two b) tells =
 again_by q Tied tells = refl
 again_by q Nothing tells = refl
 
-pub left_so : (bits : ℕ) (q : Page) (t : Turn) → page_turn_of bits (turned_back q (Some t)) ≡ Some t → IsTurnTold t q
+pub left_so : (bits : ℕ) (q : Page) (t : BitTurn) → page_turn_of bits (turned_back q (Some t)) ≡ Some t → IsTurnTold t q
 left_so bits q t e =
     let told = turn_law bits (turned_back q (Some t)) t e in
     subst (IsTurnTold t) (again_by q t told.1) (left_by (turned_back q (Some t)) t told.0 told.1)
@@ -315,7 +315,7 @@ again_law bits p = by (page_turn_of bits p) refl
     whole : (q : Page) → is_broken q ≡ false → repaired bits p ≡ q → repaired bits (repaired bits p) ≡ repaired bits p
     whole q is e = ap (repaired bits) e ∙ (repaired_by bits q None (turn_whole bits q is) ∙ sym e)
 
-    by : (o : Option Turn) → page_turn_of bits p ≡ o → repaired bits (repaired bits p) ≡ repaired bits p
+    by : (o : Option BitTurn) → page_turn_of bits p ≡ o → repaired bits (repaired bits p) ≡ repaired bits p
     by None e = ap (repaired bits) (repaired_by bits p None e)
     by (Some (One t)) e =
         let tells = (turn_law bits p (One t) e).1 in
@@ -373,14 +373,14 @@ one_off bits p t e =
 pub repaired_law : RepairedLaw
 repaired_law bits p = by (page_turn_of bits p) refl
   where
-    by : (o : Option Turn) → page_turn_of bits p ≡ o → (repaired bits p ≡ p) ⊎ IsOneBitOff p (repaired bits p) ⊎ AreTwoBitsOff bits p (repaired bits p)
+    by : (o : Option BitTurn) → page_turn_of bits p ≡ o → (repaired bits p ≡ p) ⊎ IsOneBitOff p (repaired bits p) ⊎ AreTwoBitsOff bits p (repaired bits p)
     by None e = inl (repaired_by bits p None e)
     by (Some (One t)) e = inr (inl (one_off bits p t e))
     by (Some (Two b)) e = inr (inr (two_off bits p b e))
     by (Some Tied) e = inl (repaired_by bits p (Some Tied) e)
     by (Some Nothing) e = inl (repaired_by bits p (Some Nothing) e)
 
-pub kept_law : KeptLaw
+pub kept_law : UnbrokenStaysLaw
 kept_law bits p is = repaired_by bits p None (turn_whole bits p is)
 
 -- ---- no other page
@@ -454,16 +454,16 @@ two_turned p q f from zero at = absurd (none_turned p q 1 at)
 two_turned p q f from (suc size) at = two_by p q f from size (two_turned p q f (from + 1) size) (f from) at
 
 -- a page is one of those with bits turned in which it differs
-apart_in : (p q : Page) (n : ℕ) → HasBytes p → HasBytes q → length q.body ≡ length p.body → length q.spare ≡ length p.spare → turned_count p q ≡ n → Contains (with_turned p (bits_apart p (q ∷ [])) n) q
+apart_in : (p q : Page) (n : ℕ) → HasBytes p → HasBytes q → length q.body ≡ length p.body → length q.spare ≡ length p.spare → turned_count p q ≡ n → Contains (with_turned p (differing_bits p (q ∷ [])) n) q
 apart_in p q n left right body spare count =
-    in_turned (bits_apart p (q ∷ [])) p q n (bits_once p (q ∷ [])) body spare left right (λ k l away. bit_together p q (q ∷ []) k l away (0, omega arith, refl)) count
+    in_turned (differing_bits p (q ∷ [])) p q n (bits_once p (q ∷ [])) body spare left right (λ k l away. bit_together p q (q ∷ []) k l away (0, omega arith, refl)) count
 
 two_here : (p q : Page) → HasBytes p → HasBytes q → length q.body ≡ length p.body → length q.spare ≡ length p.spare → turned_count p q ≡ 2 → HasBoth p 0 (bit_count p) q
-unfolding bits_apart
+unfolding differing_bits
 two_here p q left right body spare count = two_turned p q _ 0 (bit_count p) (apart_in p q 2 left right body spare count)
 
 one_here : (p q : Page) → HasBytes p → HasBytes q → length q.body ≡ length p.body → length q.spare ≡ length p.spare → turned_count p q ≡ 1 → HasOne p 0 (bit_count p) q
-unfolding bits_apart
+unfolding differing_bits
 one_here p q left right body spare count = one_turned p q _ 0 (bit_count p) (apart_in p q 1 left right body spare count)
 
 few_cases : (n : ℕ) → n ≤ 2 → (n ≡ 0) ⊎ (n ≡ 1) ⊎ (n ≡ 2)
@@ -475,7 +475,7 @@ few_cases (suc (suc (suc n))) l = absurd (omega arith)
 pub only_law : OnlyLaw
 only_law bits p q b e left right body spare sound few = elim (few_cases (turned_count p q) few) [
   | inl none ↦
-      let same : p ≡ q = zero_turned p q (bits_apart p (q ∷ [])) (apart_in p q 0 left right body spare none) in
+      let same : p ≡ q = zero_turned p q (differing_bits p (q ∷ [])) (apart_in p q 0 left right body spare none) in
       absurd (true≢false (sym sound ∙ (ap is_sound (sym same) ∙ ap is_some (broken_from p told.0).unsound)))
   | inr more ↦ elim more [
     | inl one ↦
@@ -488,5 +488,5 @@ only_law bits p q b e left right body spare sound few = elim (few_cases (turned_
   ]
 ]
   where
-    told : (is_broken p ≡ true) × Tells p (Two b)
+    told : (is_broken p ≡ true) × TellsBitTurn p (Two b)
     told = turn_law bits p (Two b) e

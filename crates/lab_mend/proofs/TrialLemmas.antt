@@ -11,10 +11,10 @@ use Rattle.std.proofs.lemmas.Nat.{xor_lt, pow_below}
 use Rattle.std.proofs.lemmas.Nat.Bits.{bit_at-lt, same_from_bits_below}
 use Rattle.page_layout.specs.Page.{Page}
 use Rattle.page_layout.specs.Raw.{bytes_of_page}
-use Rattle.lab_dump.specs.PageBytes.{bit_in, page_of, bit_count, page_bit}
+use Rattle.lab_dump.specs.PageBytes.{bit_in, page_from_bytes, bit_count, page_bit}
 use Rattle.lab_dump.proofs.PageLemmas.{page_again}
 use Rattle.lab_mend.specs.Bits.{turned_bytes, with_bit_turned}
-use Rattle.lab_mend.specs.Trial.{differ_in, bits_apart, with_turned, turned_count, HasBytes}
+use Rattle.lab_mend.specs.Trial.{differ_in, differing_bits, with_turned, turned_count, HasBytes}
 use Rattle.lab_mend.proofs.BitLemmas.{turned_bit, kept_bit, bytes_turned, body_turned, spare_turned, count_turned}
 
 -- ---- numbers that pass a test
@@ -210,7 +210,7 @@ same_by_bits p q body spare left right same =
     sym (subst (λ m. bit_at (get_or (bytes_of_page q) m 0) i ≡ bit_at (get_or (bytes_of_page p) m 0) i) place
     (subst (λ m. bit_at (get_or (bytes_of_page q) ((8 * j + i) / 8) 0) m ≡ bit_at (get_or (bytes_of_page p) ((8 * j + i) / 8) 0) m) bit (same (8 * j + i) (omega arith))))) in
     let bytes : bytes_of_page p ≡ bytes_of_page q = same_number_lists (bytes_of_page p) (bytes_of_page q) whole each in
-    sym (page_again p) ∙ (ap (λ n. page_of n (bytes_of_page p)) (sym body) ∙ (ap (page_of (length q.body)) bytes ∙ page_again q))
+    sym (page_again p) ∙ (ap (λ n. page_from_bytes n (bytes_of_page p)) (sym body) ∙ (ap (page_from_bytes (length q.body)) bytes ∙ page_again q))
 
 power_low : (n : ℕ) → n < 8 → 2 ^ n < 2 ^ 8
 power_low n l = pow_below n 8 l
@@ -306,18 +306,18 @@ apart_none p r (x ∷ xs) k e at =
     let parts = or_parts (differ_in p x k) (list_any (λ q. differ_in p q k) xs) e in
     elim (either_in x r xs at) [ inl same ↦ ap (λ y. differ_in p y k) (sym same) ∙ parts.0 | inr later ↦ apart_none p r xs k parts.1 later ]
 
-pub bits_once : (p : Page) (ps : List Page) → AreBits (bit_count p) (bits_apart p ps)
-unfolding bits_apart
+pub bits_once : (p : Page) (ps : List Page) → AreBits (bit_count p) (differing_bits p ps)
+unfolding differing_bits
 bits_once p ps = passing_bits (λ k. list_any (λ q. differ_in p q k) ps) (bit_count p) 0 (bit_count p) (omega arith)
 
-pub bit_apart : (p : Page) (ps : List Page) (k : ℕ) → Contains (bits_apart p ps) k → HasApart p ps k
-unfolding bits_apart
+pub bit_apart : (p : Page) (ps : List Page) (k : ℕ) → Contains (differing_bits p ps) k → HasApart p ps k
+unfolding differing_bits
 bit_apart p ps k at =
     let h = passes_from (λ j. list_any (λ q. differ_in p q j) ps) 0 (bit_count p) k at in
     apart_some p ps k h.passes
 
-pub bit_together : (p r : Page) (ps : List Page) (k : ℕ) → k < bit_count p → (Contains (bits_apart p ps) k → ⊥) → Contains ps r → page_bit r k ≡ page_bit p k
-unfolding bits_apart
+pub bit_together : (p r : Page) (ps : List Page) (k : ℕ) → k < bit_count p → (Contains (differing_bits p ps) k → ⊥) → Contains ps r → page_bit r k ≡ page_bit p k
+unfolding differing_bits
 bit_together p r ps k l away at = by (list_any (λ q. differ_in p q k) ps) refl
   where
     by : (b : Bool) → list_any (λ q. differ_in p q k) ps ≡ b → page_bit r k ≡ page_bit p k

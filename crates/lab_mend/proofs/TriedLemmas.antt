@@ -10,17 +10,17 @@ use Rattle.std.proofs.lemmas.List.Elements.{All-nil, All-cons, All-head, All-tai
 use Rattle.page_layout.specs.declared.geometry.Geometry.{Geometry}
 use Rattle.page_layout.specs.Geometry.{page_bytes}
 use Rattle.page_layout.specs.Page.{Page}
-use Rattle.lab_dump.specs.PageBytes.{bits_of, bit_count, is_sound, page_bit, page_of}
+use Rattle.lab_dump.specs.PageBytes.{bits_of, bit_count, is_sound, page_bit, page_from_bytes}
 use Rattle.lab_mend.specs.declared.choice.Origin.TheVariants.{Tried, Unsound}
 use Rattle.lab_mend.specs.declared.trial.Trial.TheVariants.{Taken, Tied, Nothing}
 use Rattle.lab_mend.specs.declared.trial.Met.{Met}
 use Rattle.lab_mend.specs.Bits.{turned_bytes, with_bit_turned}
-use Rattle.lab_mend.specs.Pages.{piece_at, page_in}
-use Rattle.lab_mend.specs.Trial.{differ_in, bits_apart, with_turned}
+use Rattle.lab_mend.specs.Pages.{piece_at, page_of_reading}
+use Rattle.lab_mend.specs.Trial.{differ_in, differing_bits, with_turned}
 use Rattle.lab_mend.specs.Choice.{chosen, by_found, by_turns, by_trial, by_programmed}
 use Rattle.lab_mend.specs.Found.{HasTwo, programmed_below}
 use Rattle.page_layout.specs.Block.{is_programmed}
-use Rattle.lab_mend.specs.Tried.{HasFirst, IsMet, pages_at, first_at, with_bit, with_place}
+use Rattle.lab_mend.specs.Tried.{HasFirst, SoundPagesComeTo, pages_at, first_at, with_bit, with_place}
 use Rattle.lab_mend.proofs.BitLemmas.{turned_page, count_page}
 use Rattle.lab_mend.proofs.MajorityLemmas.{range_more}
 use Rattle.lab_mend.proofs.TrialLemmas.{AreBits, bits_once, bits_other, bits_same}
@@ -28,14 +28,14 @@ use Rattle.lab_mend.proofs.FoundLemmas.{programmed_none, programmed_yes, program
 
 -- ---- one page more
 
-pub met_page : (size : ℕ) (sound : List Page) (kept : List ℕ) (met : Met) (p : Page) → is_sound p ≡ true → IsMet size (sound ++ p ∷ []) kept met → IsMet size (sound ++ filter is_sound (p ∷ [])) kept met
-met_page size sound kept met p is h = subst (λ b. IsMet size (sound ++ cond b (p ∷ []) []) kept met) (sym is) h
+pub met_page : (size : ℕ) (sound : List Page) (kept : List ℕ) (met : Met) (p : Page) → is_sound p ≡ true → SoundPagesComeTo size (sound ++ p ∷ []) kept met → SoundPagesComeTo size (sound ++ filter is_sound (p ∷ [])) kept met
+met_page size sound kept met p is h = subst (λ b. SoundPagesComeTo size (sound ++ cond b (p ∷ []) []) kept met) (sym is) h
 
-pub met_none : (size : ℕ) (sound : List Page) (kept : List ℕ) (met : Met) → IsMet size sound kept met → IsMet size (sound ++ []) kept met
-met_none size sound kept met h = subst (λ ps. IsMet size ps kept met) (sym (append-nil sound)) h
+pub met_none : (size : ℕ) (sound : List Page) (kept : List ℕ) (met : Met) → SoundPagesComeTo size sound kept met → SoundPagesComeTo size (sound ++ []) kept met
+met_none size sound kept met h = subst (λ ps. SoundPagesComeTo size ps kept met) (sym (append-nil sound)) h
 
-pub met_other : (size : ℕ) (sound : List Page) (kept : List ℕ) (met : Met) (p : Page) → is_sound p ≡ false → IsMet size sound kept met → IsMet size (sound ++ filter is_sound (p ∷ [])) kept met
-met_other size sound kept met p is h = subst (λ b. IsMet size (sound ++ cond b (p ∷ []) []) kept met) (sym is) (met_none size sound kept met h)
+pub met_other : (size : ℕ) (sound : List Page) (kept : List ℕ) (met : Met) (p : Page) → is_sound p ≡ false → SoundPagesComeTo size sound kept met → SoundPagesComeTo size (sound ++ filter is_sound (p ∷ [])) kept met
+met_other size sound kept met p is h = subst (λ b. SoundPagesComeTo size (sound ++ cond b (p ∷ []) []) kept met) (sym is) (met_none size sound kept met h)
 
 -- ---- the pages with so many bits turned
 
@@ -55,16 +55,16 @@ no_bits p (k ∷ ks) n e l = absurd (omega arith)
 
 -- with the first bit turned and without it
 pub both_turned : (size : ℕ) (bytes : List ℕ) (k : ℕ) (ks bits : List ℕ) (n m : ℕ) → size ≤ length bytes → bits ≡ k ∷ ks → n ≡ m + 1
-    → filter is_sound (with_turned (page_of size bytes) bits n) ≡ filter is_sound (with_turned (page_of size (turned_bytes bytes k)) ks m) ++ filter is_sound (with_turned (page_of size bytes) ks n)
+    → filter is_sound (with_turned (page_from_bytes size bytes) bits n) ≡ filter is_sound (with_turned (page_from_bytes size (turned_bytes bytes k)) ks m) ++ filter is_sound (with_turned (page_from_bytes size bytes) ks n)
 unfolding with_turned
 both_turned size bytes k ks bits n m room are e =
-    let p : Page = page_of size bytes in
+    let p : Page = page_from_bytes size bytes in
     let one : n ≡ suc m = omega arith in
     ap (λ xs. filter is_sound (with_turned p xs n)) are
     ∙ (ap (λ j. filter is_sound (with_turned p (k ∷ ks) j)) one
     ∙ (filter-append is_sound (with_turned (with_bit_turned p k) ks m) (with_turned p ks (suc m))
     ∙ (ap (λ q. filter is_sound (with_turned q ks m) ++ filter is_sound (with_turned p ks (suc m))) (turned_page size bytes k room)
-    ∙ ap (λ j. filter is_sound (with_turned (page_of size (turned_bytes bytes k)) ks m) ++ filter is_sound (with_turned p ks j)) (sym one))))
+    ∙ ap (λ j. filter is_sound (with_turned (page_from_bytes size (turned_bytes bytes k)) ks m) ++ filter is_sound (with_turned p ks j)) (sym one))))
 
 -- the others are bits of the page with the first turned
 pub rest_within : (bytes after : List ℕ) (k : ℕ) (ks bits : List ℕ) → bits ≡ k ∷ ks → length after ≡ length bytes → All (λ j. j < bits_of bytes) bits → All (λ j. j < bits_of after) ks
@@ -74,8 +74,8 @@ rest_within bytes after k ks bits are size h =
 pub first_within : (bytes : List ℕ) (k : ℕ) (ks bits : List ℕ) → bits ≡ k ∷ ks → All (λ j. j < bits_of bytes) bits → k < bits_of bytes
 first_within bytes k ks bits are h = All-head (λ j. j < bits_of bytes) k ks (subst (All (λ j. j < bits_of bytes)) are h)
 
-pub met_both : (size : ℕ) (sound first second all : List Page) (kept : List ℕ) (met : Met) → all ≡ first ++ second → IsMet size ((sound ++ first) ++ second) kept met → IsMet size (sound ++ all) kept met
-met_both size sound first second all kept met e h = subst (λ ps. IsMet size ps kept met) (append_assoc sound first second ∙ ap (λ ps. sound ++ ps) (sym e)) h
+pub met_both : (size : ℕ) (sound first second all : List Page) (kept : List ℕ) (met : Met) → all ≡ first ++ second → SoundPagesComeTo size ((sound ++ first) ++ second) kept met → SoundPagesComeTo size (sound ++ all) kept met
+met_both size sound first second all kept met e h = subst (λ ps. SoundPagesComeTo size ps kept met) (append_assoc sound first second ∙ ap (λ ps. sound ++ ps) (sym e)) h
 
 -- ---- the least number first
 
@@ -154,28 +154,28 @@ bits_step p ps old new n before is =
 
 -- ---- whether one of the pages at these places differs from the first of them
 
-page_there : (g : Geometry) (bytes places : List ℕ) (n : ℕ) (d : Page) → n < length places → get_or (pages_at g bytes places) n d ≡ page_in g bytes (get_or places n 0)
-page_there g bytes places n d l = get_or-map (page_in g bytes) places n 0 d l
+page_there : (g : Geometry) (bytes places : List ℕ) (n : ℕ) (d : Page) → n < length places → get_or (pages_at g bytes places) n d ≡ page_of_reading g bytes (get_or places n 0)
+page_there g bytes places n d l = get_or-map (page_of_reading g bytes) places n 0 d l
 
-pub apart_at : (g : Geometry) (bytes places : List ℕ) (n k : ℕ) → n < length places → page_bit (page_in g bytes (get_or places n 0)) k ≢ page_bit (first_at g bytes places) k
+pub apart_at : (g : Geometry) (bytes places : List ℕ) (n k : ℕ) → n < length places → page_bit (page_of_reading g bytes (get_or places n 0)) k ≢ page_bit (first_at g bytes places) k
     → true ≡ list_any (λ q. differ_in (first_at g bytes places) q k) (pages_at g bytes places)
 apart_at g bytes places n k l ne =
     let p : Page = first_at g bytes places in
-    let here : differ_in p (get_or (pages_at g bytes places) n p) k ≡ true = ap (λ q. differ_in p q k) (page_there g bytes places n p l) ∙ bits_other p (page_in g bytes (get_or places n 0)) k ne in
-    sym (list_any_at (λ q. differ_in p q k) (pages_at g bytes places) n p (omega (arith, length-map places (page_in g bytes))) here)
+    let here : differ_in p (get_or (pages_at g bytes places) n p) k ≡ true = ap (λ q. differ_in p q k) (page_there g bytes places n p l) ∙ bits_other p (page_of_reading g bytes (get_or places n 0)) k ne in
+    sym (list_any_at (λ q. differ_in p q k) (pages_at g bytes places) n p (omega (arith, length-map places (page_of_reading g bytes))) here)
 
-pub apart_more : (g : Geometry) (bytes places : List ℕ) (n k : ℕ) → n < length places → page_bit (page_in g bytes (get_or places n 0)) k ≡ page_bit (first_at g bytes places) k
+pub apart_more : (g : Geometry) (bytes places : List ℕ) (n k : ℕ) → n < length places → page_bit (page_of_reading g bytes (get_or places n 0)) k ≡ page_bit (first_at g bytes places) k
     → list_any (λ q. differ_in (first_at g bytes places) q k) (take n (pages_at g bytes places)) ≡ false → list_any (λ q. differ_in (first_at g bytes places) q k) (take (n + 1) (pages_at g bytes places)) ≡ false
 apart_more g bytes places n k l same before =
     let p : Page = first_at g bytes places in
-    let here : differ_in p (get_or (pages_at g bytes places) n p) k ≡ false = ap (λ q. differ_in p q k) (page_there g bytes places n p l) ∙ bits_same p (page_in g bytes (get_or places n 0)) k same in
-    list_any_more (λ q. differ_in p q k) (pages_at g bytes places) n p (omega (arith, length-map places (page_in g bytes)))
+    let here : differ_in p (get_or (pages_at g bytes places) n p) k ≡ false = ap (λ q. differ_in p q k) (page_there g bytes places n p l) ∙ bits_same p (page_of_reading g bytes (get_or places n 0)) k same in
+    list_any_more (λ q. differ_in p q k) (pages_at g bytes places) n p (omega (arith, length-map places (page_of_reading g bytes)))
     ∙ (ap (λ b. b || differ_in p (get_or (pages_at g bytes places) n p) k) before ∙ here)
 
 pub apart_none : (g : Geometry) (bytes places : List ℕ) (n k : ℕ) → n ≡ length places → list_any (λ q. differ_in (first_at g bytes places) q k) (take n (pages_at g bytes places)) ≡ false
     → false ≡ list_any (λ q. differ_in (first_at g bytes places) q k) (pages_at g bytes places)
 apart_none g bytes places n k all e =
-    let whole : take n (pages_at g bytes places) ≡ pages_at g bytes places = take_all n (pages_at g bytes places) (omega (arith, length-map places (page_in g bytes))) in
+    let whole : take n (pages_at g bytes places) ≡ pages_at g bytes places = take_all n (pages_at g bytes places) (omega (arith, length-map places (page_of_reading g bytes))) in
     sym (ap (list_any (λ q. differ_in (first_at g bytes places) q k)) (sym whole) ∙ e)
 
 -- ---- the places of the pages that are not erased
@@ -192,16 +192,16 @@ pub record ArePlaces (g : Geometry) (bytes : List ℕ) (n : ℕ) (places : List 
   pub within : All (λ i. i * page_bytes g + page_bytes g ≤ length bytes) places
   pub few : length places ≤ n
 
-place_by : (g : Geometry) (bytes old : List ℕ) (n : ℕ) → ArePlaces g bytes n old → n * page_bytes g + page_bytes g ≤ length bytes → (b : Bool) → is_programmed (page_in g bytes n) ≡ b → ArePlaces g bytes (n + 1) (cond b (old ++ n ∷ []) old)
+place_by : (g : Geometry) (bytes old : List ℕ) (n : ℕ) → ArePlaces g bytes n old → n * page_bytes g + page_bytes g ≤ length bytes → (b : Bool) → is_programmed (page_of_reading g bytes n) ≡ b → ArePlaces g bytes (n + 1) (cond b (old ++ n ∷ []) old)
 place_by g bytes old n h within true is = record {
-  are = map-append (page_in g bytes) old (n ∷ []) ∙ (ap (λ ps. ps ++ page_in g bytes n ∷ []) h.are ∙ sym (programmed_yes g bytes n is));
+  are = map-append (page_of_reading g bytes) old (n ∷ []) ∙ (ap (λ ps. ps ++ page_of_reading g bytes n ∷ []) h.are ∙ sym (programmed_yes g bytes n is));
   within = All-push (λ i. i * page_bytes g + page_bytes g ≤ length bytes) old n h.within within;
   few = (let few = h.few in omega (arith, length-append old (n ∷ [])));
 }
 place_by g bytes old n h within false is = record { are = h.are ∙ sym (programmed_no g bytes n is); within = h.within; few = (let few = h.few in omega arith) }
 
-pub places_more : (g : Geometry) (bytes old new : List ℕ) (n : ℕ) → ArePlaces g bytes n old → n * page_bytes g + page_bytes g ≤ length bytes → new ≡ with_place (page_in g bytes n) old n → ArePlaces g bytes (n + 1) new
-places_more g bytes old new n h within is = subst (ArePlaces g bytes (n + 1)) (sym is) (place_by g bytes old n h within (is_programmed (page_in g bytes n)) refl)
+pub places_more : (g : Geometry) (bytes old new : List ℕ) (n : ℕ) → ArePlaces g bytes n old → n * page_bytes g + page_bytes g ≤ length bytes → new ≡ with_place (page_of_reading g bytes n) old n → ArePlaces g bytes (n + 1) new
+places_more g bytes old new n h within is = subst (ArePlaces g bytes (n + 1)) (sym is) (place_by g bytes old n h within (is_programmed (page_of_reading g bytes n)) refl)
 
 pub places_none : (g : Geometry) (bytes places : List ℕ) → places ≡ [] → ArePlaces g bytes 0 places
 places_none g bytes places e = subst (ArePlaces g bytes 0) (sym e) (record { are = sym (programmed_none g bytes); within = All-nil (λ i. i * page_bytes g + page_bytes g ≤ length bytes); few = omega arith })
@@ -214,19 +214,19 @@ piece_size bytes size i within =
     let one : i * size + size - i * size ≡ size = omega arith in
     ap (λ n. length (take n (drop (i * size) bytes))) one ∙ length-take-le size (drop (i * size) bytes) (omega (arith, length-drop (i * size) bytes))
 
-pub page_bits : (g : Geometry) (bytes : List ℕ) (i : ℕ) → i * page_bytes g + page_bytes g ≤ length bytes → bit_count (page_in g bytes i) ≡ 8 * page_bytes g
+pub page_bits : (g : Geometry) (bytes : List ℕ) (i : ℕ) → i * page_bytes g + page_bytes g ≤ length bytes → bit_count (page_of_reading g bytes i) ≡ 8 * page_bytes g
 page_bits g bytes i within = count_page g.data_bytes (piece_at bytes (page_bytes g) i) ∙ ap (λ n. 8 * n) (piece_size bytes (page_bytes g) i within)
 
-pub bits_are : (p : Page) (ps : List Page) (n : ℕ) → n ≡ bit_count p → filter (λ k. list_any (λ q. differ_in p q k) ps) (range_with_len 0 n) ≡ bits_apart p ps
-unfolding bits_apart
+pub bits_are : (p : Page) (ps : List Page) (n : ℕ) → n ≡ bit_count p → filter (λ k. list_any (λ q. differ_in p q k) ps) (range_with_len 0 n) ≡ differing_bits p ps
+unfolding differing_bits
 bits_are p ps n e = ap (λ m. filter (λ k. list_any (λ q. differ_in p q k) ps) (range_with_len 0 m)) e
 
 bits_low : (n : ℕ) (ks : List ℕ) → AreBits n ks → All (λ k. k < n) ks
 bits_low n [] h = All-nil (λ k. k < n)
 bits_low n (k ∷ ks) h = All-cons (λ j. j < n) k ks h.0 (bits_low n ks h.2)
 
-pub bits_within : (p : Page) (ps : List Page) (n : ℕ) → bit_count p ≡ n → All (λ k. k < n) (bits_apart p ps)
-bits_within p ps n e = subst (λ m. All (λ k. k < m) (bits_apart p ps)) e (bits_low (bit_count p) (bits_apart p ps) (bits_once p ps))
+pub bits_within : (p : Page) (ps : List Page) (n : ℕ) → bit_count p ≡ n → All (λ k. k < n) (differing_bits p ps)
+bits_within p ps n e = subst (λ m. All (λ k. k < m) (differing_bits p ps)) e (bits_low (bit_count p) (differing_bits p ps) (bits_once p ps))
 
 -- ---- whether pages are tried
 
@@ -248,7 +248,7 @@ tried_many p bits many =
 -- the first of the pages at these places, and all of them
 pub programmed_first : (g : Geometry) (bytes places : List ℕ) (pages programmed : List Page) → 0 < length places
     → pages_at g bytes places ≡ programmed
-    → by_programmed g pages programmed ≡ by_trial (first_at g bytes places) (bits_apart (first_at g bytes places) (pages_at g bytes places))
+    → by_programmed g pages programmed ≡ by_trial (first_at g bytes places) (differing_bits (first_at g bytes places) (pages_at g bytes places))
 programmed_first g bytes [] pages programmed some are = absurd (omega arith)
 programmed_first g bytes (x ∷ xs) pages programmed some are = ap (by_programmed g pages) (sym are)
 

@@ -12,7 +12,7 @@ use Rattle.lab_mend.specs.declared.choice.Origin.{Origin}
 use Rattle.lab_mend.specs.declared.choice.Origin.TheVariants.{Sound, Conflict, Majority, Tried, Erased, Unsound}
 use Rattle.lab_mend.specs.declared.trial.Trial.TheVariants.{Taken, Tied, Nothing}
 use Rattle.lab_mend.specs.Majority.{majority}
-use Rattle.lab_mend.specs.Trial.{bits_apart, with_turned, is_tried, turned_count, IsBetween, HasBytes}
+use Rattle.lab_mend.specs.Trial.{differing_bits, with_turned, is_tried, turned_count, IsBetween, HasBytes}
 
 -- whether the two pages, which have areas of the same lengths, are one
 abbrev pub is_same : Page → Page → Bool
@@ -47,7 +47,7 @@ by_trial p bits = if is_tried (length bits) then by_turns p bits (range_with_len
 -- what comes of turning bits of the first of those that are not erased in which they differ; where there is none, an erased page
 abbrev pub by_programmed : Geometry → List Page → List Page → Choice
 by_programmed g pages [] = chosen (get_or pages 0 (zero_page g)) Erased
-by_programmed g pages (p ∷ more) = by_trial p (bits_apart p (p ∷ more))
+by_programmed g pages (p ∷ more) = by_trial p (differing_bits p (p ∷ more))
 
 -- of three or more the majority of each bit, where that is sound
 unfoldable pub by_majority : Geometry → List Page → Choice
@@ -81,12 +81,12 @@ pub record IsFirstProgrammed (pages : List Page) (p : Page) : Type 0 where
 pub record IsTrial (pages : List Page) (first : Page) (d : ℕ) : Type 0 where
   pub none : NoneSound pages
   pub is_first : IsFirstProgrammed pages first
-  pub count : d ≡ length (bits_apart first (filter is_programmed pages))
+  pub count : d ≡ length (differing_bits first (filter is_programmed pages))
   pub some : 0 < d
   pub few : d ≤ 16
 
 -- the page is sound, agrees with each reading in all bits in which those that are not erased agree, and differs from the first of these in so many bits
-pub record IsFound (pages : List Page) (first q : Page) (n : ℕ) : Type 0 where
+pub record IsSoundBetween (pages : List Page) (first q : Page) (n : ℕ) : Type 0 where
   pub sound : IsSome (record_of q)
   pub between : IsBetween pages first q
   pub turns : turned_count first q ≡ n
@@ -96,25 +96,25 @@ abbrev pub OriginMeans : Geometry → List Page → Page → Origin → Type 0
 OriginMeans g pages p Sound = Contains pages p × IsSome (record_of p) × ((q : Page) → Contains pages q → IsSome (record_of q) → q ≡ p)
 OriginMeans g pages p Conflict = (p ≡ zero_page g) × (a : Page) × (b : Page) × Contains pages a × Contains pages b × IsSome (record_of a) × IsSome (record_of b) × (a ≢ b)
 OriginMeans g pages p Majority = NoneSound pages × (3 ≤ length pages) × (p ≡ majority g pages) × IsSome (record_of p)
-OriginMeans g pages p (Tried (Taken n d)) = (first : Page) × IsTrial pages first d × IsFound pages first p n
-OriginMeans g pages p (Tried (Tied n d)) = IsTrial pages p d × (a : Page) × (b : Page) × IsFound pages p a n × IsFound pages p b n × (a ≢ b)
+OriginMeans g pages p (Tried (Taken n d)) = (first : Page) × IsTrial pages first d × IsSoundBetween pages first p n
+OriginMeans g pages p (Tried (Tied n d)) = IsTrial pages p d × (a : Page) × (b : Page) × IsSoundBetween pages p a n × IsSoundBetween pages p b n × (a ≢ b)
 OriginMeans g pages p (Tried (Nothing d)) = IsTrial pages p d
 OriginMeans g pages p Erased = AllErased pages × (p ≡ get_or pages 0 (zero_page g))
 OriginMeans g pages p Unsound = NoneSound pages × IsFirstProgrammed pages p
 
 -- the areas of these pages have the die's lengths
-abbrev pub AreSized : Geometry → List Page → Type 0
-AreSized g pages = All (λ p. (length p.body ≡ g.data_bytes) × (length p.spare ≡ g.spare_bytes)) pages
+abbrev pub AreDieSized : Geometry → List Page → Type 0
+AreDieSized g pages = All (λ p. (length p.body ≡ g.data_bytes) × (length p.spare ≡ g.spare_bytes)) pages
 
 -- Of any pages of the die the origin that is told is true.
 abbrev pub ChoiceLaw : Type 0
-ChoiceLaw = (g : Geometry) (pages : List Page) → AreSized g pages → OriginMeans g pages (choice g pages).its (choice g pages).origin
+ChoiceLaw = (g : Geometry) (pages : List Page) → AreDieSized g pages → OriginMeans g pages (choice g pages).its (choice g pages).origin
 
 -- what a trial says of every other page
 abbrev pub IsLeast : List Page → Page → Origin → Type 0
-IsLeast pages p (Tried (Taken n d)) = (first q : Page) (m : ℕ) → IsFirstProgrammed pages first → HasBytes q → IsFound pages first q m → (q ≡ p) ⊎ (n < m)
-IsLeast pages p (Tried (Tied n d)) = (q : Page) (m : ℕ) → HasBytes q → IsFound pages p q m → n ≤ m
-IsLeast pages p (Tried (Nothing d)) = (q : Page) (m : ℕ) → HasBytes q → IsFound pages p q m → ⊥
+IsLeast pages p (Tried (Taken n d)) = (first q : Page) (m : ℕ) → IsFirstProgrammed pages first → HasBytes q → IsSoundBetween pages first q m → (q ≡ p) ⊎ (n < m)
+IsLeast pages p (Tried (Tied n d)) = (q : Page) (m : ℕ) → HasBytes q → IsSoundBetween pages p q m → n ≤ m
+IsLeast pages p (Tried (Nothing d)) = (q : Page) (m : ℕ) → HasBytes q → IsSoundBetween pages p q m → ⊥
 IsLeast pages p _ = Unit {0}
 
 -- Of the sound pages that agree with the readings wherever these agree, each other one than the page that is taken turns more bits; where pages are
@@ -123,16 +123,16 @@ abbrev pub LeastLaw : Type 0
 LeastLaw = (g : Geometry) (pages : List Page) → All HasBytes pages → IsLeast pages (choice g pages).its (choice g pages).origin
 
 -- A row counts as erased just where its page is erased in every reading: one that any of them has programmed never does.
-abbrev pub ErasedLaw : Type 0
-ErasedLaw = (g : Geometry) (pages : List Page) → AreSized g pages → 0 < length pages → ((choice g pages).origin ≡ Erased) ↔ AllErased pages
+abbrev pub ErasedReadingsLaw : Type 0
+ErasedReadingsLaw = (g : Geometry) (pages : List Page) → AreDieSized g pages → 0 < length pages → ((choice g pages).origin ≡ Erased) ↔ AllErased pages
 
 -- each page of the one list is a page of the other
 abbrev pub AreAmong : List Page → List Page → Type 0
 AreAmong pages others = (p : Page) → Contains pages p → Contains others p
 
 -- Where some page is sound, it doesn't matter in which order the readings come, nor how often one comes.
-abbrev pub OrderLaw : Type 0
-OrderLaw = (g : Geometry) (pages others : List Page) (p : Page) → AreSized g pages → AreAmong pages others → AreAmong others pages → Contains pages p → IsSome (record_of p) → choice g pages ≡ choice g others
+abbrev pub ReadingOrderLaw : Type 0
+ReadingOrderLaw = (g : Geometry) (pages others : List Page) (p : Page) → AreDieSized g pages → AreAmong pages others → AreAmong others pages → Contains pages p → IsSome (record_of p) → choice g pages ≡ choice g others
 
 -- A page of 00h bytes is never sound.
 abbrev pub ZeroLaw : Type 0

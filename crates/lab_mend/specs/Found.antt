@@ -9,7 +9,7 @@ use Rattle.lab_dump.specs.PageBytes.{is_sound}
 use Rattle.lab_mend.specs.declared.choice.Origin.{Origin}
 use Rattle.lab_mend.specs.declared.choice.Agreed.{Agreed}
 use Rattle.lab_mend.specs.declared.choice.Agreed.TheVariants.{Never, One, Apart}
-use Rattle.lab_mend.specs.Pages.{page_in, pages_in}
+use Rattle.lab_mend.specs.Pages.{page_of_reading, pages_in}
 use Rattle.lab_mend.specs.Choice.{Choice, is_same}
 
 -- of the first pages those that are sound
@@ -24,8 +24,8 @@ programmed_below g bytes i = filter is_programmed (pages_in g bytes i)
 pub record HasOne (g : Geometry) (bytes : List ℕ) (count : ℕ) (sound : List Page) (i : ℕ) : Type 0 where
   pub within : i < count
   pub more : List Page
-  pub are : sound ≡ page_in g bytes i ∷ more
-  pub same : list_all (is_same (page_in g bytes i)) more ≡ true
+  pub are : sound ≡ page_of_reading g bytes i ∷ more
+  pub same : list_all (is_same (page_of_reading g bytes i)) more ≡ true
 
 -- one of them is another page than the first
 pub record HasTwo (sound : List Page) : Type 0 where

@@ -18,10 +18,6 @@ pub record AreAt (known : List (Option (List ℕ))) (files : List (List ℕ)) (a
   pub size : length known ≡ length files
   pub each : (i : ℕ) → i < length files → IsAt (get_or known i None) (get_or files i []) at
 
--- the readers tell their bytes, which are those of these files
-abbrev pub Tell : List (Option (List ℕ)) → List (List ℕ) → Type 0
-Tell known files = known ≡ map Some files
-
 -- the first readers have read a piece of this size more, which stands among the pieces; the others have not
 pub record AreBetween (known : List (Option (List ℕ))) (files : List (List ℕ)) (at size : ℕ) (pieces : List ℕ) (first : ℕ) : Type 0 where
   pub count : length known ≡ length files

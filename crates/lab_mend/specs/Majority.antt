@@ -6,7 +6,7 @@ use Rattle.page_layout.specs.declared.geometry.Geometry.{Geometry}
 use Rattle.page_layout.specs.Geometry.{page_bytes}
 use Rattle.page_layout.specs.Page.{Page}
 use Rattle.page_layout.specs.Raw.{bytes_of_page}
-use Rattle.lab_dump.specs.PageBytes.{page_of, page_bit}
+use Rattle.lab_dump.specs.PageBytes.{page_from_bytes, page_bit}
 
 -- how many of these bytes have bit b set
 abbrev pub votes : List ℕ → ℕ → ℕ
@@ -30,7 +30,7 @@ majority_byte bytes = byte_of (majority_bit bytes) 8
 
 -- the page that has each bit set which more than half of these pages have set
 unfoldable pub majority : Geometry → List Page → Page
-majority g pages = page_of g.data_bytes (map (λ j. majority_byte (column pages j)) (range_with_len 0 (page_bytes g)))
+majority g pages = page_from_bytes g.data_bytes (map (λ j. majority_byte (column pages j)) (range_with_len 0 (page_bytes g)))
 
 -- A bit of that page is set just where more than half of the pages have it set.
 abbrev pub MajorityLaw : Type 0

@@ -14,22 +14,22 @@ use Rattle.lab_mend.specs.declared.merging.RowTally.{RowTally}
 use Rattle.lab_mend.specs.declared.merging.TriedRow.{TriedRow}
 use Rattle.lab_mend.specs.declared.merge.MergeFault.{MergeFault}
 use Rattle.lab_mend.specs.declared.merge.MergeFault.TheVariants as fault
-use Rattle.lab_mend.specs.Merging.{piece_of, conflicts_below, unsound_below, tried_below, tally_below, AreListed, AreTried, AreOwn}
+use Rattle.lab_mend.specs.Merging.{piece_of, conflicts_below, unsound_rows_below, tried_below, tally_below, AreListed, AreTried, AreOwn}
 
 -- the pages of a row, one of each reading
-abbrev pub row_of : Geometry → List (List ℕ) → ℕ → List Page
-row_of g files row = map (λ file. page_from g file (row * page_bytes g)) files
+abbrev pub pages_of_row : Geometry → List (List ℕ) → ℕ → List Page
+pages_of_row g files row = map (λ file. page_from g file (row * page_bytes g)) files
 
 -- Each reading has as many bytes as an image. The pieces are the pages that are written of the rows, in order; the rows that are named are those of
 -- which two sound pages differ, those of which a page was written as it is that is neither erased nor sound, and those of which pages were tried, by
 -- rising row; and the others are counted by what was written of them.
 pub record IsMerged (g : Geometry) (files : List (List ℕ)) (conflicts unsound : List ℕ) (tried : List TriedRow) (tally : RowTally) (pieces : Option (List (List ℕ))) : Type 0 where
   pub whole : (i : ℕ) → i < length files → length (get_or files i []) ≡ image_bytes g
-  pub pages : IfSome pieces (λ ps. ps ≡ map (λ row. piece_of g (row_of g files row)) (range_with_len 0 (row_count g)))
-  pub conflicts_are : conflicts ≡ conflicts_below g (row_of g files) (row_count g)
-  pub unsound_are : unsound ≡ unsound_below g (row_of g files) (row_count g)
-  pub tried_are : tried ≡ tried_below g (row_of g files) (row_count g)
-  pub tally_is : tally ≡ tally_below g (row_of g files) (row_count g)
+  pub pages : IfSome pieces (λ ps. ps ≡ map (λ row. piece_of g (pages_of_row g files row)) (range_with_len 0 (row_count g)))
+  pub conflicts_are : conflicts ≡ conflicts_below g (pages_of_row g files) (row_count g)
+  pub unsound_are : unsound ≡ unsound_rows_below g (pages_of_row g files) (row_count g)
+  pub tried_are : tried ≡ tried_below g (pages_of_row g files) (row_count g)
+  pub tally_is : tally ≡ tally_below g (pages_of_row g files) (row_count g)
 
 -- whatever the readers gave
 pub record IsOwnMerge (g : Geometry) (conflicts unsound : List ℕ) (tried : List TriedRow) (pieces : Option (List (List ℕ))) : Type 0 where

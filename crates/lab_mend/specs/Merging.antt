@@ -85,8 +85,8 @@ unfoldable pub conflicts_below : Geometry → (ℕ → List Page) → ℕ → Li
 conflicts_below g rows n = filter (is_from g rows Conflict) (range_with_len 0 n)
 
 -- the first rows of which no page is sound or taken, nor the majority, and some page is not erased
-unfoldable pub unsound_below : Geometry → (ℕ → List Page) → ℕ → List ℕ
-unsound_below g rows n = filter (is_from g rows Unsound) (range_with_len 0 n)
+unfoldable pub unsound_rows_below : Geometry → (ℕ → List Page) → ℕ → List ℕ
+unsound_rows_below g rows n = filter (is_from g rows Unsound) (range_with_len 0 n)
 
 -- whether bits were turned of a row's page
 abbrev pub is_turned : Geometry → (ℕ → List Page) → ℕ → Bool
@@ -111,7 +111,7 @@ abbrev pub piece_of : Geometry → List Page → List ℕ
 piece_of g pages = bytes_of_page (choice g pages).its
 
 -- what the first rows come to
-pub record Shows (g : Geometry) (rows : ℕ → List Page) (n : ℕ) (conflicts : List ℕ) (tally : RowTally) (pieces : Option (List (List ℕ))) : Type 0 where
+pub record ShowsMerge (g : Geometry) (rows : ℕ → List Page) (n : ℕ) (conflicts : List ℕ) (tally : RowTally) (pieces : Option (List (List ℕ))) : Type 0 where
   pub conflicts_are : conflicts ≡ conflicts_below g rows n
   pub tally_is : tally ≡ tally_below g rows n
   pub pieces_are : IfSome pieces (λ ps. (row : ℕ) → row < n → get_or ps row [] ≡ piece_of g (rows row))
@@ -135,7 +135,7 @@ pub record AreTried (n : ℕ) (tried : List TriedRow) : Type 0 where
   pub rising : AllPairs (λ a b. a.row < b.row) tried
 
 -- so many rows at most are named, and there is room for all of the die's
-pub record HasRoom (rows n : ℕ) (named : List ℕ) (capacity : ℕ) : Type 0 where
+pub record HasConflictRoom (rows n : ℕ) (named : List ℕ) (capacity : ℕ) : Type 0 where
   pub few : length named ≤ n
   pub room : rows ≤ capacity
 
@@ -143,7 +143,7 @@ pub record HasTriedRoom (rows n : ℕ) (tried : List TriedRow) (capacity : ℕ) 
   pub few : length tried ≤ n
   pub room : rows ≤ capacity
 
-pub record AreFew (n : ℕ) (tally : RowTally) : Type 0 where
+pub record IsTallyWithin (n : ℕ) (tally : RowTally) : Type 0 where
   pub sound : tally.sound ≤ n
   pub majority : tally.majority ≤ n
   pub turned : tally.turned ≤ n
@@ -152,6 +152,6 @@ pub record AreFew (n : ℕ) (tally : RowTally) : Type 0 where
 
 pub record MergingStands (g : Geometry) (n : ℕ) (conflicts : List ℕ) (tally : RowTally) (scratch : List ℕ) (pieces : Option (List (List ℕ))) : Type 0 where
   pub scratch_size : length scratch ≡ page_bytes g
-  pub few : AreFew n tally
+  pub few : IsTallyWithin n tally
   pub listed : AreListed n conflicts
   pub own : IfSome pieces (AreOwn g n conflicts)

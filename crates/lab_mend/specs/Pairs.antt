@@ -8,8 +8,8 @@ use Rattle.page_layout.specs.Block.{is_broken}
 use Rattle.lab_dump.specs.PageBytes.{is_sound, bit_count, page_bit}
 use Rattle.lab_mend.specs.declared.mending.Turned.{Turned}
 use Rattle.lab_mend.specs.declared.pairs.BitPair.{BitPair}
-use Rattle.lab_mend.specs.declared.pairs.Turn.{Turn}
-use Rattle.lab_mend.specs.declared.pairs.Turn.TheVariants.{One, Two, Tied, Nothing}
+use Rattle.lab_mend.specs.declared.pairs.BitTurn.{BitTurn}
+use Rattle.lab_mend.specs.declared.pairs.BitTurn.TheVariants.{One, Two, Tied, Nothing}
 use Rattle.lab_mend.specs.declared.pairs.Seen.{Seen}
 use Rattle.lab_mend.specs.declared.pairs.Seen.TheVariants.{Never, Once, Twice}
 use Rattle.lab_mend.specs.Bits.{with_bit_turned, DiffersAt}
@@ -29,30 +29,30 @@ unfoldable pub sound_pairs : Page → List BitPair
 sound_pairs p = flat_map (λ k. pairs_with k (second_bits (with_bit_turned p k) k)) (range_with_len 0 (bit_count p))
 
 -- what these pairs come to: the one, where there is just one
-abbrev pub by_pairs : List BitPair → Turn
+abbrev pub by_pairs : List BitPair → BitTurn
 by_pairs [] = Nothing
 by_pairs (b ∷ []) = Two b
 by_pairs (b ∷ c ∷ more) = Tied
 
 -- what is turned of a broken page of which that one bit is turned, if there is one; where there is none, and two bits may be turned, two
-abbrev pub one_or_two : ℕ → Page → Option Turned → Option Turn
+abbrev pub one_or_two : ℕ → Page → Option Turned → Option BitTurn
 one_or_two bits p (Some t) = Some (One t)
 one_or_two bits p None = if nat_le 2 bits then Some (by_pairs (sound_pairs p)) else None
 
 -- what is turned of a page of which so many bits may be turned
-unfoldable pub page_turn_of : ℕ → Page → Option Turn
+unfoldable pub page_turn_of : ℕ → Page → Option BitTurn
 page_turn_of bits p = if is_broken p then one_or_two bits p (mend_of p) else None
 
 -- the page with that turned
-abbrev pub turned_by : Page → Option Turn → Page
-turned_by p None = p
-turned_by p (Some (One t)) = with_bit_turned p t.bit
-turned_by p (Some (Two b)) = with_bit_turned (with_bit_turned p b.low) b.high
-turned_by p (Some Tied) = p
-turned_by p (Some Nothing) = p
+abbrev pub page_turned_by : Page → Option BitTurn → Page
+page_turned_by p None = p
+page_turned_by p (Some (One t)) = with_bit_turned p t.bit
+page_turned_by p (Some (Two b)) = with_bit_turned (with_bit_turned p b.low) b.high
+page_turned_by p (Some Tied) = p
+page_turned_by p (Some Nothing) = p
 
 -- the page with that turned back
-abbrev pub turned_back : Page → Option Turn → Page
+abbrev pub turned_back : Page → Option BitTurn → Page
 turned_back p None = p
 turned_back p (Some (One t)) = with_bit_turned p t.bit
 turned_back p (Some (Two b)) = with_bit_turned (with_bit_turned p b.high) b.low
@@ -61,12 +61,12 @@ turned_back p (Some Nothing) = p
 
 -- the repaired page
 unfoldable pub repaired : ℕ → Page → Page
-repaired bits p = turned_by p (page_turn_of bits p)
+repaired bits p = page_turned_by p (page_turn_of bits p)
 
 -- ---- while pairs are tried
 
 -- what the pairs that were seen come to with these behind them
-abbrev pub seen_with : Seen → List BitPair → Turn
+abbrev pub seen_with : Seen → List BitPair → BitTurn
 seen_with Never more = by_pairs more
 seen_with (Once b) more = by_pairs (b ∷ more)
 seen_with Twice more = Tied
@@ -88,15 +88,15 @@ pub record HasTwoPairs (p : Page) : Type 0 where
   pub apart : ¬ (first ≡ second)
 
 -- what is told of a broken page
-abbrev pub Tells : Page → Turn → Type 0
-Tells p (One t) = mend_of p ≡ Some t
-Tells p (Two b) = (mend_of p ≡ None) × MakeSound p b.low b.high × ((k l : ℕ) → MakeSound p k l → (k ≡ b.low) × (l ≡ b.high))
-Tells p Tied = (mend_of p ≡ None) × HasTwoPairs p
-Tells p Nothing = (mend_of p ≡ None) × ((k l : ℕ) → ¬ MakeSound p k l)
+abbrev pub TellsBitTurn : Page → BitTurn → Type 0
+TellsBitTurn p (One t) = mend_of p ≡ Some t
+TellsBitTurn p (Two b) = (mend_of p ≡ None) × MakeSound p b.low b.high × ((k l : ℕ) → MakeSound p k l → (k ≡ b.low) × (l ≡ b.high))
+TellsBitTurn p Tied = (mend_of p ≡ None) × HasTwoPairs p
+TellsBitTurn p Nothing = (mend_of p ≡ None) × ((k l : ℕ) → ¬ MakeSound p k l)
 
 -- What is told is so: one bit goes before two, two are turned where they alone make the page sound, and where several do none is.
 abbrev pub TurnLaw : Type 0
-TurnLaw = (bits : ℕ) (p : Page) (t : Turn) → page_turn_of bits p ≡ Some t → (is_broken p ≡ true) × Tells p t
+TurnLaw = (bits : ℕ) (p : Page) (t : BitTurn) → page_turn_of bits p ≡ Some t → (is_broken p ≡ true) × TellsBitTurn p t
 
 -- the other page has areas of the same lengths, and differs in these two bits and in no other
 pub record DiffersInTwo (p q : Page) (b : BitPair) : Type 0 where
@@ -130,8 +130,8 @@ OnlyLaw = (bits : ℕ) (p q : Page) (b : BitPair) → page_turn_of bits p ≡ So
     → IsSome (record_of q) → turned_count p q ≤ 2 → q ≡ repaired bits p
 
 -- A sound page and an erased one stay as they are.
-abbrev pub KeptLaw : Type 0
-KeptLaw = (bits : ℕ) (p : Page) → is_broken p ≡ false → repaired bits p ≡ p
+abbrev pub UnbrokenStaysLaw : Type 0
+UnbrokenStaysLaw = (bits : ℕ) (p : Page) → is_broken p ≡ false → repaired bits p ≡ p
 
 -- A repaired page is repaired no further.
 abbrev pub AgainLaw : Type 0

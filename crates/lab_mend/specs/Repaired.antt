@@ -9,7 +9,7 @@ use Rattle.lab_dump.specs.Scan.{image_bytes}
 use Rattle.lab_dump.specs.Rows.{is_asked}
 use Rattle.lab_mend.specs.declared.repairing.Mend.{Mend}
 use Rattle.lab_mend.specs.declared.repairing.RepairAsked.{RepairAsked}
-use Rattle.lab_mend.specs.Repairing.{mends_below, piece_of, piece_at, AreOwn, AreListed}
+use Rattle.lab_mend.specs.Repairing.{mends_below, repaired_bytes, piece_to_write, AreOwn, AreListed}
 
 -- the rows whose pages were to be mended, each with what was turned, by rising row
 abbrev pub mends_of : RepairAsked → Image → List Mend
@@ -17,7 +17,7 @@ mends_of asked image = mends_below asked image (length image)
 
 -- the bytes that are written of an image's pages, row by row: of each row that is asked for the repaired page's
 abbrev pub pieces_of : RepairAsked → Image → List (List ℕ)
-pieces_of asked image = map (λ numbered. piece_at asked numbered.0 numbered.1) (enumerate_from 0 image)
+pieces_of asked image = map (λ numbered. piece_to_write asked numbered.0 numbered.1) (enumerate_from 0 image)
 
 -- The bytes are as many as an image has, and the pieces are what is written of the pages of the image that they are.
 pub record IsRepaired (g : Geometry) (asked : RepairAsked) (pieces : Option (List (List ℕ))) (mends : List Mend) (bytes : List ℕ) : Type 0 where
@@ -34,10 +34,10 @@ pub record IsOwnRepair (g : Geometry) (asked : RepairAsked) (pieces : Option (Li
 
 -- each row that is asked for has the repaired page, each other one its own page byte for byte, and only rows that are asked for are listed
 pub record AreWritten (asked : RepairAsked) (image : Image) (pieces : List (List ℕ)) (mends : List Mend) : Type 0 where
-  pub mended : (row : ℕ) → is_asked asked.rows row ≡ true → slice_get pieces row ≡ option_map (piece_of asked.bits) (slice_get image row)
+  pub mended : (row : ℕ) → is_asked asked.rows row ≡ true → slice_get pieces row ≡ option_map (repaired_bytes asked.bits) (slice_get image row)
   pub kept : (row : ℕ) → is_asked asked.rows row ≡ false → slice_get pieces row ≡ option_map bytes_of_page (slice_get image row)
   pub listed : All (λ m. is_asked asked.rows m.row ≡ true) mends
 
 -- What was repaired for some rows is so.
-abbrev pub RowsLaw : Type 0
-RowsLaw = (g : Geometry) (asked : RepairAsked) (pieces : List (List ℕ)) (mends : List Mend) (bytes : List ℕ) → IsRepaired g asked (Some pieces) mends bytes → AreWritten asked (raw_image g bytes) pieces mends
+abbrev pub RepairedRowsLaw : Type 0
+RepairedRowsLaw = (g : Geometry) (asked : RepairAsked) (pieces : List (List ℕ)) (mends : List Mend) (bytes : List ℕ) → IsRepaired g asked (Some pieces) mends bytes → AreWritten asked (raw_image g bytes) pieces mends

@@ -3,14 +3,14 @@ use Rattle.std.specs.Prelude.{◌≡◌, ℕ, ◌≤◌, ◌*◌, [], length}
 use Rattle.std.specs.Vec.{vec_capacity}
 use Rattle.page_layout.specs.declared.geometry.Geometry.{Geometry}
 use Rattle.page_layout.specs.Geometry.{page_bytes, row_count}
-use Rattle.lab_dump.specs.Rooms.{HasPage}
+use Rattle.lab_dump.specs.Rooms.{HasPageRoom}
 use Rattle.lab_mend.specs.declared.merge.MergeRoom.{MergeRoom}
 use Rattle.lab_mend.specs.Tried.{IsTrialRoom}
 use Rattle.lab_mend.specs.declared.repair.RepairRoom.{RepairRoom}
 
 -- a page has room as it is read and as it is written, and each row in the list, which is empty
 pub record IsRepairRoom (g : Geometry) (room : RepairRoom) : Type 0 where
-  pub page : HasPage g room.body.items room.spare.items
+  pub page : HasPageRoom g room.body.items room.spare.items
   pub scratch : length room.scratch.items ≡ page_bytes g
   pub none : room.mends.items ≡ []
   pub places : row_count g ≤ vec_capacity room.mends

@@ -12,8 +12,8 @@ abbrev pub differ_in : Page → Page → ℕ → Bool
 differ_in p q k = not (page_bit q k == page_bit p k)
 
 -- the bits in which one of these pages differs from this one, by rising bit
-unfoldable pub bits_apart : Page → List Page → List ℕ
-bits_apart p ps = filter (λ k. list_any (λ q. differ_in p q k) ps) (range_with_len 0 (bit_count p))
+unfoldable pub differing_bits : Page → List Page → List ℕ
+differing_bits p ps = filter (λ k. list_any (λ q. differ_in p q k) ps) (range_with_len 0 (bit_count p))
 
 -- the pages that have so many of these bits turned, and no other
 unfoldable pub with_turned : Page → List ℕ → ℕ → List Page

@@ -5,11 +5,11 @@ use Rattle.std.specs.Vec.{vec_capacity}
 use Rattle.page_layout.specs.declared.geometry.Geometry.{Geometry}
 use Rattle.page_layout.specs.Geometry.{page_bytes}
 use Rattle.page_layout.specs.Page.{Page}
-use Rattle.lab_dump.specs.PageBytes.{page_of}
+use Rattle.lab_dump.specs.PageBytes.{page_from_bytes}
 use Rattle.lab_mend.specs.declared.trial.Met.{Met}
 use Rattle.lab_mend.specs.declared.trial.Met.TheVariants.{Never, Once, Apart}
 use Rattle.lab_mend.specs.declared.trial.TrialRoom.{TrialRoom}
-use Rattle.lab_mend.specs.Pages.{page_in}
+use Rattle.lab_mend.specs.Pages.{page_of_reading}
 use Rattle.page_layout.specs.Block.{is_programmed}
 use Rattle.lab_mend.specs.Trial.{differ_in}
 use Rattle.lab_mend.specs.Choice.{is_same}
@@ -22,18 +22,18 @@ pub record HasFirst (sound : List Page) (p : Page) : Type 0 where
   pub same : list_all (is_same p) more ≡ true
 
 -- what the sound pages come to, of which one is kept
-abbrev pub IsMet : ℕ → List Page → List ℕ → Met → Type 0
-IsMet size sound kept Never = sound ≡ []
-IsMet size sound kept Once = HasFirst sound (page_of size kept)
-IsMet size sound kept Apart = HasTwo sound
+abbrev pub SoundPagesComeTo : ℕ → List Page → List ℕ → Met → Type 0
+SoundPagesComeTo size sound kept Never = sound ≡ []
+SoundPagesComeTo size sound kept Once = HasFirst sound (page_from_bytes size kept)
+SoundPagesComeTo size sound kept Apart = HasTwo sound
 
 -- the pages of the row at these places
 abbrev pub pages_at : Geometry → List ℕ → List ℕ → List Page
-pages_at g bytes places = map (page_in g bytes) places
+pages_at g bytes places = map (page_of_reading g bytes) places
 
 -- the first of them
 abbrev pub first_at : Geometry → List ℕ → List ℕ → Page
-first_at g bytes places = page_in g bytes (get_or places 0 0)
+first_at g bytes places = page_of_reading g bytes (get_or places 0 0)
 
 -- the places with one more, if its page is not erased
 abbrev pub with_place : Page → List ℕ → ℕ → List ℕ

@@ -3,8 +3,8 @@ use Rattle.std.specs.Prelude.{ℕ, ◌+◌, ◌-◌, ◌*◌, ◌/◌, ◌^◌, 
 use Rattle.lab_mend.specs.declared.trial.Trial.{Trial}
 use Rattle.lab_mend.specs.declared.trial.Trial.TheVariants.{Taken, Tied, Nothing}
 use Rattle.lab_mend.specs.declared.merging.TriedRow.{TriedRow}
-use Rattle.lab_mend.specs.declared.pairs.Turn.{Turn}
-use Rattle.lab_mend.specs.declared.pairs.Turn.TheVariants as turn
+use Rattle.lab_mend.specs.declared.pairs.BitTurn.{BitTurn}
+use Rattle.lab_mend.specs.declared.pairs.BitTurn.TheVariants as turn
 use Rattle.lab_mend.specs.declared.repairing.Mend.{Mend}
 
 -- in how many bits the readings differ
@@ -18,7 +18,7 @@ unfoldable pub tries_in : List TriedRow → ℕ
 tries_in tried = min (sum_by (λ r. 2 ^ differing r.trial) tried) (2 ^ 64 - 1)
 
 -- of a page of so many bits each was turned, and where one served not each pair of them
-abbrev pub tries_of : ℕ → Turn → ℕ
+abbrev pub tries_of : ℕ → BitTurn → ℕ
 tries_of bits (turn.One t) = bits
 tries_of bits _ = bits + bits * (bits - 1) / 2
 

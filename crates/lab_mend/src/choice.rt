@@ -8,9 +8,9 @@ ghost use Rattle.lab_dump.specs.PageBytes.{is_sound};
 ghost use Rattle.lab_mend.specs.Choice;
 ghost use Rattle.lab_mend.specs.Choice.{by_programmed, by_majority, by_trial};
 ghost use Rattle.lab_mend.specs.Majority.{majority};
-ghost use Rattle.lab_mend.specs.Pages.{page_in, pages_in, piece_at};
+ghost use Rattle.lab_mend.specs.Pages.{page_of_reading, pages_in, piece_at};
 ghost use Rattle.lab_mend.specs.Found.{IsAgreed, WritesChoice, programmed_below, sound_below};
-ghost use Rattle.lab_mend.specs.Trial.{bits_apart};
+ghost use Rattle.lab_mend.specs.Trial.{differing_bits};
 ghost use Rattle.lab_mend.specs.Tried.{IsTrialRoom, first_at, pages_at, with_place};
 
 use crate::majority::write_majority;
@@ -70,8 +70,8 @@ fn is_same(pages: &[u8], size: usize, i: usize, j: usize) -> bool
 fn is_sound_at(geometry: &Geometry, pages: &[u8], i: usize, first: bool) -> bool
     requires first_in { page_bytes geometry.now ≤ length pages.now }
     requires page_in { i * page_bytes geometry.now + page_bytes geometry.now ≤ length pages.now }
-    requires first_is { first ≡ is_sound (page_in geometry.now pages.now 0) }
-    ensures { result ≡ is_sound (page_in geometry.now pages.now i) }
+    requires first_is { first ≡ is_sound (page_of_reading geometry.now pages.now 0) }
+    ensures { result ≡ is_sound (page_of_reading geometry.now pages.now i) }
 {
     let size = geometry.data_bytes() + geometry.spare_bytes();
     if is_same(pages, size, 0, i) {
@@ -86,7 +86,7 @@ fn meet(geometry: &Geometry, pages: &[u8], count: usize, agreed: Agreed, i: usiz
     requires whole { length pages.now ≡ count * page_bytes geometry.now }
     requires page_in { i < count }
     requires agreed { IsAgreed geometry.now pages.now count (sound_below geometry.now pages.now i) agreed }
-    ensures { IsAgreed geometry.now pages.now count (sound_below geometry.now pages.now i ++ (page_in geometry.now pages.now i ∷ [])) result }
+    ensures { IsAgreed geometry.now pages.now count (sound_below geometry.now pages.now i ++ (page_of_reading geometry.now pages.now i ∷ [])) result }
 {
     let size = geometry.data_bytes() + geometry.spare_bytes();
     match agreed {
@@ -114,7 +114,7 @@ fn with_page(
     requires whole { length pages.now ≡ count * page_bytes geometry.now }
     requires page_in { i < count }
     requires agreed { IsAgreed geometry.now pages.now count (sound_below geometry.now pages.now i) agreed }
-    requires sound_is { sound ≡ is_sound (page_in geometry.now pages.now i) }
+    requires sound_is { sound ≡ is_sound (page_of_reading geometry.now pages.now i) }
     ensures { IsAgreed geometry.now pages.now count (sound_below geometry.now pages.now (i + 1)) result }
 {
     if sound {
@@ -143,7 +143,7 @@ fn agree(geometry: &Geometry, pages: &[u8], count: usize) -> Agreed
 // Whether a page is not erased.
 fn is_programmed_at(geometry: &Geometry, pages: &[u8], i: usize) -> bool
     requires { i * page_bytes geometry.now + page_bytes geometry.now ≤ length pages.now }
-    ensures { result ≡ is_programmed (page_in geometry.now pages.now i) }
+    ensures { result ≡ is_programmed (page_of_reading geometry.now pages.now i) }
 {
     let size = geometry.data_bytes() + geometry.spare_bytes();
     let (body, spare) = page_at(pages, size, i).split_at(geometry.data_bytes());
@@ -154,7 +154,7 @@ fn is_programmed_at(geometry: &Geometry, pages: &[u8], i: usize) -> bool
 fn list_place(geometry: &Geometry, pages: &[u8], i: usize, places: &mut Vec<usize>)
     requires within { i * page_bytes geometry.now + page_bytes geometry.now ≤ length pages.now }
     requires room { length places.old.items < vec_capacity places.old }
-    ensures listed { places.new.items ≡ with_place (page_in geometry.now pages.now i) places.old.items i }
+    ensures listed { places.new.items ≡ with_place (page_of_reading geometry.now pages.now i) places.old.items i }
     ensures room { vec_capacity places.new ≡ vec_capacity places.old }
 {
     if is_programmed_at(geometry, pages, i) {
@@ -208,7 +208,7 @@ fn try_readings(
     requires first { out.old ≡ piece_at pages.now (page_bytes geometry.now) (slice_index room.old.places.items 0) }
     ensures room { IsTrialRoom geometry.now count room.new }
     ensures writes { WritesChoice (by_trial (first_at geometry.now pages.now room.old.places.items)
-        (bits_apart (first_at geometry.now pages.now room.old.places.items) (pages_at geometry.now pages.now room.old.places.items))) result out.new }
+        (differing_bits (first_at geometry.now pages.now room.old.places.items) (pages_at geometry.now pages.now room.old.places.items))) result out.new }
 {
     if list_bits(geometry, pages, &room.places, &mut room.bits) && !room.bits.is_empty() {
         Origin::Tried(try_all(geometry, &room.bits, &mut room.kept, out))

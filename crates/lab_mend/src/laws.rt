@@ -1,10 +1,10 @@
 //! What the definitions come to.
 ghost use Rattle.lab_mend.specs.Bits.{TurnedLaw};
-ghost use Rattle.lab_mend.specs.Choice.{ChoiceLaw, ErasedLaw, LeastLaw, OrderLaw, ZeroLaw};
+ghost use Rattle.lab_mend.specs.Choice.{ChoiceLaw, ErasedReadingsLaw, LeastLaw, ReadingOrderLaw, ZeroLaw};
 ghost use Rattle.lab_mend.specs.Majority.{MajorityLaw};
 ghost use Rattle.lab_mend.specs.Mend.{MendLaw};
-ghost use Rattle.lab_mend.specs.Pairs.{AgainLaw, KeptLaw, OnlyLaw, RepairedLaw, TurnLaw};
-ghost use Rattle.lab_mend.specs.Repaired.{RowsLaw};
+ghost use Rattle.lab_mend.specs.Pairs.{AgainLaw, UnbrokenStaysLaw, OnlyLaw, RepairedLaw, TurnLaw};
+ghost use Rattle.lab_mend.specs.Repaired.{RepairedRowsLaw};
 ghost use Rattle.lab_mend.specs.Repairing.{OwnRepairLaw};
 
 /// A page with a bit turned differs in that bit and in no other.
@@ -34,7 +34,7 @@ pub fn only_law()
 
 /// A sound page and an erased one stay as they are.
 pub fn kept_law()
-    ensures { KeptLaw }
+    ensures { UnbrokenStaysLaw }
 {}
 
 /// A repaired page is repaired no further.
@@ -49,7 +49,7 @@ pub fn own_law()
 
 /// Each row that is asked for gets the mended page, each other one its own page byte for byte, and only rows that are asked for are listed.
 pub fn rows_law()
-    ensures { RowsLaw }
+    ensures { RepairedRowsLaw }
 {}
 
 /// A bit of the majority's page is set just where more than half of the pages have it set.
@@ -69,12 +69,12 @@ pub fn least_law()
 
 /// A row counts as erased just where its page is erased in every reading.
 pub fn erased_law()
-    ensures { ErasedLaw }
+    ensures { ErasedReadingsLaw }
 {}
 
 /// Where some page is sound, it does not matter in which order the readings come, nor how often one comes.
 pub fn order_law()
-    ensures { OrderLaw }
+    ensures { ReadingOrderLaw }
 {}
 
 /// A page of 00h bytes is never sound.

@@ -31,7 +31,7 @@ pub use laws::{
 pub use mending::{Made, Turned};
 pub use merge::{MergeFault, MergeRoom, Merged, Unmerged, merge_dumps};
 pub use merging::{RowTally, TriedRow};
-pub use pairs::{BitPair, Turn, Watch};
+pub use pairs::{BitPair, BitTurn, Watch};
 pub use repair::{RepairRoom, Repaired, repair_dump};
 pub use repairing::{Mend, RepairAsked, Repairing, count_mended};
 pub use trial::Trial;

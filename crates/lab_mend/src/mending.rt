@@ -3,15 +3,15 @@ ghost use Rattle.std.specs.Prelude.{◌≡◌, ◌<◌, length, Some, true};
 ghost use Rattle.page_layout.specs.Geometry.{page_bytes};
 ghost use Rattle.page_layout.specs.Page.{page};
 ghost use Rattle.page_layout.specs.Sound.{is_erased_page};
-ghost use Rattle.lab_dump.specs.PageBytes.{bits_of, page_of};
+ghost use Rattle.lab_dump.specs.PageBytes.{bits_of, page_from_bytes};
 ghost use Rattle.page_layout.specs.Block.{is_broken};
 ghost use Rattle.lab_mend.specs.Mend.{erased_bit, first_turn, lowest_bit, mend_of, turned_at, turned_if};
-ghost use Rattle.lab_mend.specs.declared.pairs.Turn.TheVariants.{Two};
-ghost use Rattle.lab_mend.specs.Pairs.{by_pairs, page_turn_of, repaired, sound_pairs, turned_by};
-ghost use Rattle.lab_mend.specs.Repairing.{IsOwn, piece_at, turn_at};
+ghost use Rattle.lab_mend.specs.declared.pairs.BitTurn.TheVariants.{Two};
+ghost use Rattle.lab_mend.specs.Pairs.{by_pairs, page_turn_of, repaired, sound_pairs, page_turned_by};
+ghost use Rattle.lab_mend.specs.Repairing.{IsOwn, piece_to_write, turn_at};
 
 use crate::bits::turn;
-use crate::pairs::{BitPair, Turn, Watch, try_pairs};
+use crate::pairs::{BitPair, BitTurn, Watch, try_pairs};
 use crate::repairing::RepairAsked;
 use crate::seal::Prefix;
 use lab_dump::{is_asked, is_broken, join_page};
@@ -40,8 +40,8 @@ pub struct Turned {
 // at hand in the data area is hashed once.
 fn turn_lowest(geometry: &Geometry, bytes: &mut [u8]) -> Option<u32>
     requires { length bytes.old ≡ page_bytes geometry.now }
-    ensures bit { result ≡ lowest_bit (page_of geometry.now.data_bytes bytes.old) }
-    ensures after { page_of geometry.now.data_bytes bytes.new ≡ turned_at (page_of geometry.now.data_bytes bytes.old) result }
+    ensures bit { result ≡ lowest_bit (page_from_bytes geometry.now.data_bytes bytes.old) }
+    ensures after { page_from_bytes geometry.now.data_bytes bytes.new ≡ turned_at (page_from_bytes geometry.now.data_bytes bytes.old) result }
 {
     let bits = 8 * bytes.len() as u32;
     let mut prefix = Prefix::new();
@@ -59,7 +59,7 @@ fn turn_lowest(geometry: &Geometry, bytes: &mut [u8]) -> Option<u32>
 // Whether the page of these bytes is erased.
 fn is_erased_in(geometry: &Geometry, bytes: &[u8]) -> bool
     requires { length bytes.now ≡ page_bytes geometry.now }
-    ensures { result ≡ is_erased_page (page_of geometry.now.data_bytes bytes.now) }
+    ensures { result ≡ is_erased_page (page_from_bytes geometry.now.data_bytes bytes.now) }
 {
     let (body, spare) = bytes.split_at(geometry.data_bytes());
     is_erased(body, spare)
@@ -68,8 +68,8 @@ fn is_erased_in(geometry: &Geometry, bytes: &[u8]) -> bool
 // Turns the lowest bit whose turning leaves the page erased, and answers it; where there is none the page stays as it is.
 fn turn_erased(geometry: &Geometry, bytes: &mut [u8]) -> Option<u32>
     requires { length bytes.old ≡ page_bytes geometry.now }
-    ensures bit { result ≡ erased_bit (page_of geometry.now.data_bytes bytes.old) }
-    ensures after { page_of geometry.now.data_bytes bytes.new ≡ turned_at (page_of geometry.now.data_bytes bytes.old) result }
+    ensures bit { result ≡ erased_bit (page_from_bytes geometry.now.data_bytes bytes.old) }
+    ensures after { page_from_bytes geometry.now.data_bytes bytes.new ≡ turned_at (page_from_bytes geometry.now.data_bytes bytes.old) result }
 {
     let bits = 8 * bytes.len() as u32;
     for bit in 0..bits {
@@ -85,8 +85,8 @@ fn turn_erased(geometry: &Geometry, bytes: &mut [u8]) -> Option<u32>
 // Turns the bit that makes the page sound, or, where there is none, the one that leaves it erased.
 fn turn_first(geometry: &Geometry, bytes: &mut [u8]) -> Option<Turned>
     requires { length bytes.old ≡ page_bytes geometry.now }
-    ensures turn { result ≡ first_turn (lowest_bit (page_of geometry.now.data_bytes bytes.old)) (erased_bit (page_of geometry.now.data_bytes bytes.old)) }
-    ensures after { page_of geometry.now.data_bytes bytes.new ≡ turned_if (page_of geometry.now.data_bytes bytes.old) result }
+    ensures turn { result ≡ first_turn (lowest_bit (page_from_bytes geometry.now.data_bytes bytes.old)) (erased_bit (page_from_bytes geometry.now.data_bytes bytes.old)) }
+    ensures after { page_from_bytes geometry.now.data_bytes bytes.new ≡ turned_if (page_from_bytes geometry.now.data_bytes bytes.old) result }
 {
     match turn_lowest(geometry, bytes) {
         Some(bit) => Some(Turned {
@@ -108,20 +108,20 @@ fn turn_both(geometry: &Geometry, bytes: &mut [u8], pair: BitPair)
     requires whole { length bytes.old ≡ page_bytes geometry.now }
     requires low_in { pair.low < bits_of bytes.old }
     requires high_in { pair.high < bits_of bytes.old }
-    ensures { page_of geometry.now.data_bytes bytes.new ≡ turned_by (page_of geometry.now.data_bytes bytes.old) (Some (Two pair)) }
+    ensures { page_from_bytes geometry.now.data_bytes bytes.new ≡ page_turned_by (page_from_bytes geometry.now.data_bytes bytes.old) (Some (Two pair)) }
 {
     turn(bytes, pair.low);
     turn(bytes, pair.high);
 }
 
 // Turns the one pair of bits that makes the page of a row sound, if there is just one.
-fn turn_pair<W: Watch>(geometry: &Geometry, row: u32, bytes: &mut [u8], watch: &mut W) -> Turn
+fn turn_pair<W: Watch>(geometry: &Geometry, row: u32, bytes: &mut [u8], watch: &mut W) -> BitTurn
     requires { length bytes.old ≡ page_bytes geometry.now }
-    ensures turn { result ≡ by_pairs (sound_pairs (page_of geometry.now.data_bytes bytes.old)) }
-    ensures after { page_of geometry.now.data_bytes bytes.new ≡ turned_by (page_of geometry.now.data_bytes bytes.old) (Some result) }
+    ensures turn { result ≡ by_pairs (sound_pairs (page_from_bytes geometry.now.data_bytes bytes.old)) }
+    ensures after { page_from_bytes geometry.now.data_bytes bytes.new ≡ page_turned_by (page_from_bytes geometry.now.data_bytes bytes.old) (Some result) }
 {
     let turn = try_pairs(geometry, row, bytes, watch);
-    if let Turn::Two(pair) = turn {
+    if let BitTurn::Two(pair) = turn {
         turn_both(geometry, bytes, pair);
     }
     turn
@@ -134,14 +134,14 @@ fn repair_page<W: Watch>(
     row: u32,
     bytes: &mut [u8],
     watch: &mut W,
-) -> Option<Turn>
+) -> Option<BitTurn>
     requires { length bytes.old ≡ page_bytes geometry.now }
-    ensures turn { result ≡ page_turn_of bits (page_of geometry.now.data_bytes bytes.old) }
-    ensures after { page_of geometry.now.data_bytes bytes.new ≡ repaired bits (page_of geometry.now.data_bytes bytes.old) }
+    ensures turn { result ≡ page_turn_of bits (page_from_bytes geometry.now.data_bytes bytes.old) }
+    ensures after { page_from_bytes geometry.now.data_bytes bytes.new ≡ repaired bits (page_from_bytes geometry.now.data_bytes bytes.old) }
 {
     if is_broken(geometry, bytes) {
         match turn_first(geometry, bytes) {
-            Some(turned) => Some(Turn::One(turned)),
+            Some(turned) => Some(BitTurn::One(turned)),
             None => {
                 if bits >= 2 {
                     Some(turn_pair(geometry, row, bytes, watch))
@@ -165,12 +165,12 @@ pub(crate) fn write_page<W: Watch>(
     spare: &[u8],
     bytes: &mut [u8],
     watch: &mut W,
-) -> Option<Turn>
+) -> Option<BitTurn>
     requires body_whole { length body.now ≡ geometry.now.data_bytes }
     requires spare_whole { length spare.now ≡ geometry.now.spare_bytes }
     requires room { length bytes.old ≡ page_bytes geometry.now }
     ensures turn { result ≡ turn_at asked row (page body.now spare.now) }
-    ensures piece { bytes.new ≡ piece_at asked row (page body.now spare.now) }
+    ensures piece { bytes.new ≡ piece_to_write asked row (page body.now spare.now) }
     ensures own { IsOwn geometry.now asked row result bytes.new }
 {
     join_page(bytes, body, spare);

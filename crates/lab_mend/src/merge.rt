@@ -2,11 +2,11 @@
 ghost use Rattle.std.specs.Prelude.{◌≡◌, ◌<◌, ◌≤◌, ◌*◌, ℕ, List, [], length, map, vec_capacity, OnOk, IfOk, IfErr, IfSome};
 ghost use Rattle.page_layout.specs.Geometry.{page_bytes, row_count};
 ghost use Rattle.page_layout.specs.Page.{Page};
-ghost use Rattle.lab_dump.specs.Scan.{image_bytes};
-ghost use Rattle.lab_mend.specs.InStep.{AreAt, Tell};
-ghost use Rattle.lab_mend.specs.Merging.{AreListed, AreTried, HasRoom, HasTriedRoom, MergingStands, Shows, tried_below, unsound_below};
+ghost use Rattle.lab_dump.specs.Scan.{image_bytes, Tell};
+ghost use Rattle.lab_mend.specs.InStep.{AreAt};
+ghost use Rattle.lab_mend.specs.Merging.{AreListed, AreTried, HasConflictRoom, HasTriedRoom, MergingStands, ShowsMerge, tried_below, unsound_rows_below};
 ghost use Rattle.lab_mend.specs.Tried.{IsTrialRoom};
-ghost use Rattle.lab_mend.specs.Merged.{IsMerged, IsOfReading, IsOwnMerge, IsPinned, IsUnmerged, row_of};
+ghost use Rattle.lab_mend.specs.Merged.{IsMerged, IsOfReading, IsOwnMerge, IsPinned, IsUnmerged, pages_of_row};
 ghost use Rattle.lab_mend.specs.Rooms.{IsMergeRoom};
 
 use crate::in_step::{ReadingCut, ReadingFault, expect_ends, read_row};
@@ -105,18 +105,18 @@ fn merge_rows<R: DumpReader, T: PageTarget>(
     requires none { merging.old.unsound.items ≡ [] }
     requires none_tried { merging.old.tried.items ≡ [] }
     requires room { IsTrialRoom geometry.now (length readers.old) merging.old.room }
-    requires conflicts_room { HasRoom (row_count geometry.now) 0 merging.old.conflicts.items (vec_capacity merging.old.conflicts) }
-    requires unsound_room { HasRoom (row_count geometry.now) 0 merging.old.unsound.items (vec_capacity merging.old.unsound) }
+    requires conflicts_room { HasConflictRoom (row_count geometry.now) 0 merging.old.conflicts.items (vec_capacity merging.old.conflicts) }
+    requires unsound_room { HasConflictRoom (row_count geometry.now) 0 merging.old.unsound.items (vec_capacity merging.old.unsound) }
     requires tried_room { HasTriedRoom (row_count geometry.now) 0 merging.old.tried.items (vec_capacity merging.old.tried) }
-    requires shows { (rows : ℕ → List Page) → Shows geometry.now rows 0 merging.old.conflicts.items merging.old.tally (T.pieces merging.old.target) }
+    requires shows { (rows : ℕ → List Page) → ShowsMerge geometry.now rows 0 merging.old.conflicts.items merging.old.tally (T.pieces merging.old.target) }
     ensures stands { OnOk result (MergingStands geometry.now (row_count geometry.now) merging.new.conflicts.items merging.new.tally merging.new.scratch.items (T.pieces merging.new.target)) }
     ensures shows { OnOk result ((files : List (List ℕ)) → AreAt (map R.remaining readers.old) files 0
-        → Shows geometry.now (row_of geometry.now files) (row_count geometry.now) merging.new.conflicts.items merging.new.tally (T.pieces merging.new.target)) }
+        → ShowsMerge geometry.now (pages_of_row geometry.now files) (row_count geometry.now) merging.new.conflicts.items merging.new.tally (T.pieces merging.new.target)) }
     ensures unsound { OnOk result ((files : List (List ℕ)) → AreAt (map R.remaining readers.old) files 0
-        → merging.new.unsound.items ≡ unsound_below geometry.now (row_of geometry.now files) (row_count geometry.now)) }
+        → merging.new.unsound.items ≡ unsound_rows_below geometry.now (pages_of_row geometry.now files) (row_count geometry.now)) }
     ensures listed { OnOk result (AreListed (row_count geometry.now) merging.new.unsound.items) }
     ensures tried { OnOk result ((files : List (List ℕ)) → AreAt (map R.remaining readers.old) files 0
-        → merging.new.tried.items ≡ tried_below geometry.now (row_of geometry.now files) (row_count geometry.now)) }
+        → merging.new.tried.items ≡ tried_below geometry.now (pages_of_row geometry.now files) (row_count geometry.now)) }
     ensures tried_listed { OnOk result (AreTried (row_count geometry.now) merging.new.tried.items) }
     ensures count { OnOk result (length readers.new ≡ length readers.old) }
     ensures read { OnOk result ((files : List (List ℕ)) → AreAt (map R.remaining readers.old) files 0 → AreAt (map R.remaining readers.new) files (image_bytes geometry.now)) }
@@ -145,10 +145,10 @@ fn merge_all<R: DumpReader, T: PageTarget>(
     requires none { merging.old.unsound.items ≡ [] }
     requires none_tried { merging.old.tried.items ≡ [] }
     requires room { IsTrialRoom geometry.now (length readers.old) merging.old.room }
-    requires conflicts_room { HasRoom (row_count geometry.now) 0 merging.old.conflicts.items (vec_capacity merging.old.conflicts) }
-    requires unsound_room { HasRoom (row_count geometry.now) 0 merging.old.unsound.items (vec_capacity merging.old.unsound) }
+    requires conflicts_room { HasConflictRoom (row_count geometry.now) 0 merging.old.conflicts.items (vec_capacity merging.old.conflicts) }
+    requires unsound_room { HasConflictRoom (row_count geometry.now) 0 merging.old.unsound.items (vec_capacity merging.old.unsound) }
     requires tried_room { HasTriedRoom (row_count geometry.now) 0 merging.old.tried.items (vec_capacity merging.old.tried) }
-    requires shows { (rows : ℕ → List Page) → Shows geometry.now rows 0 merging.old.conflicts.items merging.old.tally (T.pieces merging.old.target) }
+    requires shows { (rows : ℕ → List Page) → ShowsMerge geometry.now rows 0 merging.old.conflicts.items merging.old.tally (T.pieces merging.old.target) }
     ensures ok { OnOk result ((files : List (List ℕ)) → Tell (map R.remaining readers.old) files → IsMerged geometry.now files merging.new.conflicts.items merging.new.unsound.items merging.new.tried.items merging.new.tally (T.pieces merging.new.target)) }
     ensures own { OnOk result (IsOwnMerge geometry.now merging.new.conflicts.items merging.new.unsound.items merging.new.tried.items (T.pieces merging.new.target)) }
     ensures reading { IfErr result (IsOfReading (length readers.old)) }

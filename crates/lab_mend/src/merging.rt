@@ -3,7 +3,7 @@ ghost use Rattle.std.specs.Prelude.{◌≡◌, ◌<◌, ◌+◌, ◌*◌, ◌^�
 ghost use Rattle.page_layout.specs.Geometry.{page_bytes, row_count};
 ghost use Rattle.page_layout.specs.Page.{Page};
 ghost use Rattle.lab_mend.specs.Pages.{pages_in};
-ghost use Rattle.lab_mend.specs.Merging.{AreListed, AreTried, HasRoom, HasTriedRoom, MergingStands, Shows, with_origin_counted, named, tried_below, tried_row, unsound_below, with_tried, with_unsound};
+ghost use Rattle.lab_mend.specs.Merging.{AreListed, AreTried, HasConflictRoom, HasTriedRoom, MergingStands, ShowsMerge, with_origin_counted, named, tried_below, tried_row, unsound_rows_below, with_tried, with_unsound};
 ghost use Rattle.lab_mend.specs.Tried.{IsTrialRoom};
 
 use crate::choice::{Origin, choose};
@@ -132,25 +132,25 @@ impl<T: PageTarget> Merging<T> {
         requires row_in { row < row_count geometry.now }
         requires some { 0 < count }
         requires whole { length pages.now ≡ count * page_bytes geometry.now }
-        requires conflicts_room { HasRoom (row_count geometry.now) row self.old.conflicts.items (vec_capacity self.old.conflicts) }
-        requires unsound_room { HasRoom (row_count geometry.now) row self.old.unsound.items (vec_capacity self.old.unsound) }
+        requires conflicts_room { HasConflictRoom (row_count geometry.now) row self.old.conflicts.items (vec_capacity self.old.conflicts) }
+        requires unsound_room { HasConflictRoom (row_count geometry.now) row self.old.unsound.items (vec_capacity self.old.unsound) }
         requires tried_room { HasTriedRoom (row_count geometry.now) row self.old.tried.items (vec_capacity self.old.tried) }
         requires room { IsTrialRoom geometry.now count self.old.room }
         requires stands { MergingStands geometry.now row self.old.conflicts.items self.old.tally self.old.scratch.items (T.pieces self.old.target) }
-        ensures conflicts_room { HasRoom (row_count geometry.now) (row + 1) self.new.conflicts.items (vec_capacity self.new.conflicts) }
-        ensures unsound_room { HasRoom (row_count geometry.now) (row + 1) self.new.unsound.items (vec_capacity self.new.unsound) }
+        ensures conflicts_room { HasConflictRoom (row_count geometry.now) (row + 1) self.new.conflicts.items (vec_capacity self.new.conflicts) }
+        ensures unsound_room { HasConflictRoom (row_count geometry.now) (row + 1) self.new.unsound.items (vec_capacity self.new.unsound) }
         ensures tried_room { HasTriedRoom (row_count geometry.now) (row + 1) self.new.tried.items (vec_capacity self.new.tried) }
         ensures room { IsTrialRoom geometry.now count self.new.room }
         ensures failed { OnErr result (T.failed self.new.target ≡ true) }
         ensures stands { OnOk result (MergingStands geometry.now (row + 1) self.new.conflicts.items self.new.tally self.new.scratch.items (T.pieces self.new.target)) }
         ensures unsound { OnOk result ((rows : ℕ → List Page) → rows row ≡ pages_in geometry.now pages.now count
-            → self.old.unsound.items ≡ unsound_below geometry.now rows row → self.new.unsound.items ≡ unsound_below geometry.now rows (row + 1)) }
+            → self.old.unsound.items ≡ unsound_rows_below geometry.now rows row → self.new.unsound.items ≡ unsound_rows_below geometry.now rows (row + 1)) }
         ensures listed { OnOk result (AreListed row self.old.unsound.items → AreListed (row + 1) self.new.unsound.items) }
         ensures tried { OnOk result ((rows : ℕ → List Page) → rows row ≡ pages_in geometry.now pages.now count
             → self.old.tried.items ≡ tried_below geometry.now rows row → self.new.tried.items ≡ tried_below geometry.now rows (row + 1)) }
         ensures tried_listed { OnOk result (AreTried row self.old.tried.items → AreTried (row + 1) self.new.tried.items) }
-        ensures shows { OnOk result ((rows : ℕ → List Page) → rows row ≡ pages_in geometry.now pages.now count → Shows geometry.now rows row self.old.conflicts.items self.old.tally (T.pieces self.old.target)
-            → Shows geometry.now rows (row + 1) self.new.conflicts.items self.new.tally (T.pieces self.new.target)) }
+        ensures shows { OnOk result ((rows : ℕ → List Page) → rows row ≡ pages_in geometry.now pages.now count → ShowsMerge geometry.now rows row self.old.conflicts.items self.old.tally (T.pieces self.old.target)
+            → ShowsMerge geometry.now rows (row + 1) self.new.conflicts.items self.new.tally (T.pieces self.new.target)) }
     {
         let origin = choose(geometry, pages, count, &mut self.room, &mut self.scratch);
         name_conflict(&mut self.conflicts, row, origin);

@@ -1,10 +1,10 @@
 //! A page that no single bit mends, of which each pair of bits is tried.
 ghost use Rattle.std.specs.Prelude.{◌≡◌, ◌<◌, ◌++◌, List, [], ◌∷◌, length};
 ghost use Rattle.page_layout.specs.Geometry.{page_bytes};
-ghost use Rattle.lab_dump.specs.PageBytes.{bits_of, page_of};
+ghost use Rattle.lab_dump.specs.PageBytes.{bits_of, page_from_bytes};
 ghost use Rattle.lab_mend.specs.declared.pairs.BitPair.{BitPair};
 ghost use Rattle.lab_mend.specs.Pairs.{by_pairs, pairs_with, second_bits, seen_with, sound_pairs};
-ghost use Rattle.lab_mend.specs.Seal.{HasTaken};
+ghost use Rattle.lab_mend.specs.Seal.{HasHashedPrefix};
 
 use crate::bits::turn;
 use crate::mending::Turned;
@@ -22,7 +22,7 @@ pub struct BitPair {
 
 /// What came of a page that is neither erased nor sound. (This project's.)
 #[derive(Clone, Copy, Debug, PartialEq, Eq)]
-pub enum Turn {
+pub enum BitTurn {
     /// One bit was turned.
     One(Turned),
     /// Two bits were turned, which alone make the page sound.
@@ -66,13 +66,13 @@ impl Seen {
     }
 
     // What is turned.
-    fn turn(self) -> Turn
+    fn turn(self) -> BitTurn
         ensures { result ≡ seen_with self [] }
     {
         match self {
-            Seen::Never => Turn::Nothing,
-            Seen::Once(pair) => Turn::Two(pair),
-            Seen::Twice => Turn::Tied,
+            Seen::Never => BitTurn::Nothing,
+            Seen::Once(pair) => BitTurn::Two(pair),
+            Seen::Twice => BitTurn::Tied,
         }
     }
 }
@@ -82,9 +82,9 @@ impl Seen {
 fn try_second(geometry: &Geometry, bytes: &mut [u8], prefix: &Prefix, low: u32, seen: Seen) -> Seen
     requires whole { length bytes.old ≡ page_bytes geometry.now }
     requires low_in { low < bits_of bytes.old }
-    requires taken { HasTaken geometry.now.data_bytes bytes.old low prefix.now }
+    requires taken { HasHashedPrefix geometry.now.data_bytes bytes.old low prefix.now }
     ensures same { bytes.new ≡ bytes.old }
-    ensures seen { (more : List BitPair) → seen_with result more ≡ seen_with seen (pairs_with low (second_bits (page_of geometry.now.data_bytes bytes.old) low) ++ more) }
+    ensures seen { (more : List BitPair) → seen_with result more ≡ seen_with seen (pairs_with low (second_bits (page_from_bytes geometry.now.data_bytes bytes.old) low) ++ more) }
 {
     let bits = 8 * bytes.len() as u32;
     let mut prefix = prefix.copy();
@@ -106,10 +106,10 @@ pub(crate) fn try_pairs<W: Watch>(
     row: u32,
     bytes: &mut [u8],
     watch: &mut W,
-) -> Turn
+) -> BitTurn
     requires { length bytes.old ≡ page_bytes geometry.now }
     ensures same { bytes.new ≡ bytes.old }
-    ensures turn { result ≡ by_pairs (sound_pairs (page_of geometry.now.data_bytes bytes.old)) }
+    ensures turn { result ≡ by_pairs (sound_pairs (page_from_bytes geometry.now.data_bytes bytes.old)) }
 {
     let bits = 8 * bytes.len() as u32;
     let mut prefix = Prefix::new();

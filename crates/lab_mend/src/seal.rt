@@ -2,8 +2,8 @@
 ghost use Rattle.std.specs.Prelude.{◌≡◌, ◌≤◌, ◌+◌, ◌*◌, ℕ, List, true, length, take};
 ghost use Rattle.page_layout.specs.Geometry.{page_bytes};
 ghost use Rattle.sha2.specs.Hashers.{Holds256};
-ghost use Rattle.lab_dump.specs.PageBytes.{is_sound, page_of};
-ghost use Rattle.lab_mend.specs.Seal.{HasTaken, begins_as_record};
+ghost use Rattle.lab_dump.specs.PageBytes.{is_sound, page_from_bytes};
+ghost use Rattle.lab_mend.specs.Seal.{HasHashedPrefix, begins_as_record};
 
 use page_layout::geometry::Geometry;
 use sha2::{Digest, Sha256};
@@ -31,7 +31,7 @@ fn may_be_sound(prefix: &Prefix, size: usize, bytes: &[u8]) -> bool
     requires holds { Holds256 prefix.now.hasher (take prefix.now.taken bytes.now) }
     requires within { prefix.now.taken ≤ size }
     requires room { size + 32 ≤ length bytes.now }
-    ensures { is_sound (page_of size bytes.now) ≡ true → result ≡ true }
+    ensures { is_sound (page_from_bytes size bytes.now) ≡ true → result ≡ true }
 {
     let spare = &bytes[size..];
     if !begins_as_record(spare) {
@@ -47,12 +47,12 @@ fn may_be_sound(prefix: &Prefix, size: usize, bytes: &[u8]) -> bool
 impl Prefix {
     ghost use Rattle.std.specs.Prelude.{◌≡◌, ◌+◌, ◌*◌, ℕ, List, length};
     ghost use Rattle.page_layout.specs.Geometry.{page_bytes};
-    ghost use Rattle.lab_dump.specs.PageBytes.{is_sound, page_of};
-    ghost use Rattle.lab_mend.specs.Seal.{HasTaken};
+    ghost use Rattle.lab_dump.specs.PageBytes.{is_sound, page_from_bytes};
+    ghost use Rattle.lab_mend.specs.Seal.{HasHashedPrefix};
 
     /// One that has taken no byte.
     pub(crate) fn new() -> Prefix
-        ensures { (size : ℕ) (bytes : List ℕ) → HasTaken size bytes 0 result }
+        ensures { (size : ℕ) (bytes : List ℕ) → HasHashedPrefix size bytes 0 result }
     {
         Prefix {
             hasher: Sha256::new(),
@@ -62,7 +62,7 @@ impl Prefix {
 
     /// Another one that has taken the same bytes, or where that cannot be none.
     pub(crate) fn copy(&self) -> Prefix
-        ensures { (size bit : ℕ) (bytes : List ℕ) → HasTaken size bytes bit self.now → HasTaken size bytes bit result }
+        ensures { (size bit : ℕ) (bytes : List ℕ) → HasHashedPrefix size bytes bit self.now → HasHashedPrefix size bytes bit result }
     {
         match self.hasher.clone() {
             Ok(hasher) => Prefix {
@@ -76,8 +76,8 @@ impl Prefix {
     /// Whether the page of these bytes, which begins with those that were taken, is sound.
     pub(crate) fn is_sound(&self, geometry: &Geometry, bytes: &[u8], bit: u32) -> bool
         requires whole { length bytes.now ≡ page_bytes geometry.now }
-        requires taken { HasTaken geometry.now.data_bytes bytes.now bit self.now }
-        ensures { result ≡ is_sound (page_of geometry.now.data_bytes bytes.now) }
+        requires taken { HasHashedPrefix geometry.now.data_bytes bytes.now bit self.now }
+        ensures { result ≡ is_sound (page_from_bytes geometry.now.data_bytes bytes.now) }
     {
         may_be_sound(self, geometry.data_bytes(), bytes) && lab_dump::is_sound(geometry, bytes)
     }
@@ -85,8 +85,8 @@ impl Prefix {
     /// Takes the byte of a bit of the data area, where that is its last bit.
     pub(crate) fn pass(&mut self, geometry: &Geometry, bytes: &[u8], bit: u32)
         requires whole { length bytes.now ≡ page_bytes geometry.now }
-        requires taken { HasTaken geometry.now.data_bytes bytes.now bit self.old }
-        ensures { HasTaken geometry.now.data_bytes bytes.now (bit + 1) self.new }
+        requires taken { HasHashedPrefix geometry.now.data_bytes bytes.now bit self.old }
+        ensures { HasHashedPrefix geometry.now.data_bytes bytes.now (bit + 1) self.new }
     {
         if bit % 8 == 7 && self.taken < geometry.data_bytes() {
             self.hasher.update(&bytes[self.taken..self.taken + 1]);

@@ -3,13 +3,13 @@ ghost use Rattle.std.specs.Prelude.{◌≡◌, ◌<◌, ◌≤◌, ◌+◌, ◌*
 ghost use Rattle.std.specs.List.{filter, list_any, range_with_len};
 ghost use Rattle.page_layout.specs.Geometry.{page_bytes};
 ghost use Rattle.page_layout.specs.Page.{Page};
-ghost use Rattle.lab_dump.specs.PageBytes.{bits_of, is_sound, page_bit, page_of};
+ghost use Rattle.lab_dump.specs.PageBytes.{bits_of, is_sound, page_bit, page_from_bytes};
 ghost use Rattle.lab_mend.specs.declared.choice.Origin.TheVariants.{Tried};
 ghost use Rattle.lab_mend.specs.Choice.{by_turns};
 ghost use Rattle.lab_mend.specs.Found.{WritesChoice};
-ghost use Rattle.lab_mend.specs.Pages.{page_in};
-ghost use Rattle.lab_mend.specs.Trial.{bits_apart, differ_in, with_turned};
-ghost use Rattle.lab_mend.specs.Tried.{IsMet, first_at, pages_at, with_bit};
+ghost use Rattle.lab_mend.specs.Pages.{page_of_reading};
+ghost use Rattle.lab_mend.specs.Trial.{differing_bits, differ_in, with_turned};
+ghost use Rattle.lab_mend.specs.Tried.{SoundPagesComeTo, first_at, pages_at, with_bit};
 
 use crate::bits::turn;
 use lab_dump::is_sound;
@@ -54,7 +54,7 @@ pub(crate) struct TrialRoom {
 // One sound page more. The first is kept.
 fn meet(bytes: &[u8], kept: &mut [u8], met: Met) -> Met
     requires { length kept.old ≡ length bytes.now }
-    ensures { (size : ℕ) (sound : List Page) → IsMet size sound kept.old met → IsMet size (sound ++ (page_of size bytes.now ∷ [])) kept.new result }
+    ensures { (size : ℕ) (sound : List Page) → SoundPagesComeTo size sound kept.old met → SoundPagesComeTo size (sound ++ (page_from_bytes size bytes.now ∷ [])) kept.new result }
 {
     match met {
         Met::Never => {
@@ -76,8 +76,8 @@ fn meet(bytes: &[u8], kept: &mut [u8], met: Met) -> Met
 fn try_page(geometry: &Geometry, bytes: &[u8], kept: &mut [u8], met: Met) -> Met
     requires whole { length bytes.now ≡ page_bytes geometry.now }
     requires room { length kept.old ≡ page_bytes geometry.now }
-    ensures { (sound : List Page) → IsMet geometry.now.data_bytes sound kept.old met
-        → IsMet geometry.now.data_bytes (sound ++ filter is_sound (page_of geometry.now.data_bytes bytes.now ∷ [])) kept.new result }
+    ensures { (sound : List Page) → SoundPagesComeTo geometry.now.data_bytes sound kept.old met
+        → SoundPagesComeTo geometry.now.data_bytes (sound ++ filter is_sound (page_from_bytes geometry.now.data_bytes bytes.now ∷ [])) kept.new result }
 {
     if is_sound(geometry, bytes) {
         meet(bytes, kept, met)
@@ -99,8 +99,8 @@ fn try_turned(
     requires room { length kept.old ≡ page_bytes geometry.now }
     requires within { All (λ k. k < bits_of bytes.old) bits.now }
     ensures same { bytes.new ≡ bytes.old }
-    ensures met { (sound : List Page) → IsMet geometry.now.data_bytes sound kept.old met
-        → IsMet geometry.now.data_bytes (sound ++ filter is_sound (with_turned (page_of geometry.now.data_bytes bytes.old) bits.now turned)) kept.new result }
+    ensures met { (sound : List Page) → SoundPagesComeTo geometry.now.data_bytes sound kept.old met
+        → SoundPagesComeTo geometry.now.data_bytes (sound ++ filter is_sound (with_turned (page_from_bytes geometry.now.data_bytes bytes.old) bits.now turned)) kept.new result }
 {
     if turned == 0 {
         return try_page(geometry, bytes, kept, met);
@@ -120,7 +120,7 @@ pub(crate) fn try_all(geometry: &Geometry, bits: &[u32], kept: &mut [u8], out: &
     requires room { length kept.old ≡ page_bytes geometry.now }
     requires within { All (λ k. k < bits_of out.old) bits.now }
     requires few { length bits.now ≤ 16 }
-    ensures { WritesChoice (by_turns (page_of geometry.now.data_bytes out.old) bits.now (range_with_len 1 (length bits.now))) (Tried result) out.new }
+    ensures { WritesChoice (by_turns (page_from_bytes geometry.now.data_bytes out.old) bits.now (range_with_len 1 (length bits.now))) (Tried result) out.new }
 {
     let differing = bits.len() as u32;
     for turned in 1..differing + 1 {
@@ -140,7 +140,7 @@ pub(crate) fn try_all(geometry: &Geometry, bits: &[u32], kept: &mut [u8], out: &
 fn bit_of(geometry: &Geometry, pages: &[u8], i: usize, bit: u32) -> u8
     requires within { i * page_bytes geometry.now + page_bytes geometry.now ≤ length pages.now }
     requires bit_in { bit < 8 * page_bytes geometry.now }
-    ensures { result ≡ page_bit (page_in geometry.now pages.now i) bit }
+    ensures { result ≡ page_bit (page_of_reading geometry.now pages.now i) bit }
 {
     let size = geometry.data_bytes() + geometry.spare_bytes();
     pages[i * size + bit as usize / 8] >> (bit % 8) & 1
@@ -202,9 +202,9 @@ pub(crate) fn list_bits(
     requires within { All (λ i. i * page_bytes geometry.now + page_bytes geometry.now ≤ length pages.now) places.now }
     requires room { 16 ≤ vec_capacity bits.old }
     ensures room { vec_capacity bits.new ≡ vec_capacity bits.old }
-    ensures few { result ≡ true → bits.new.items ≡ bits_apart (first_at geometry.now pages.now places.now) (pages_at geometry.now pages.now places.now) }
+    ensures few { result ≡ true → bits.new.items ≡ differing_bits (first_at geometry.now pages.now places.now) (pages_at geometry.now pages.now places.now) }
     ensures most { result ≡ true → length bits.new.items ≤ 16 }
-    ensures many { result ≡ false → 16 < length (bits_apart (first_at geometry.now pages.now places.now) (pages_at geometry.now pages.now places.now)) }
+    ensures many { result ≡ false → 16 < length (differing_bits (first_at geometry.now pages.now places.now) (pages_at geometry.now pages.now places.now)) }
 {
     bits.clear();
     let count = 8 * (geometry.data_bytes() + geometry.spare_bytes()) as u32;

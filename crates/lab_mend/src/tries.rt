@@ -4,7 +4,7 @@ ghost use Rattle.page_layout.specs.Geometry.{page_bytes};
 ghost use Rattle.lab_mend.specs.Tries.{differing, tries_in, tries_of, turn_tries};
 
 use crate::merging::TriedRow;
-use crate::pairs::Turn;
+use crate::pairs::BitTurn;
 use crate::repairing::Mend;
 use crate::trial::Trial;
 use page_layout::geometry::Geometry;
@@ -41,13 +41,14 @@ pub fn count_tries(tried: &[TriedRow]) -> u64
 }
 
 // How many pages were tried at most of one with so many bits: each bit was turned, and where none served each pair of bits.
-fn tries_of(bits: u32, turn: Turn) -> u64
+fn tries_of(bits: u32, turn: BitTurn) -> u64
     ensures { result ≡ tries_of bits turn }
 {
     let bits = bits as u64;
     match turn {
-        Turn::One(_) => bits,
-        Turn::Two(_) | Turn::Tied | Turn::Nothing => bits + bits * bits.saturating_sub(1) / 2,
+        BitTurn::One(_) => bits,
+        BitTurn::Two(_) | BitTurn::Tied | BitTurn::Nothing => bits
+            + bits * bits.saturating_sub(1) / 2,
     }
 }
 

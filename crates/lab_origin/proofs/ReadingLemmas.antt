@@ -4,7 +4,8 @@ use Rattle.std.proofs.lemmas.List.{get_or-map, get_or-set_same, length-map, map-
 use Rattle.std.proofs.lemmas.List.Folds.{list_any_at, list_any_more}
 use Rattle.std.proofs.Math.Seq.{map-set_same, take-length}
 use Rattle.lab_origin.specs.Origin.{has_at}
-use Rattle.lab_origin.specs.Tracing.{Tell, have_at}
+use Rattle.lab_dump.specs.Scan.{Tell}
+use Rattle.lab_origin.specs.Tracing.{have_at}
 
 -- what one of them tells
 pub tell_at : {X : Type 0} (f : X → Option (List ℕ)) (xs : List X) (files : List (List ℕ)) (i : ℕ) (d : X) → Tell (map f xs) files → i < length xs → f (get_or xs i d) ≡ Some (get_or files i [])

@@ -25,7 +25,7 @@ use Rattle.page_layout.proofs.NewestLemmas.{sequence_at-other, sequence_at-key}
 use Rattle.page_layout.proofs.RawLemmas.{raw_image-at, length-raw_image}
 use Rattle.page_layout.proofs.StepLemmas.{erased_unsound}
 use Rattle.image_check.proofs.SurveyLemmas.{latest_more, latest_other, latest_start}
-use Rattle.lab_dump.specs.PageBytes.{page_of}
+use Rattle.lab_dump.specs.PageBytes.{page_from_bytes}
 use Rattle.lab_dump.proofs.PageLemmas.{page_sliced}
 use Rattle.lab_dump.specs.Until.{record_until, is_later, page_until, until}
 use Rattle.lab_dump.specs.Writing.{sector_in}
@@ -34,8 +34,8 @@ use Rattle.lab_dump.specs.declared.mark.MapMark.{MapMark}
 use Rattle.lab_dump.specs.declared.mark.MapMark.TheVariants as mark
 use Rattle.lab_origin.specs.declared.newest.Change.{Change}
 use Rattle.lab_origin.specs.declared.newest.Change.TheVariants as change
-use Rattle.lab_origin.specs.Origin.{image_of, is_read, mark_by, mark_of, marks_of, read_mark, row_bytes}
-use Rattle.lab_origin.specs.Tracing.{AreSized, PageChanges, Shows}
+use Rattle.lab_origin.specs.Origin.{image_of, is_in_a_reading, mark_by_latest, sector_mark_of, marks_of, read_mark, row_bytes}
+use Rattle.lab_origin.specs.Tracing.{HasSectorPlaces, PageChanges, ShowsOrigins}
 
 -- ---- what a page does
 
@@ -73,18 +73,18 @@ MarkIs change.Stays read was new = new ≡ was
 MarkIs change.Newest read was new = new ≡ read_mark read
 MarkIs change.Tie read was new = new ≡ mark.Bad
 
-pub marked : (read : ℕ → Bool) (row : ℕ) (c : Change) (before after : Latest) (was new : MapMark) → PageChanges c row before after → was ≡ mark_by read before → MarkIs c (read row) was new → new ≡ mark_by read after
-marked read row change.Stays before after was new does held is = is ∙ (held ∙ ap (mark_by read) (sym does))
-marked read row change.Newest before after was new does held is = is ∙ sym (ap (mark_by read) does.1)
-marked read row change.Tie before after was new does held is = is ∙ sym (ap (mark_by read) does.3)
+pub marked : (read : ℕ → Bool) (row : ℕ) (c : Change) (before after : Latest) (was new : MapMark) → PageChanges c row before after → was ≡ mark_by_latest read before → MarkIs c (read row) was new → new ≡ mark_by_latest read after
+marked read row change.Stays before after was new does held is = is ∙ (held ∙ ap (mark_by_latest read) (sym does))
+marked read row change.Newest before after was new does held is = is ∙ sym (ap (mark_by_latest read) does.1)
+marked read row change.Tie before after was new does held is = is ∙ sym (ap (mark_by_latest read) does.3)
 
 -- ---- a row
 
 -- one that says nothing of a sector
-pub not_taken : (g : Geometry) (records : List (Option Record)) (read : ℕ → Bool) (row : ℕ) (ls : List Latest) (ms : List MapMark) → Shows g records read row ls ms → IsOfNone g records row → Shows g records read (row + 1) ls ms
+pub not_taken : (g : Geometry) (records : List (Option Record)) (read : ℕ → Bool) (row : ℕ) (ls : List Latest) (ms : List MapMark) → ShowsOrigins g records read row ls ms → IsOfNone g records row → ShowsOrigins g records read (row + 1) ls ms
 not_taken g records read row ls ms h none = record {
   latest_is = λ n l. h.latest_is n l ∙ sym (latest_other records (key.Sector n) row (none n l));
-  mark_is = λ n l. h.mark_is n l ∙ ap (mark_by read) (sym (latest_other records (key.Sector n) row (none n l)));
+  mark_is = λ n l. h.mark_is n l ∙ ap (mark_by_latest read) (sym (latest_other records (key.Sector n) row (none n l)));
 }
 
 others : (records : List (Option Record)) (row n : ℕ) (r : Record) → get_or records row None ≡ Some r → key_of r ≡ key.Sector n → (m : ℕ) → m ≢ n → sequence_at records (key.Sector m) row ≡ None
@@ -96,9 +96,9 @@ here records row n r at same =
     latest_more records (key.Sector n) row ∙ ap (step (latest_below records (key.Sector n) row) row) seen
 
 -- one of a sound page of sector n, which makes this of what is held
-pub taken : (g : Geometry) (records : List (Option Record)) (read : ℕ → Bool) (row n : ℕ) (r : Record) (ls : List Latest) (ms : List MapMark) (old next : Latest) (new : MapMark) (c : Change) → Shows g records read row ls ms → AreSized g ls ms
+pub taken : (g : Geometry) (records : List (Option Record)) (read : ℕ → Bool) (row n : ℕ) (r : Record) (ls : List Latest) (ms : List MapMark) (old next : Latest) (new : MapMark) (c : Change) → ShowsOrigins g records read row ls ms → HasSectorPlaces g ls ms
     → sector_in g r ≡ Some n → get_or records row None ≡ Some r → old ≡ get_or ls n old → next ≡ step old row (Some r.sequence) → PageChanges c row old next → MarkIs c (read row) (get_or ms n mark.Untried) new
-    → Shows g records read (row + 1) (set ls n next) (set ms n new)
+    → ShowsOrigins g records read (row + 1) (set ls n next) (set ms n new)
 taken g records read row n r ls ms old next new c h sized in_die at old_is next_is does is =
     let its = within_is g r n in_die in
     let in_range : n < g.sectors = its.1 in
@@ -107,20 +107,20 @@ taken g records read row n r ls ms old next new c h sized in_die at old_is next_
     let more = here records row n r at its.0 in
     let held : old ≡ latest_below records (key.Sector n) row = old_is ∙ (get_or_default ls n old latest.Never (omega arith) ∙ h.latest_is n in_range) in
     let after : next ≡ latest_below records (key.Sector n) (row + 1) = next_is ∙ (ap (λ l. step l row (Some r.sequence)) held ∙ sym more) in
-    let stood : get_or ms n mark.Untried ≡ mark_by read old = h.mark_is n in_range ∙ ap (mark_by read) (sym held) in
-    let made : new ≡ mark_by read next = marked read row c old next (get_or ms n mark.Untried) new does stood is in
+    let stood : get_or ms n mark.Untried ≡ mark_by_latest read old = h.mark_is n in_range ∙ ap (mark_by_latest read) (sym held) in
+    let made : new ≡ mark_by_latest read next = marked read row c old next (get_or ms n mark.Untried) new does stood is in
     record {
       latest_is = λ m l. elim (cases_eq m n) [
         | inl same ↦ ap (λ k. get_or (set ls n next) k latest.Never) same ∙ (get_or-set_same ls n next latest.Never (omega arith) ∙ (after ∙ ap (λ k. latest_below records (key.Sector k) (row + 1)) (sym same)))
         | inr ne ↦ get_or-set_other ls n m next latest.Never ne ∙ (h.latest_is m l ∙ sym (latest_other records (key.Sector m) row (others records row n r at its.0 m ne)))
       ];
       mark_is = λ m l. elim (cases_eq m n) [
-        | inl same ↦ ap (λ k. get_or (set ms n new) k mark.Untried) same ∙ (get_or-set_same ms n new mark.Untried (omega arith) ∙ (made ∙ (ap (mark_by read) after ∙ ap (λ k. mark_by read (latest_below records (key.Sector k) (row + 1))) (sym same))))
-        | inr ne ↦ get_or-set_other ms n m new mark.Untried ne ∙ (h.mark_is m l ∙ ap (mark_by read) (sym (latest_other records (key.Sector m) row (others records row n r at its.0 m ne))))
+        | inl same ↦ ap (λ k. get_or (set ms n new) k mark.Untried) same ∙ (get_or-set_same ms n new mark.Untried (omega arith) ∙ (made ∙ (ap (mark_by_latest read) after ∙ ap (λ k. mark_by_latest read (latest_below records (key.Sector k) (row + 1))) (sym same))))
+        | inr ne ↦ get_or-set_other ms n m new mark.Untried ne ∙ (h.mark_is m l ∙ ap (mark_by_latest read) (sym (latest_other records (key.Sector m) row (others records row n r at its.0 m ne))))
       ];
     }
 
-pub taken_sized : (g : Geometry) (ls : List Latest) (ms : List MapMark) (n : ℕ) (next : Latest) (new : MapMark) → AreSized g ls ms → AreSized g (set ls n next) (set ms n new)
+pub taken_sized : (g : Geometry) (ls : List Latest) (ms : List MapMark) (n : ℕ) (next : Latest) (new : MapMark) → HasSectorPlaces g ls ms → HasSectorPlaces g (set ls n next) (set ms n new)
 taken_sized g ls ms n next new h = record { latest_size = length-set ls n next ∙ h.latest_size; marks_size = length-set ms n new ∙ h.marks_size }
 
 -- ---- the image as of a sequence
@@ -144,34 +144,34 @@ counted_record g (Some l) p = by (is_later l (record_of p))
 
 -- ---- before the first row, and behind the last one
 
-pub nothing_yet : (g : Geometry) (ls : List Latest) (ms : List MapMark) → ls ≡ replicate g.sectors latest.Never → ms ≡ replicate g.sectors mark.Untried → (records : List (Option Record)) (read : ℕ → Bool) → Shows g records read 0 ls ms
+pub nothing_yet : (g : Geometry) (ls : List Latest) (ms : List MapMark) → ls ≡ replicate g.sectors latest.Never → ms ≡ replicate g.sectors mark.Untried → (records : List (Option Record)) (read : ℕ → Bool) → ShowsOrigins g records read 0 ls ms
 nothing_yet g ls ms a b records read = record {
   latest_is = λ n l. ap (λ xs. get_or xs n latest.Never) a ∙ (get_or-replicate g.sectors n latest.Never latest.Never l ∙ sym (latest_start records (key.Sector n)));
-  mark_is = λ n l. ap (λ xs. get_or xs n mark.Untried) b ∙ (get_or-replicate g.sectors n mark.Untried mark.Untried l ∙ sym (ap (mark_by read) (latest_start records (key.Sector n))));
+  mark_is = λ n l. ap (λ xs. get_or xs n mark.Untried) b ∙ (get_or-replicate g.sectors n mark.Untried mark.Untried l ∙ sym (ap (mark_by_latest read) (latest_start records (key.Sector n))));
 }
 
-pub sized_first : (g : Geometry) (ls : List Latest) (ms : List MapMark) → ls ≡ replicate g.sectors latest.Never → ms ≡ replicate g.sectors mark.Untried → AreSized g ls ms
+pub sized_first : (g : Geometry) (ls : List Latest) (ms : List MapMark) → ls ≡ replicate g.sectors latest.Never → ms ≡ replicate g.sectors mark.Untried → HasSectorPlaces g ls ms
 sized_first g ls ms a b = record { latest_size = ap length a ∙ length-replicate g.sectors latest.Never; marks_size = ap length b ∙ length-replicate g.sectors mark.Untried }
 
-pub all_marks : (g : Geometry) (last : Option ℕ) (all : List ℕ) (files : List (List ℕ)) (ls : List Latest) (ms : List MapMark) → AreSized g ls ms → Shows g (marks (image_of g last all)) (is_read g all files) (row_count g) ls ms → ms ≡ marks_of g last all files
-unfolding mark_of
+pub all_marks : (g : Geometry) (last : Option ℕ) (all : List ℕ) (files : List (List ℕ)) (ls : List Latest) (ms : List MapMark) → HasSectorPlaces g ls ms → ShowsOrigins g (marks (image_of g last all)) (is_in_a_reading g all files) (row_count g) ls ms → ms ≡ marks_of g last all files
+unfolding sector_mark_of
 all_marks g last all files ls ms sized h =
-    let f = mark_of g last all files in
+    let f = sector_mark_of g last all files in
     let size : length (image_of g last all) ≡ row_count g = until_size g last (raw_image g all) ∙ length-raw_image g all in
     same_lists ms (map f (range_with_len 0 g.sectors)) (sized.marks_size ∙ sym (length-map-range_with_len f 0 g.sectors)) (λ n d l.
     let few = sized.marks_size in
     let within : n < g.sectors = omega arith in
     get_or_default ms n d mark.Untried l
     ∙ (h.mark_is n within
-    ∙ (ap (λ k. mark_by (is_read g all files) (latest_below (marks (image_of g last all)) (key.Sector n) k)) (sym size)
+    ∙ (ap (λ k. mark_by_latest (is_in_a_reading g all files) (latest_below (marks (image_of g last all)) (key.Sector n) k)) (sym size)
     ∙ sym (get_or-map-range_with_len f 0 g.sectors n n d within (omega arith)))))
 
 -- ---- the page of a row as its bytes
 
 -- what counts of it
-pub record_at : (g : Geometry) (last : Option ℕ) (all piece : List ℕ) (row : ℕ) → row < row_count g → piece ≡ row_bytes g all row → get_or (marks (image_of g last all)) row None ≡ record_until last (record_of (page_of g.data_bytes piece))
+pub record_at : (g : Geometry) (last : Option ℕ) (all piece : List ℕ) (row : ℕ) → row < row_count g → piece ≡ row_bytes g all row → get_or (marks (image_of g last all)) row None ≡ record_until last (record_of (page_from_bytes g.data_bytes piece))
 record_at g last all piece row l is =
     let p : Page = page_from g all (row * page_bytes g) in
     let image : Image = raw_image g all in
-    let same : page_of g.data_bytes piece ≡ p = ap (page_of g.data_bytes) is ∙ page_sliced g all (row * page_bytes g) in
+    let same : page_from_bytes g.data_bytes piece ≡ p = ap (page_from_bytes g.data_bytes) is ∙ page_sliced g all (row * page_bytes g) in
     mark-page (until g last image) row (page_until g last p) (until_page g last image row p (raw_image-at g all row l)) ∙ (counted_record g last p ∙ ap (λ q. record_until last (record_of q)) (sym same))

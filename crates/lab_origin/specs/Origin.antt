@@ -12,7 +12,7 @@ use Rattle.page_layout.specs.Newest.{IsNewest, latest_below}
 use Rattle.page_layout.specs.Array.{marks}
 use Rattle.page_layout.specs.Raw.{raw_image}
 use Rattle.lab_dump.specs.Until.{until}
-use Rattle.lab_dump.specs.Written.{state_of}
+use Rattle.lab_dump.specs.Written.{sector_state}
 use Rattle.lab_dump.specs.declared.held.SectorShown.{SectorShown}
 use Rattle.lab_dump.specs.declared.held.SectorShown.TheVariants as shown
 use Rattle.lab_dump.specs.declared.mark.MapMark.{MapMark}
@@ -29,8 +29,8 @@ abbrev pub has_at : ℕ → List ℕ → List ℕ → Bool
 has_at at piece bytes = bytes_eq (slice_range bytes at (at + length piece)) piece
 
 -- whether one of the readings has the row's page of the dump, byte for byte
-unfoldable pub is_read : Geometry → List ℕ → List (List ℕ) → ℕ → Bool
-is_read g dump readings row = list_any (λ reading. bytes_eq (row_bytes g reading row) (row_bytes g dump row)) readings
+unfoldable pub is_in_a_reading : Geometry → List ℕ → List (List ℕ) → ℕ → Bool
+is_in_a_reading g dump readings row = list_any (λ reading. bytes_eq (row_bytes g reading row) (row_bytes g dump row)) readings
 
 -- ---- a sector
 
@@ -39,10 +39,10 @@ read_mark true = mark.Finished
 read_mark false = mark.Mended
 
 -- how it is marked by what is known of its newest page, where this says of which rows a reading has the page
-abbrev pub mark_by : (ℕ → Bool) → Latest → MapMark
-mark_by read Never = mark.Untried
-mark_by read (Once row s) = read_mark (read row)
-mark_by read (Tied a b s) = mark.Bad
+abbrev pub mark_by_latest : (ℕ → Bool) → Latest → MapMark
+mark_by_latest read Never = mark.Untried
+mark_by_latest read (Once row s) = read_mark (read row)
+mark_by_latest read (Tied a b s) = mark.Bad
 
 -- the dump as of a sequence, where one is said
 abbrev pub image_of : Geometry → Option ℕ → List ℕ → Image
@@ -50,12 +50,12 @@ image_of g last dump = until g last (raw_image g dump)
 
 -- HOW SECTOR N IS MARKED
 -- Laws: `Mended` just where no reading has its newest page (`MendedLaw`), and else as the array's own map has it (`AlikeLaw`).
-unfoldable pub mark_of : Geometry → Option ℕ → List ℕ → List (List ℕ) → ℕ → MapMark
-mark_of g last dump readings n = mark_by (is_read g dump readings) (latest_below (marks (image_of g last dump)) (Sector n) (length (image_of g last dump)))
+unfoldable pub sector_mark_of : Geometry → Option ℕ → List ℕ → List (List ℕ) → ℕ → MapMark
+sector_mark_of g last dump readings n = mark_by_latest (is_in_a_reading g dump readings) (latest_below (marks (image_of g last dump)) (Sector n) (length (image_of g last dump)))
 
 -- all sectors, in order
 abbrev pub marks_of : Geometry → Option ℕ → List ℕ → List (List ℕ) → List MapMark
-marks_of g last dump readings = map (mark_of g last dump readings) (range_with_len 0 g.sectors)
+marks_of g last dump readings = map (sector_mark_of g last dump readings) (range_with_len 0 g.sectors)
 
 abbrev pub is_mended : MapMark → Bool
 is_mended mark.Untried = false
@@ -72,7 +72,7 @@ pub record IsOfNone (g : Geometry) (last : Option ℕ) (dump : List ℕ) (readin
 
 -- A sector is marked so just where its newest page stands in no reading.
 abbrev pub MendedLaw : Type 0
-MendedLaw = (g : Geometry) (last : Option ℕ) (dump : List ℕ) (readings : List (List ℕ)) (n : ℕ) → (mark_of g last dump readings n ≡ mark.Mended) ↔ ((row : ℕ) × IsOfNone g last dump readings n row)
+MendedLaw = (g : Geometry) (last : Option ℕ) (dump : List ℕ) (readings : List (List ℕ)) (n : ℕ) → (sector_mark_of g last dump readings n ≡ mark.Mended) ↔ ((row : ℕ) × IsOfNone g last dump readings n row)
 
 -- This row has the newest page of sector n, and one of the readings has it too.
 pub record IsOriginOf (g : Geometry) (last : Option ℕ) (dump : List ℕ) (readings : List (List ℕ)) (n row : ℕ) : Type 0 where
@@ -83,7 +83,7 @@ pub record IsOriginOf (g : Geometry) (last : Option ℕ) (dump : List ℕ) (read
 
 -- It is finished just where a reading has its newest page.
 abbrev pub FinishedLaw : Type 0
-FinishedLaw = (g : Geometry) (last : Option ℕ) (dump : List ℕ) (readings : List (List ℕ)) (n : ℕ) → (mark_of g last dump readings n ≡ mark.Finished) ↔ ((row : ℕ) × IsOriginOf g last dump readings n row)
+FinishedLaw = (g : Geometry) (last : Option ℕ) (dump : List ℕ) (readings : List (List ℕ)) (n : ℕ) → (sector_mark_of g last dump readings n ≡ mark.Finished) ↔ ((row : ℕ) × IsOriginOf g last dump readings n row)
 
 -- how the array's own map has it, which knows of no reading
 abbrev pub plain : MapMark → SectorShown
@@ -94,4 +94,4 @@ plain mark.Bad = shown.Tied
 
 -- But for that the map is the array's.
 abbrev pub AlikeLaw : Type 0
-AlikeLaw = (g : Geometry) (last : Option ℕ) (dump : List ℕ) (readings : List (List ℕ)) (n : ℕ) → plain (mark_of g last dump readings n) ≡ state_of (image_of g last dump) n
+AlikeLaw = (g : Geometry) (last : Option ℕ) (dump : List ℕ) (readings : List (List ℕ)) (n : ℕ) → plain (sector_mark_of g last dump readings n) ≡ sector_state (image_of g last dump) n

@@ -12,46 +12,46 @@ use Rattle.lab_origin.specs.Origin.{marks_of}
 -- ---- done
 
 -- each reading has as many bytes as an image
-abbrev pub AreWhole : Geometry → List (List ℕ) → Type 0
-AreWhole g files = (i : ℕ) → i < length files → length (get_or files i []) ≡ image_bytes g
+abbrev pub AreReadingsWhole : Geometry → List (List ℕ) → Type 0
+AreReadingsWhole g files = (i : ℕ) → i < length files → length (get_or files i []) ≡ image_bytes g
 
 -- So have the dump and its readings, and the marks are those of its sectors.
 pub record IsTraced (g : Geometry) (last : Option ℕ) (dump : List ℕ) (readings : List (List ℕ)) (marks : List MapMark) : Type 0 where
   pub whole : length dump ≡ image_bytes g
-  pub readings_whole : AreWhole g readings
+  pub readings_whole : AreReadingsWhole g readings
   pub marks_are : marks ≡ marks_of g last dump readings
 
 -- ---- not done
 
 -- a fault that names a reading names one of so many
-abbrev pub IsOfReading : ℕ → ReadingFault → Type 0
-IsOfReading count (reading.WrongLength i) = i < count
-IsOfReading count (reading.Source i) = i < count
+abbrev pub NamesOneOfReadings : ℕ → ReadingFault → Type 0
+NamesOneOfReadings count (reading.WrongLength i) = i < count
+NamesOneOfReadings count (reading.Source i) = i < count
 
 -- a fault of a reading says that it has failed
-abbrev pub IsPinned : List Bool → ReadingFault → Type 0
-IsPinned failed (reading.WrongLength i) = Unit {0}
-IsPinned failed (reading.Source i) = get_or failed i false ≡ true
+abbrev pub SaysReadingFailed : List Bool → ReadingFault → Type 0
+SaysReadingFailed failed (reading.WrongLength i) = Unit {0}
+SaysReadingFailed failed (reading.Source i) = get_or failed i false ≡ true
 
 -- `WrongLength` says of the reading of that number that its bytes, where they are known, are not as many as an image has
-abbrev pub IsOther : Geometry → Option (List ℕ) → Type 0
-IsOther g known = IfSome known (λ bytes. ¬ (length bytes ≡ image_bytes g))
+abbrev pub IsOfWrongLength : Geometry → Option (List ℕ) → Type 0
+IsOfWrongLength g known = IfSome known (λ bytes. ¬ (length bytes ≡ image_bytes g))
 
 abbrev pub IsOtherSize : Geometry → List (Option (List ℕ)) → ReadingFault → Type 0
-IsOtherSize g known (reading.WrongLength i) = IsOther g (get_or known i None)
+IsOtherSize g known (reading.WrongLength i) = IsOfWrongLength g (get_or known i None)
 IsOtherSize g known (reading.Source i) = Unit {0}
 
 -- the same of a dump and its readings
 abbrev pub IsUntraced : Geometry → Option (List ℕ) → List (Option (List ℕ)) → OriginFault → Type 0
-IsUntraced g dump readings fault.WrongLength = IsOther g dump
+IsUntraced g dump readings fault.WrongLength = IsOfWrongLength g dump
 IsUntraced g dump readings fault.Source = Unit {0}
 IsUntraced g dump readings (fault.Reading told) = IsOtherSize g readings told
 
 abbrev pub IsOfSome : ℕ → OriginFault → Type 0
-IsOfSome count (fault.Reading told) = IsOfReading count told
+IsOfSome count (fault.Reading told) = NamesOneOfReadings count told
 IsOfSome count _ = Unit {0}
 
 abbrev pub ArePinned : Bool → List Bool → OriginFault → Type 0
 ArePinned dump readings fault.WrongLength = Unit {0}
 ArePinned dump readings fault.Source = dump ≡ true
-ArePinned dump readings (fault.Reading told) = IsPinned readings told
+ArePinned dump readings (fault.Reading told) = SaysReadingFailed readings told

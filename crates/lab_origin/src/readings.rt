@@ -1,9 +1,9 @@
 //! The readings that a dump was made of, which are read at whatever place.
 ghost use Rattle.std.specs.Prelude.{◌≡◌, ◌↔◌, ◌<◌, ℕ, List, Some, true, false, length, get_or, map, IfOk, IfErr, OnOk, OnErr};
-ghost use Rattle.lab_dump.specs.Scan.{image_bytes};
+ghost use Rattle.lab_dump.specs.Scan.{image_bytes, Tell};
 ghost use Rattle.lab_origin.specs.Origin.{has_at};
-ghost use Rattle.lab_origin.specs.Tracing.{Tell, have_at};
-ghost use Rattle.lab_origin.specs.Traced.{IsOfReading, IsOtherSize, IsPinned, AreWhole};
+ghost use Rattle.lab_origin.specs.Tracing.{have_at};
+ghost use Rattle.lab_origin.specs.Traced.{NamesOneOfReadings, IsOtherSize, SaysReadingFailed, AreReadingsWhole};
 
 use lab_dump::{Dump, DumpFault};
 use page_layout::geometry::Geometry;
@@ -82,11 +82,11 @@ pub(crate) fn expect_whole<D: Dump>(
     readings: &mut [D],
     geometry: &Geometry,
 ) -> Result<(), ReadingFault>
-    ensures whole { OnOk result ((files : List (List ℕ)) → Tell (map D.bytes readings.old) files → AreWhole geometry.now files) }
+    ensures whole { OnOk result ((files : List (List ℕ)) → Tell (map D.bytes readings.old) files → AreReadingsWhole geometry.now files) }
     ensures other { IfErr result (IsOtherSize geometry.now (map D.bytes readings.old)) }
     ensures same { map D.bytes readings.new ≡ map D.bytes readings.old }
-    ensures fault { IfErr result (IsPinned (map D.failed readings.new)) }
-    ensures reading { IfErr result (IsOfReading (length readings.old)) }
+    ensures fault { IfErr result (SaysReadingFailed (map D.failed readings.new)) }
+    ensures reading { IfErr result (NamesOneOfReadings (length readings.old)) }
 {
     for place in 0..readings.len() {
         match is_whole(&mut readings[place], geometry) {

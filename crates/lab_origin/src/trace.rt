@@ -3,13 +3,13 @@ ghost use Rattle.std.specs.Prelude.{◌≡◌, ◌<◌, ◌+◌, ◌*◌, ◌^�
 ghost use Rattle.page_layout.specs.declared.record.Record.{Record};
 ghost use Rattle.page_layout.specs.Geometry.{page_bytes, row_count};
 ghost use Rattle.page_layout.specs.Sound.{record_of};
-ghost use Rattle.lab_dump.specs.PageBytes.{page_of};
-ghost use Rattle.lab_dump.specs.Scan.{image_bytes};
+ghost use Rattle.lab_dump.specs.PageBytes.{page_from_bytes};
+ghost use Rattle.lab_dump.specs.Scan.{image_bytes, Tell};
 ghost use Rattle.lab_dump.specs.Until.{record_until};
 ghost use Rattle.page_layout.specs.Array.{marks};
-ghost use Rattle.lab_origin.specs.Origin.{image_of, is_read, read_mark};
-ghost use Rattle.lab_origin.specs.Tracing.{AreSized, IsOriginRoom, Shows, Tell, have_at};
-ghost use Rattle.lab_origin.specs.Traced.{AreWhole, ArePinned, IsOfSome, IsTraced, IsUntraced};
+ghost use Rattle.lab_origin.specs.Origin.{image_of, is_in_a_reading, read_mark};
+ghost use Rattle.lab_origin.specs.Tracing.{HasSectorPlaces, IsOriginRoom, ShowsOrigins, have_at};
+ghost use Rattle.lab_origin.specs.Traced.{AreReadingsWhole, ArePinned, IsOfSome, IsTraced, IsUntraced};
 
 use crate::mark::read_mark;
 use crate::newest::{Change, record_until, sector_in, step};
@@ -109,11 +109,11 @@ impl Tracing {
         requires row_in { row < row_count geometry.now }
         requires page_whole { length page.now ≡ page_bytes geometry.now }
         requires other_whole { length other.old ≡ page_bytes geometry.now }
-        requires sized { AreSized geometry.now self.old.latest.items self.old.marks.items }
-        ensures sized { OnOk result (AreSized geometry.now self.new.latest.items self.new.marks.items) }
+        requires sized { HasSectorPlaces geometry.now self.old.latest.items self.old.marks.items }
+        ensures sized { OnOk result (HasSectorPlaces geometry.now self.new.latest.items self.new.marks.items) }
         ensures shows { OnOk result ((records : List (Option Record)) (read : ℕ → Bool) (files : List (List ℕ)) → Tell (map D.bytes readings.old) files
-            → Shows geometry.now records read row self.old.latest.items self.old.marks.items → get_or records row None ≡ Some found.now → read row ≡ have_at (row * page_bytes geometry.now) page.now files
-            → Shows geometry.now records read (row + 1) self.new.latest.items self.new.marks.items) }
+            → ShowsOrigins geometry.now records read row self.old.latest.items self.old.marks.items → get_or records row None ≡ Some found.now → read row ≡ have_at (row * page_bytes geometry.now) page.now files
+            → ShowsOrigins geometry.now records read (row + 1) self.new.latest.items self.new.marks.items) }
         ensures until { self.new.until ≡ self.old.until }
         ensures same { map D.bytes readings.new ≡ map D.bytes readings.old }
         ensures size { length other.new ≡ length other.old }
@@ -147,12 +147,12 @@ impl Tracing {
         requires row_in { row < row_count geometry.now }
         requires page_whole { length page.now ≡ page_bytes geometry.now }
         requires other_whole { length other.old ≡ page_bytes geometry.now }
-        requires sized { AreSized geometry.now self.old.latest.items self.old.marks.items }
-        ensures sized { OnOk result (AreSized geometry.now self.new.latest.items self.new.marks.items) }
+        requires sized { HasSectorPlaces geometry.now self.old.latest.items self.old.marks.items }
+        ensures sized { OnOk result (HasSectorPlaces geometry.now self.new.latest.items self.new.marks.items) }
         ensures shows { OnOk result ((records : List (Option Record)) (read : ℕ → Bool) (files : List (List ℕ)) → Tell (map D.bytes readings.old) files
-            → Shows geometry.now records read row self.old.latest.items self.old.marks.items
-            → get_or records row None ≡ record_until self.old.until (record_of (page_of geometry.now.data_bytes page.now)) → read row ≡ have_at (row * page_bytes geometry.now) page.now files
-            → Shows geometry.now records read (row + 1) self.new.latest.items self.new.marks.items) }
+            → ShowsOrigins geometry.now records read row self.old.latest.items self.old.marks.items
+            → get_or records row None ≡ record_until self.old.until (record_of (page_from_bytes geometry.now.data_bytes page.now)) → read row ≡ have_at (row * page_bytes geometry.now) page.now files
+            → ShowsOrigins geometry.now records read (row + 1) self.new.latest.items self.new.marks.items) }
         ensures until { self.new.until ≡ self.old.until }
         ensures same { map D.bytes readings.new ≡ map D.bytes readings.old }
         ensures size { length other.new ≡ length other.old }
@@ -189,11 +189,11 @@ fn take_rows<D: Dump>(
 ) -> Result<(), OriginFault>
     requires page_whole { length page.old ≡ page_bytes geometry.now }
     requires other_whole { length other.old ≡ page_bytes geometry.now }
-    requires sized { AreSized geometry.now tracing.old.latest.items tracing.old.marks.items }
-    requires none { (records : List (Option Record)) (read : ℕ → Bool) → Shows geometry.now records read 0 tracing.old.latest.items tracing.old.marks.items }
-    ensures sized { OnOk result (AreSized geometry.now tracing.new.latest.items tracing.new.marks.items) }
+    requires sized { HasSectorPlaces geometry.now tracing.old.latest.items tracing.old.marks.items }
+    requires none { (records : List (Option Record)) (read : ℕ → Bool) → ShowsOrigins geometry.now records read 0 tracing.old.latest.items tracing.old.marks.items }
+    ensures sized { OnOk result (HasSectorPlaces geometry.now tracing.new.latest.items tracing.new.marks.items) }
     ensures shows { OnOk result ((all : List ℕ) (files : List (List ℕ)) → D.bytes dump.old ≡ Some all → Tell (map D.bytes readings.old) files
-        → Shows geometry.now (marks (image_of geometry.now tracing.old.until all)) (is_read geometry.now all files) (row_count geometry.now) tracing.new.latest.items tracing.new.marks.items) }
+        → ShowsOrigins geometry.now (marks (image_of geometry.now tracing.old.until all)) (is_in_a_reading geometry.now all files) (row_count geometry.now) tracing.new.latest.items tracing.new.marks.items) }
     ensures err { IfErr result (λ fault. IsUntraced geometry.now (D.bytes dump.old) (map D.bytes readings.old) fault) }
     ensures pinned { IfErr result (ArePinned (D.failed dump.new) (map D.failed readings.new)) }
     ensures reading { IfErr result (IsOfSome (length readings.old)) }
@@ -212,7 +212,7 @@ fn expect_sizes<D: Dump>(
     geometry: &Geometry,
 ) -> Result<(), OriginFault>
     ensures whole { OnOk result ((all : List ℕ) → D.bytes dump.old ≡ Some all → length all ≡ image_bytes geometry.now) }
-    ensures readings_whole { OnOk result ((files : List (List ℕ)) → Tell (map D.bytes readings.old) files → AreWhole geometry.now files) }
+    ensures readings_whole { OnOk result ((files : List (List ℕ)) → Tell (map D.bytes readings.old) files → AreReadingsWhole geometry.now files) }
     ensures dump_same { D.bytes dump.new ≡ D.bytes dump.old }
     ensures same { map D.bytes readings.new ≡ map D.bytes readings.old }
     ensures err { IfErr result (λ fault. IsUntraced geometry.now (D.bytes dump.old) (map D.bytes readings.old) fault) }

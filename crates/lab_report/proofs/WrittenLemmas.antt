@@ -8,7 +8,7 @@ use Rattle.serde_json.specs.Find.{as_str}
 use Rattle.serde_json.specs.Read.{max_depth, read}
 use Rattle.serde_json.specs.View.{items_of}
 use Rattle.serde_json.specs.Written.{compact_text, has_float, items_have_float}
-use Rattle.lab_report.specs.Laws.{HasDigests, IsWhole}
+use Rattle.lab_report.specs.Laws.{HasDigests, HasWholeDigest}
 use Rattle.lab_report.specs.Note.{Note, Told}
 use Rattle.lab_report.specs.Reading.{all_in, note_in, report_in, told_in}
 use Rattle.lab_report.specs.Written.{note_data, report_data, report_text}
@@ -38,13 +38,13 @@ nests t = omega (arith, notes_depth t.read, words_depth t.words, notes_depth t.w
 
 -- ---- what it says
 
-note_said : (note : Note) → IsWhole note → note_in (note_data note) ≡ Some note
+note_said : (note : Note) → HasWholeDigest note → note_in (note_data note) ≡ Some note
 unfolding note_in
 note_said note whole = rw (decode_sized-encode_lower note.sha256 32 whole.size whole.bytes) refl
 
-notes_said : (notes : List Note) → All IsWhole notes → all_in note_in (items_of (map note_data notes)) ≡ Some notes
+notes_said : (notes : List Note) → All HasWholeDigest notes → all_in note_in (items_of (map note_data notes)) ≡ Some notes
 notes_said [] whole = refl
-notes_said (note ∷ notes) whole = rw (note_said note (All-head IsWhole note notes whole), notes_said notes (All-tail IsWhole note notes whole)) refl
+notes_said (note ∷ notes) whole = rw (note_said note (All-head HasWholeDigest note notes whole), notes_said notes (All-tail HasWholeDigest note notes whole)) refl
 
 words_said : (words : List (List ℕ)) → all_in as_str (items_of (map string words)) ≡ Some words
 words_said [] = refl

@@ -15,11 +15,11 @@ abbrev pub count_of : Hashing → ℕ
 count_of h = h.length
 
 -- these bytes were handed on so far
-pub record HasTaken (bytes : List ℕ) (h : Hashing) : Type 0 where
+pub record HasHashedBytes (bytes : List ℕ) (h : Hashing) : Type 0 where
   pub held : Holds256 h.hasher bytes
   pub counted : h.length ≡ length bytes
 
 -- two say the same: in how many bytes, and in their SHA-256
-pub record IsSame (a b : declared.Content) : Type 0 where
+pub record IsSameContent (a b : declared.Content) : Type 0 where
   pub length_is : a.length ≡ b.length
   pub digest_is : a.sha256 ≡ b.sha256

@@ -6,14 +6,14 @@ use Rattle.lab_report.specs.Reading.{told_in}
 use Rattle.lab_report.specs.Written.{report_data}
 
 -- its digest is of 32 bytes
-pub record IsWhole (note : Note) : Type 0 where
+pub record HasWholeDigest (note : Note) : Type 0 where
   pub size : length note.sha256 ≡ 32
   pub bytes : IsBytes note.sha256
 
 -- each is
 pub record HasDigests (t : Told) : Type 0 where
-  pub read : All IsWhole t.read
-  pub wrote : All IsWhole t.wrote
+  pub read : All HasWholeDigest t.read
+  pub wrote : All HasWholeDigest t.wrote
 
 abbrev pub ReadsBack : Type 0
 ReadsBack = (t : Told) → HasDigests t → told_in (report_data t) ≡ Some t

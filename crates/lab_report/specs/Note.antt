@@ -29,8 +29,8 @@ pub record Told : Type 0 where
   pub read : List Note
   pub wrote : List Note
 
-abbrev pub told_by : RunReport → Told
-told_by r = record {
+abbrev pub told_by_report : RunReport → Told
+told_by_report r = record {
   program = string_bytes r.program;
   version = string_bytes r.version;
   words = map string_bytes r.words.items;

@@ -16,11 +16,11 @@ pub struct Content {
 
 impl Content {
     ghost use Rattle.std.specs.Prelude.{IsTrue, ◌↔◌};
-    ghost use Rattle.lab_report.specs.Content.{IsSame};
+    ghost use Rattle.lab_report.specs.Content.{IsSameContent};
 
     /// Whether it is the same as another one: as many bytes, and the same SHA-256.
     pub fn is_same(&self, other: &Content) -> bool
-        ensures { IsTrue result ↔ IsSame self.now other.now }
+        ensures { IsTrue result ↔ IsSameContent self.now other.now }
     {
         self.length == other.length && self.sha256 == other.sha256
     }
@@ -41,11 +41,11 @@ pub struct Hashing {
 
 impl Hashing {
     ghost use Rattle.std.specs.Prelude.{◌≡◌, ◌≤◌, ◌<◌, ◌+◌, ◌^◌, ◌++◌, ℕ, List, [], length, OnOk, OnErr};
-    ghost use Rattle.lab_report.specs.Content.{HasTaken, IsContentOf, count_of};
+    ghost use Rattle.lab_report.specs.Content.{HasHashedBytes, IsContentOf, count_of};
 
     /// One that has taken no byte.
     pub fn new() -> Hashing
-        ensures { HasTaken [] result }
+        ensures { HasHashedBytes [] result }
     {
         Hashing {
             hasher: Sha256::new(),
@@ -59,10 +59,10 @@ impl Hashing {
     ///
     /// `TooLong` where there would be 2^64 bytes or more. Nothing more is said of it then. (This project's.)
     pub fn take(&mut self, bytes: &[u8]) -> Result<(), TooLong>
-        ensures taken { OnOk result ((before : List ℕ) → HasTaken before self.old → HasTaken (before ++ bytes.now) self.new) }
+        ensures taken { OnOk result ((before : List ℕ) → HasHashedBytes before self.old → HasHashedBytes (before ++ bytes.now) self.new) }
         ensures counted { OnOk result (count_of self.new ≡ count_of self.old + length bytes.now) }
         ensures within { OnOk result (count_of self.new < 2 ^ 64) }
-        ensures long { OnErr result ((before : List ℕ) → HasTaken before self.old → 2 ^ 64 ≤ length before + length bytes.now) }
+        ensures long { OnErr result ((before : List ℕ) → HasHashedBytes before self.old → 2 ^ 64 ≤ length before + length bytes.now) }
     {
         let Some(length) = self.length.checked_add(bytes.len() as u64) else {
             return Err(TooLong);
@@ -74,7 +74,7 @@ impl Hashing {
 
     /// The content that the bytes are which were taken.
     pub fn content(self) -> Content
-        ensures { (bytes : List ℕ) → HasTaken bytes self → IsContentOf bytes result }
+        ensures { (bytes : List ℕ) → HasHashedBytes bytes self → IsContentOf bytes result }
     {
         Content {
             length: self.length,

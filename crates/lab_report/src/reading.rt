@@ -3,8 +3,8 @@ ghost use Rattle.std.specs.Prelude.{◌≡◌, Some, None, Err, IfOk, map, optio
 ghost use Rattle.std.specs.Option.{option_and_then};
 ghost use Rattle.serde_json.specs.Find.{as_array, as_str, get};
 ghost use Rattle.serde_json.specs.View.{items_view, view};
-ghost use Rattle.lab_report.specs.Note.{named_as, note_of, told_by};
-ghost use Rattle.lab_report.specs.Reading.{IsNoReport, all_in, digest_in, each_in, note_in, number_in, report_in, text_in, told_in, without_feed};
+ghost use Rattle.lab_report.specs.Note.{named_as, note_of, told_by_report};
+ghost use Rattle.lab_report.specs.Reading.{IsNoReport, all_in, digest_in, each_in, note_in, number_in, report_in, text_in, told_in, report_without_feed};
 
 use crate::content::Content;
 use crate::note::{FileNote, RunReport};
@@ -172,7 +172,7 @@ fn string_at(alloc: Global, value: &Value, name: &str) -> Result<String, ReportF
 // What an object says of a run.
 #[tactic(auto, unfolding(crate::specs::Reading::told_in))]
 fn report_at(alloc: Global, value: &Value) -> Result<RunReport, ReportFault>
-    ensures ok { IfOk result (λ report. told_in (view value.now) ≡ Some (told_by report)) }
+    ensures ok { IfOk result (λ report. told_in (view value.now) ≡ Some (told_by_report report)) }
     ensures none { result ≡ Err ReportFault.NotReport → told_in (view value.now) ≡ None }
 {
     let program = string_at(alloc, value, "program")?;
@@ -191,7 +191,7 @@ fn report_at(alloc: Global, value: &Value) -> Result<RunReport, ReportFault>
 
 // A text without its line feed.
 fn without_line_feed(text: &[u8]) -> &[u8]
-    ensures { result.now ≡ without_feed text.now }
+    ensures { result.now ≡ report_without_feed text.now }
 {
     match text.split_last() {
         Some((last, front)) if *last == b'\n' => front,
@@ -208,7 +208,7 @@ fn without_line_feed(text: &[u8]) -> &[u8]
 ///
 /// (The form is this project's.)
 pub fn read_report(alloc: Global, bytes: &[u8]) -> Result<RunReport, ReportFault>
-    ensures ok { IfOk result (λ report. report_in bytes.now ≡ Some (told_by report)) }
+    ensures ok { IfOk result (λ report. report_in bytes.now ≡ Some (told_by_report report)) }
     ensures none { result ≡ Err ReportFault.NotReport → IsNoReport bytes.now }
 {
     match Value::from_slice(alloc, without_line_feed(bytes)) {

@@ -13,10 +13,10 @@ use Rattle.lab_dump.proofs.SampleLemmas.{count_last, one}
 use Rattle.page_layout.specs.declared.record.Record.{Record}
 use Rattle.page_layout.specs.Page.{Page}
 use Rattle.page_layout.specs.Sound.{has_form, has_seal, is_erased_page, kind_from, record_in, record_of, spelled}
-use Rattle.lab_dump.specs.Look.{look_by, look_of}
-use Rattle.lab_dump.specs.Pages.{page_in}
+use Rattle.page_layout.specs.PageLook.{look_by, look_of}
+use Rattle.lab_dump.specs.PageBytes.{page_from_bytes}
 use Rattle.lab_arrange.specs.declared.arrangement.Arrangement.{Arrangement}
-use Rattle.lab_arrange.specs.Arranged.{piece_at, spare_at}
+use Rattle.lab_arrange.specs.Arranged.{arranged_piece, spare_at}
 use Rattle.lab_shapes.proofs.OrderLemmas.{ordered_page}
 use Rattle.lab_shapes.specs.Ordered.{ordered, in_turn_of, is_in_turn, look_in, sample_first, shows_sound}
 
@@ -113,7 +113,7 @@ pub spells_none : (g : Geometry) (a : Arrangement) (all : List ℕ) (row : ℕ) 
     → false ≡ is_sound (look_in g (ordered g a all) row)
 unfolding look_of
 spells_none g a all row spare found l spare_is found_is none =
-    let p : Page = page_in g.data_bytes (piece_at g a all row) in
+    let p : Page = page_from_bytes g.data_bytes (arranged_piece g a all row) in
     let unread : spelled p.spare ≡ None = ap spelled (sym spare_is) ∙ (sym found_is ∙ none_in found none) in
     unsound (is_erased_page p) ∙ (ap (λ o. is_sound (look_by o (is_erased_page p))) (sym (unspelled p unread)) ∙ ap (λ q. is_sound (look_of q)) (sym (ordered_page g a all row l)))
   where

@@ -23,7 +23,7 @@ use Rattle.lab_shapes.specs.declared.tried.Way.TheVariants.{Cut, Order}
 use Rattle.lab_shapes.specs.Tried.{IsOfWay, IsTried, IsTriedWay, IsUncut, cut_by}
 use Rattle.lab_shapes.specs.Ordered.{in_turn_of, ordered}
 use Rattle.lab_shapes.specs.Arranged.{FitsArranged, FitsAs, IsCutShort, fit_in_order}
-use Rattle.lab_shapes.specs.Better.{Improves, InShape, IsFoundAs, IsShapeAs, IsShapeIn, IsShapeOf, least_turns, pages_size}
+use Rattle.lab_shapes.specs.Better.{Improves, InShape, IsFoundAs, IsShapeAs, IsShapeIn, IsArrangedShapeOf, least_turns, pages_size}
 use Rattle.lab_shapes.proofs.BetterLemmas.{improves_as, improves_fewer, improves_none}
 use Rattle.lab_shapes.proofs.TriedLemmas.{tried_of_way}
 
@@ -98,7 +98,7 @@ pages_back g a size cut is = by (cases_lt size around)
 
 -- ---- the shape of one that fits
 
-pub shape_of : (all : List ℕ) (w : Way) (y : ArrangedFit) (size d s p : ℕ) → size ≡ length all → (h : InShape all w d s p y) → IsShapeOf size w d s p h.0.0.0.0.geometry y.arrangement
+pub shape_of : (all : List ℕ) (w : Way) (y : ArrangedFit) (size d s p : ℕ) → size ≡ length all → (h : InShape all w d s p y) → IsArrangedShapeOf size w d s p h.0.0.0.0.geometry y.arrangement
 shape_of all w y size d s p e h =
     let fits = h.0.0.0.0 in
     record {
@@ -112,17 +112,17 @@ shape_of all w y size d s p e h =
     }
 
 -- two of one size, of the same areas and as many blocks, are one
-same_shape : (w v : Way) (size d s p : ℕ) (g h : Geometry) (a b : Arrangement) → IsShapeOf size w d s p g a → IsShapeOf size v d s p h b → g.blocks ≡ h.blocks → g ≡ h
+same_shape : (w v : Way) (size d s p : ℕ) (g h : Geometry) (a b : Arrangement) → IsArrangedShapeOf size w d s p g a → IsArrangedShapeOf size v d s p h b → g.blocks ≡ h.blocks → g ≡ h
 same_shape w v size d s p g h a b x y e =
     geometry_by g h (x.data_is ∙ sym y.data_is) (x.spare_is ∙ sym y.spare_is) (x.pages_is ∙ sym y.pages_is) e (x.sector ∙ sym y.sector)
 
 -- in an order of the bytes
-pub order_pages : (b : Arrangement) (size d s p : ℕ) (g : Geometry) (a : Arrangement) → IsUncut b → IsShapeOf size (Order b) d s p g a → pages_size size b ≡ Some (image_bytes g)
+pub order_pages : (b : Arrangement) (size d s p : ℕ) (g : Geometry) (a : Arrangement) → IsUncut b → IsArrangedShapeOf size (Order b) d s p g a → pages_size size b ≡ Some (image_bytes g)
 order_pages b size d s p g a tried x =
     let cut : a.cut ≡ None = ap (λ z. z.cut) x.of_way ∙ tried.whole in
     ap (pages_size size) (sym x.of_way) ∙ pages_when g a size cut (sym x.whole)
 
-order_blocks : (b : Arrangement) (size d s p : ℕ) (g h : Geometry) (a c : Arrangement) → IsUncut b → IsShapeOf size (Order b) d s p g a → IsShapeOf size (Order b) d s p h c → g.blocks ≡ h.blocks
+order_blocks : (b : Arrangement) (size d s p : ℕ) (g h : Geometry) (a c : Arrangement) → IsUncut b → IsArrangedShapeOf size (Order b) d s p g a → IsArrangedShapeOf size (Order b) d s p h c → g.blocks ≡ h.blocks
 order_blocks b size d s p g h a c tried x y =
     let bytes : image_bytes g ≡ image_bytes h = some_in _ _ (sym (order_pages b size d s p g a tried x) ∙ order_pages b size d s p h c tried y) in
     let area : page_bytes g ≡ page_bytes h = (let e = x.data_is in let f = y.data_is in let i = x.spare_is in let j = y.spare_is in omega arith) in
@@ -149,7 +149,7 @@ last_block b p m l =
     let less : b ≡ b - 1 + 1 = omega arith in
     mul_assoc b p m ∙ (ap (λ k. k * (p * m)) less ∙ (add-mul (b - 1) 1 (p * m) ∙ ap (λ k. (b - 1) * (p * m) + k) (one-mul (p * m))))
 
-pub cut_blocks : (size d s p : ℕ) (g : Geometry) (a : Arrangement) → (x : IsShapeOf size Cut d s p g a) → HasBlocks size (p * (d + s)) x.of_way.0 g a
+pub cut_blocks : (size d s p : ℕ) (g : Geometry) (a : Arrangement) → (x : IsArrangedShapeOf size Cut d s p g a) → HasBlocks size (p * (d + s)) x.of_way.0 g a
 cut_blocks size d s p g a x =
     let n = x.of_way.0 in
     let block = block_is g d s p x.data_is x.spare_is x.pages_is in
@@ -172,7 +172,7 @@ cut_blocks size d s p g a x =
 
 -- ---- there is one
 
-pub one_shape : (w : Way) (size d s p : ℕ) (g h : Geometry) (a b : Arrangement) → IsTriedWay w → IsShapeOf size w d s p g a → IsShapeOf size w d s p h b → (g ≡ h) × (a ≡ b)
+pub one_shape : (w : Way) (size d s p : ℕ) (g h : Geometry) (a b : Arrangement) → IsTriedWay w → IsArrangedShapeOf size w d s p g a → IsArrangedShapeOf size w d s p h b → (g ≡ h) × (a ≡ b)
 one_shape (Order c) size d s p g h a b tried x y =
     (same_shape (Order c) (Order c) size d s p g h a b x y (order_blocks c size d s p g h a b tried x y), x.of_way ∙ sym y.of_way)
 one_shape Cut size d s p g h a b tried x y =
@@ -192,7 +192,7 @@ no_shape all w size d s p old e none = improves_none (InShape all w d s p) old (
 -- ---- where one is
 
 -- what fits of these sizes is of that geometry, in that arrangement
-of_shape : (all : List ℕ) (w : Way) (g : Geometry) (a : Arrangement) (y : ArrangedFit) (size d s p : ℕ) → IsTriedWay w → size ≡ length all → IsShapeOf size w d s p g a → (h : InShape all w d s p y) → (y.arrangement ≡ a) × FitsAs all g y
+of_shape : (all : List ℕ) (w : Way) (g : Geometry) (a : Arrangement) (y : ArrangedFit) (size d s p : ℕ) → IsTriedWay w → size ≡ length all → IsArrangedShapeOf size w d s p g a → (h : InShape all w d s p y) → (y.arrangement ≡ a) × FitsAs all g y
 of_shape all w g a y size d s p tried e is h =
     let fits = h.0.0.0.0 in
     let one = one_shape w size d s p fits.geometry g y.arrangement a tried (shape_of all w y size d s p e h) is in
@@ -215,7 +215,7 @@ one_fit all g x y same h k =
     same_fit x y (h.in_turn_is ∙ (ap (λ a. in_turn_of g (ordered g a all)) same ∙ sym k.in_turn_is)) (h.fit_is ∙ (ap (λ a. fit_in_order g (ordered g a all)) same ∙ sym k.fit_is)) same
 
 -- and it is one of these sizes
-in_shape : (all : List ℕ) (w : Way) (g : Geometry) (a : Arrangement) (x : ArrangedFit) (size d s p : ℕ) → IsTriedWay w → IsShapeOf size w d s p g a → x.arrangement ≡ a → FitsAs all g x → InShape all w d s p x
+in_shape : (all : List ℕ) (w : Way) (g : Geometry) (a : Arrangement) (x : ArrangedFit) (size d s p : ℕ) → IsTriedWay w → IsArrangedShapeOf size w d s p g a → x.arrangement ≡ a → FitsAs all g x → InShape all w d s p x
 in_shape all w g a x size d s p tried is same h =
     let whole : FitsArranged all x = record { geometry = g; sector = is.sector; tried = subst IsTried (sym same) (tried_of_way w a tried is.of_way); short = subst (IsCutShort g) (sym same) is.short; fits = h } in
     ((((whole, subst (IsOfWay w) (sym same) is.of_way), ap (λ f. f.data_bytes) h.fit_is ∙ is.data_is), ap (λ f. f.spare_bytes) h.fit_is ∙ is.spare_is), ap (λ f. f.pages) h.fit_is ∙ is.pages_is)
@@ -283,7 +283,7 @@ cut_whole size d s p none = λ g a x. (let k = cut_blocks size d s p g a x in ab
 pub cut_many : (size d s p : ℕ) → 4096 ≤ size / (p * (d + s)) → IsShapeIn size Cut d s p None
 cut_many size d s p many = λ g a x. (let k = cut_blocks size d s p g a x in let l = g.limits.block_count.most in absurd (omega (arith, many, k.count, l)))
 
-cut_limits : (size d s p : ℕ) (g : Geometry) (a : Arrangement) → IsShapeOf size Cut d s p g a → IsWithinLimits d s p (size / (p * (d + s)) + 1) 1
+cut_limits : (size d s p : ℕ) (g : Geometry) (a : Arrangement) → IsArrangedShapeOf size Cut d s p g a → IsWithinLimits d s p (size / (p * (d + s)) + 1) 1
 cut_limits size d s p g a x =
     let k = cut_blocks size d s p g a x in
     let some : 0 < g.blocks = (let m = g.limits.block_count.least in omega arith) in

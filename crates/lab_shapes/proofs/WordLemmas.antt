@@ -13,13 +13,13 @@ use Rattle.lab_arrange.specs.declared.arrangement.Arrangement.{Arrangement}
 use Rattle.lab_arrange.specs.declared.arrangement.Spares.{Spares}
 use Rattle.lab_arrange.specs.declared.arrangement.Spares.TheVariants.{Block, Die}
 use Rattle.lab_arrange.specs.declared.words.Told.TheVariants as told
-use Rattle.lab_arrange.specs.Words.{IsArrangementAt, IsToldBy, IsToldFrom, Tells, in_order}
+use Rattle.lab_arrange.specs.Words.{IsArrangementAt, IsToldBy, IsToldFrom, TellsArrangement, in_order}
 use Rattle.lab_shapes.specs.Tried.{IsAround, IsUncut, around_sizes, cut_by}
-use Rattle.lab_shapes.specs.Words.{WordsLaw, around_words, arrangement_words, behind, cut_words, flag_words, order_words, spares_words}
+use Rattle.lab_shapes.specs.Words.{WordsLaw, around_words, arrangement_words, behind, cut_words, flag_words, byte_order_words, spares_words}
 
 -- ---- one word more
 
-tells_more : (a b c : Arrangement) (ws : List (List ℕ)) (text word : List ℕ) → Tells a ws text b → IsToldBy b word c → Tells a (ws ++ word ∷ []) (text ++ 44 ∷ word) c
+tells_more : (a b c : Arrangement) (ws : List (List ℕ)) (text word : List ℕ) → TellsArrangement a ws text b → IsToldBy b word c → TellsArrangement a (ws ++ word ∷ []) (text ++ 44 ∷ word) c
 tells_more a b c [] text word h k = absurd h
 tells_more a b c (w ∷ []) text word (e, t) k = (word, b, ap (λ x. x ++ 44 ∷ word) e, t, (refl, k))
 tells_more a b c (w ∷ n ∷ ws) text word (rest, d, e, t, h) k = (rest ++ 44 ∷ word, d, ap (λ x. x ++ 44 ∷ word) e ∙ append_assoc w (44 ∷ rest) (44 ∷ word), t, tells_more d b c (n ∷ ws) rest word h k)
@@ -35,7 +35,7 @@ built_more true text word a b (ws, h) k = (ws ++ word ∷ [], tells_more in_orde
 
 built_if : (before b : Bool) (text word : List ℕ) (a c : Arrangement) → Built before text a → (b ≡ true → IsToldBy a word c) → (b ≡ false → a ≡ c) → Built (before || b) (text ++ flag_words before b word) c
 built_if false false text word a c (e, s) told_so not_so = (ap (λ x. x ++ []) e, sym (not_so refl) ∙ s)
-built_if true false text word a c (ws, h) told_so not_so = (ws, subst (λ x. Tells in_order ws x c) (sym (append-nil text)) (subst (Tells in_order ws text) (not_so refl) h))
+built_if true false text word a c (ws, h) told_so not_so = (ws, subst (λ x. TellsArrangement in_order ws x c) (sym (append-nil text)) (subst (TellsArrangement in_order ws text) (not_so refl) h))
 built_if false true text word a c h told_so not_so = built_more false text word a c h (told_so refl)
 built_if true true text word a c h told_so not_so = built_more true text word a c h (told_so refl)
 
@@ -147,7 +147,7 @@ together : (r s f w i p : List ℕ) → ((((r ++ s) ++ f) ++ w) ++ i) ++ p ≡ r
 together r s f w i p = simp append_assoc
 
 -- with nothing cut off
-uncut_words : (a : Arrangement) → IsUncut a → a ≢ in_order → IsArrangementAt (around_words a.header a.tail ++ order_words (is_some a.header || is_some a.tail) a) a
+uncut_words : (a : Arrangement) → IsUncut a → a ≢ in_order → IsArrangementAt (around_words a.header a.tail ++ byte_order_words (is_some a.header || is_some a.tail) a) a
 uncut_words a tried other =
     let before = is_some a.header || is_some a.tail in
     let spares = before || is_some a.spares in
@@ -155,7 +155,7 @@ uncut_words a tried other =
     let swapped = first || a.swapped in
     let inverted = swapped || a.inverted in
     let planes = inverted || a.planes in
-    let words : List ℕ = around_words a.header a.tail ++ order_words before a in
+    let words : List ℕ = around_words a.header a.tail ++ byte_order_words before a in
     let built = built_planes inverted _ a.header a.tail a.spares a.spare_first a.swapped a.inverted a.planes
     (built_inverted swapped _ a.header a.tail a.spares a.spare_first a.swapped a.inverted
     (built_swapped first _ a.header a.tail a.spares a.spare_first a.swapped
@@ -173,11 +173,11 @@ uncut_words a tried other =
     same_whole b e = ap (λ c. record { header = b.header; tail = b.tail; cut = c; spares = b.spares; spare_first = b.spare_first; swapped = b.swapped; inverted = b.inverted; planes = b.planes }) (sym e)
 
 -- then no word of a cut stands among them
-without_cut : (a : Arrangement) → a.cut ≡ None → around_words a.header a.tail ++ order_words (is_some a.header || is_some a.tail) a ≡ arrangement_words a
+without_cut : (a : Arrangement) → a.cut ≡ None → around_words a.header a.tail ++ byte_order_words (is_some a.header || is_some a.tail) a ≡ arrangement_words a
 unfolding arrangement_words
 without_cut a none =
     let around = is_some a.header || is_some a.tail in
-    ap (λ b. around_words a.header a.tail ++ order_words b a) (sym (or_false around)) ∙ ap (λ c. around_words a.header a.tail ++ (cut_words around c ++ order_words (around || is_some c) a)) (sym none)
+    ap (λ b. around_words a.header a.tail ++ byte_order_words b a) (sym (or_false around)) ∙ ap (λ c. around_words a.header a.tail ++ (cut_words around c ++ byte_order_words (around || is_some c) a)) (sym none)
   where
     or_false : (b : Bool) → (b || false) ≡ b
     or_false true = refl

@@ -62,7 +62,7 @@ IsShapeAs bytes d s p None = (g : Geometry) → g.data_bytes ≡ d → g.spare_b
 IsShapeAs bytes d s p (Some g) = (image_bytes g ≡ bytes) × HasNumbers d s p (bytes / (d + s) / p) 1 g
 
 -- A GEOMETRY IS OF A DUMP OF THIS SIZE in an arrangement of a way: with one sector, and with such areas and blocks, it comes to so many bytes
-pub record IsShapeOf (size : ℕ) (way : Way) (data_bytes spare_bytes pages : ℕ) (g : Geometry) (a : Arrangement) : Type 0 where
+pub record IsArrangedShapeOf (size : ℕ) (way : Way) (data_bytes spare_bytes pages : ℕ) (g : Geometry) (a : Arrangement) : Type 0 where
   pub of_way : IsOfWay way a
   pub short : IsCutShort g a
   pub whole : length_of g a ≡ size
@@ -73,8 +73,8 @@ pub record IsShapeOf (size : ℕ) (way : Way) (data_bytes spare_bytes pages : �
 
 -- it is the one, or there is none
 abbrev pub IsShapeIn : (size : ℕ) → Way → (data_bytes spare_bytes pages : ℕ) → Option (Geometry × Arrangement) → Type 0
-IsShapeIn size way d s p None = (g : Geometry) (a : Arrangement) → ¬ IsShapeOf size way d s p g a
-IsShapeIn size way d s p (Some (g, a)) = IsShapeOf size way d s p g a
+IsShapeIn size way d s p None = (g : Geometry) (a : Arrangement) → ¬ IsArrangedShapeOf size way d s p g a
+IsShapeIn size way d s p (Some (g, a)) = IsArrangedShapeOf size way d s p g a
 
 -- how many bytes the pages have of a dump of this size, if it has room for what stands around them
 abbrev pub pages_size : ℕ → Arrangement → Option ℕ

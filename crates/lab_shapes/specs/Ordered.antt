@@ -3,8 +3,8 @@ use Rattle.std.specs.Prelude.{◌||◌, ℕ, ◌-◌, ◌%◌, ◌==◌, not, is
 use Rattle.std.specs.List.{concat, range_with_len}
 use Rattle.page_layout.specs.declared.geometry.Geometry.{Geometry}
 use Rattle.page_layout.specs.Geometry.{row_count}
-use Rattle.lab_dump.specs.declared.look.Look.{Look}
-use Rattle.lab_dump.specs.declared.look.Look.TheVariants.{Sound, Erased, Unsound}
+use Rattle.page_layout.specs.declared.look.PageLook.{PageLook}
+use Rattle.page_layout.specs.declared.look.PageLook.TheVariants.{Sound, Erased, Unsound}
 use Rattle.lab_dump.specs.declared.sample.Sample.{Sample}
 use Rattle.lab_dump.specs.Sample.{is_sound, is_unsound, look_at, looked_by, looked_count, looked_row}
 use Rattle.lab_arrange.specs.declared.arrangement.Arrangement.{Arrangement}
@@ -15,7 +15,7 @@ unfoldable pub ordered : Geometry → Arrangement → List ℕ → List ℕ
 ordered g a all = concat (pieces_below g a all (row_count g))
 
 -- what the page of a row is
-abbrev pub look_in : Geometry → List ℕ → ℕ → Look
+abbrev pub look_in : Geometry → List ℕ → ℕ → PageLook
 look_in g all row = look_at g.data_bytes g.spare_bytes all row
 
 -- what the pages are of the first places that are looked at
@@ -41,11 +41,11 @@ is_likely g a all = not (is_some a.cut) || shows_more g all
 -- ---- pages in their turn
 
 -- what the page before that of a row is in its block, if there is one
-abbrev pub look_before : Geometry → List ℕ → ℕ → Option Look
+abbrev pub look_before : Geometry → List ℕ → ℕ → Option PageLook
 look_before g all row = if row % g.pages == 0 then None else Some (look_in g all (row - 1))
 
 -- whether a page may follow the one before it in its block: a block is programmed page by page, so that one is not erased, and each sequence is later
-abbrev pub may_follow : Look → Look → Bool
+abbrev pub may_follow : PageLook → PageLook → Bool
 may_follow (Sound q) (Sound r) = nat_lt q.sequence r.sequence
 may_follow Erased (Sound r) = false
 may_follow Unsound (Sound r) = true
@@ -53,7 +53,7 @@ may_follow x Erased = false
 may_follow x Unsound = false
 
 -- whether it is sound, and the first one or one that may follow
-abbrev pub follows : Option Look → Look → Bool
+abbrev pub follows : Option PageLook → PageLook → Bool
 follows None x = is_sound x
 follows (Some before) x = may_follow before x
 

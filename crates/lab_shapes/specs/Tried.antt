@@ -28,19 +28,19 @@ abbrev pub cut_by : ℕ → Arrangement
 cut_by n = record { header = None; tail = None; cut = Some n; spares = None; spare_first = false; swapped = false; inverted = false; planes = false }
 
 -- in order, with some bytes cut off, fewer than the largest block has, of 256 pages of 4352 bytes
-abbrev pub IsCut : Arrangement → Type 0
-IsCut a = (n : ℕ) × (0 < n) × (n < 1114112) × (a ≡ cut_by n)
+abbrev pub HasBytesCutOff : Arrangement → Type 0
+HasBytesCutOff a = (n : ℕ) × (0 < n) × (n < 1114112) × (a ≡ cut_by n)
 
 -- AN ARRANGEMENT IS TRIED: each order of the bytes with nothing cut off, and pages in order with some bytes cut off.
 abbrev pub IsTried : Arrangement → Type 0
-IsTried a = IsUncut a ⊎ IsCut a
+IsTried a = IsUncut a ⊎ HasBytesCutOff a
 
 -- ---- one way after another
 
 -- an arrangement is of a way of trying: it is that order, or in order with some bytes cut off
 abbrev pub IsOfWay : Way → Arrangement → Type 0
 IsOfWay (Order b) a = a ≡ b
-IsOfWay Cut a = IsCut a
+IsOfWay Cut a = HasBytesCutOff a
 
 -- the way is one that is tried
 abbrev pub IsTriedWay : Way → Type 0

@@ -32,8 +32,8 @@ spares_words before (Some Block) = behind before (codes "spares=block")
 spares_words before (Some Die) = behind before (codes "spares=die")
 
 -- of the order of the bytes
-abbrev pub order_words : Bool → Arrangement → List ℕ
-order_words before a =
+abbrev pub byte_order_words : Bool → Arrangement → List ℕ
+byte_order_words before a =
     let spares = before || is_some a.spares in
     let first = spares || a.spare_first in
     let swapped = first || a.swapped in
@@ -46,7 +46,7 @@ order_words before a =
 unfoldable pub arrangement_words : Arrangement → List ℕ
 arrangement_words a =
     let around = is_some a.header || is_some a.tail in
-    around_words a.header a.tail ++ (cut_words around a.cut ++ order_words (around || is_some a.cut) a)
+    around_words a.header a.tail ++ (cut_words around a.cut ++ byte_order_words (around || is_some a.cut) a)
 
 abbrev pub WordsLaw : Type 0
 WordsLaw = (a : Arrangement) → IsTried a → a ≢ in_order → IsArrangementAt (arrangement_words a) a

@@ -6,7 +6,7 @@ ghost use Rattle.lab_shapes.specs.declared.find.ArrangedFit.{ArrangedFit};
 ghost use Rattle.std.specs.Ordering.{is_lt};
 ghost use Rattle.lab_shapes.specs.Arranged.{FitsArranged, IsBest, IsPossibleAs, arranged_rank};
 ghost use Rattle.lab_shapes.specs.Better.{Improves, InAreas, InWay, InData, InShape, KeepsPossible, least_turns};
-ghost use Rattle.lab_shapes.specs.Rooms.{HasRoom, IsShapeRoom};
+ghost use Rattle.lab_shapes.specs.Rooms.{HasRoomForLargestPage, IsShapeRoom};
 ghost use Rattle.lab_shapes.specs.Tried.{IsTriedWay};
 
 use crate::fitting::fit_as;
@@ -110,10 +110,10 @@ fn try_shape<D: Dump>(
     requires spare_size { IsSpareSize spare_bytes }
     requires page_count { IsPageCount pages }
     requires tried { IsTriedWay way.now }
-    requires room { HasRoom room.old }
+    requires room { HasRoomForLargestPage room.old }
     ensures better { OnOk result ((all : List ℕ) → D.bytes dump.old ≡ Some all → size ≡ length all → Improves (InShape all way.now data_bytes spare_bytes pages) room.old.best room.new.best) }
     ensures possible { OnOk result (KeepsPossible room.old.best room.new.best) }
-    ensures room { HasRoom room.new }
+    ensures room { HasRoomForLargestPage room.new }
     ensures source { OnErr result (D.failed dump.new ≡ true) }
     ensures same { D.bytes dump.new ≡ D.bytes dump.old }
 {
@@ -147,10 +147,10 @@ fn try_areas<D: Dump>(
     requires data_size { IsDataSize data_bytes }
     requires spare_size { IsSpareSize spare_bytes }
     requires tried { IsTriedWay way.now }
-    requires room { HasRoom room.old }
+    requires room { HasRoomForLargestPage room.old }
     ensures better { OnOk result ((all : List ℕ) → D.bytes dump.old ≡ Some all → size ≡ length all → Improves (InAreas all way.now data_bytes spare_bytes) room.old.best room.new.best) }
     ensures possible { OnOk result (KeepsPossible room.old.best room.new.best) }
-    ensures room { HasRoom room.new }
+    ensures room { HasRoomForLargestPage room.new }
     ensures source { OnErr result (D.failed dump.new ≡ true) }
     ensures same { D.bytes dump.new ≡ D.bytes dump.old }
 {
@@ -170,10 +170,10 @@ fn try_data<D: Dump>(
 ) -> Result<(), DumpFault>
     requires data_size { IsDataSize data_bytes }
     requires tried { IsTriedWay way.now }
-    requires room { HasRoom room.old }
+    requires room { HasRoomForLargestPage room.old }
     ensures better { OnOk result ((all : List ℕ) → D.bytes dump.old ≡ Some all → size ≡ length all → Improves (InData all way.now data_bytes) room.old.best room.new.best) }
     ensures possible { OnOk result (KeepsPossible room.old.best room.new.best) }
-    ensures room { HasRoom room.new }
+    ensures room { HasRoomForLargestPage room.new }
     ensures source { OnErr result (D.failed dump.new ≡ true) }
     ensures same { D.bytes dump.new ≡ D.bytes dump.old }
 {
@@ -191,10 +191,10 @@ fn try_way<D: Dump>(
     way: &Way,
 ) -> Result<(), DumpFault>
     requires tried { IsTriedWay way.now }
-    requires room { HasRoom room.old }
+    requires room { HasRoomForLargestPage room.old }
     ensures better { OnOk result ((all : List ℕ) → D.bytes dump.old ≡ Some all → size ≡ length all → Improves (InWay all way.now) room.old.best room.new.best) }
     ensures possible { OnOk result (KeepsPossible room.old.best room.new.best) }
-    ensures room { HasRoom room.new }
+    ensures room { HasRoomForLargestPage room.new }
     ensures source { OnErr result (D.failed dump.new ≡ true) }
     ensures same { D.bytes dump.new ≡ D.bytes dump.old }
 {

@@ -7,8 +7,9 @@ ghost use Rattle.lab_dump.specs.Told.{pages_told_of};
 ghost use Rattle.lab_shapes.specs.Ordered.{follows, in_turn_of, is_likely, look_before, look_in, ordered, sample_first, shows_sound};
 
 use lab_arrange::{Arrangement, read_page, read_spare};
-use lab_dump::{Dump, DumpFault, Look, PagesTold, Sample, look_in, looked_row, spelled};
+use lab_dump::{Dump, DumpFault, PagesTold, Sample, look_in, looked_row, spelled};
 use page_layout::geometry::Geometry;
+use page_layout::look::PageLook;
 
 // So many of the pages that are looked at have to show a sound one.
 const PROBED: u32 = 64;
@@ -29,7 +30,7 @@ fn look_in_order<D: Dump>(
     row: u32,
     raw: &mut [u8],
     page: &mut [u8],
-) -> Result<Look, DumpFault>
+) -> Result<PageLook, DumpFault>
     requires fits { IsFitting geometry.now arrangement.now }
     requires row { row < row_count geometry.now }
     requires page_room { length page.old ≡ page_bytes geometry.now }
@@ -104,23 +105,23 @@ pub(crate) fn told_in_order<D: Dump>(
 }
 
 // Whether a page is sound.
-fn is_sound(look: Look) -> bool
+fn is_sound(look: PageLook) -> bool
     ensures { result ≡ Rattle.lab_dump.specs.Sample.is_sound look }
 {
-    matches!(look, Look::Sound(_))
+    matches!(look, PageLook::Sound(_))
 }
 
 // Whether a page is in its turn, with the one before it in its block, if there is one.
-fn follows(before: Option<Look>, look: Look) -> bool
+fn follows(before: Option<PageLook>, look: PageLook) -> bool
     ensures { result ≡ follows before look }
 {
-    let Look::Sound(found) = look else {
+    let PageLook::Sound(found) = look else {
         return false;
     };
     match before {
-        None | Some(Look::Unsound) => true,
-        Some(Look::Sound(last)) => last.sequence < found.sequence,
-        Some(Look::Erased) => false,
+        None | Some(PageLook::Unsound) => true,
+        Some(PageLook::Sound(last)) => last.sequence < found.sequence,
+        Some(PageLook::Erased) => false,
     }
 }
 
@@ -132,10 +133,10 @@ fn look_before<D: Dump>(
     geometry: &Geometry,
     arrangement: &Arrangement,
     row: u32,
-    last: Option<(u32, Look)>,
+    last: Option<(u32, PageLook)>,
     raw: &mut [u8],
     page: &mut [u8],
-) -> Result<Option<Look>, DumpFault>
+) -> Result<Option<PageLook>, DumpFault>
     requires fits { IsFitting geometry.now arrangement.now }
     requires row { row < row_count geometry.now }
     requires last { IfSome last (λ last. (all : List ℕ) → D.bytes dump.old ≡ Some all → size ≡ length all → last.1 ≡ look_in geometry.now (ordered geometry.now arrangement.now all) last.0) }

@@ -6,7 +6,7 @@ ghost use Rattle.lab_dump.specs.Fits.{IsPossible};
 ghost use Rattle.lab_shapes.specs.Arranged.{IsPossibleAs};
 ghost use Rattle.lab_shapes.specs.Ordered.{in_turn_of, ordered};
 ghost use Rattle.lab_shapes.specs.Planes.{IsInTurns, in_planes, IsTurnedOf};
-ghost use Rattle.lab_shapes.specs.Rooms.{HasRoom};
+ghost use Rattle.lab_shapes.specs.Rooms.{HasRoomForLargestPage};
 
 use crate::find::{ArrangedFit, ShapeRoom};
 use crate::fitting::fit_as;
@@ -54,7 +54,7 @@ fn compare_turns<D: Dump>(
     size: u64,
     geometry: &Geometry,
 ) -> Result<Option<ArrangedFit>, DumpFault>
-    requires room { HasRoom room.old }
+    requires room { HasRoomForLargestPage room.old }
     ensures turned { IfOk result (λ turned. (all : List ℕ) → D.bytes dump.old ≡ Some all → size ≡ length all → IsInTurns all geometry.now turned) }
     ensures possible { IfOk result (λ turned. IfSome turned IsPossibleAs) }
     ensures source { OnErr result (D.failed dump.new ≡ true) }
@@ -94,7 +94,7 @@ pub fn find_planes<D: Dump>(
     dump: &mut D,
     fit: &Fit,
 ) -> Result<Option<ArrangedFit>, DumpFault>
-    requires room { HasRoom room }
+    requires room { HasRoomForLargestPage room }
     ensures turned { IfOk result (λ turned. (all : List ℕ) → D.bytes dump.old ≡ Some all → IsTurnedOf all fit.now turned) }
     ensures possible { IfOk result (λ turned. IfSome turned IsPossibleAs) }
     ensures source { OnErr result (D.failed dump.new ≡ true) }

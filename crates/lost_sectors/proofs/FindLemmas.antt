@@ -23,7 +23,7 @@ use Rattle.translation_pages.specs.TranslationPage.{entry_at}
 use Rattle.translation_pages.specs.Entry.{entry_in, entry_of}
 use Rattle.file_die.specs.Store.{page_in}
 use Rattle.image_check.proofs.StaleLemmas.{end_of, pages_reach, place_of_sector, start_of}
-use Rattle.lost_sectors.specs.Lost.{Adds, DropsNone, is_listed, is_lost, is_lost_by, is_older, is_told, names_other, newest_sequence}
+use Rattle.lost_sectors.specs.Lost.{Adds, DropsNone, is_listed_in, is_lost, is_lost_by, is_older, is_told, names_other, newest_sequence}
 use Rattle.lost_sectors.proofs.LostLemmas.{newest_sequence_is, newest_sequence_none, none_is, same_of}
 
 -- ---- the page of a row
@@ -59,7 +59,7 @@ adds_start p first xs = record { size = refl; inside = λ n low high. absurd (om
 pub adds_none : (p : ℕ → Bool) (first end : ℕ) (xs : List Bool) → ((n : ℕ) → first ≤ n → n < end → p n ≡ false) → Adds p first end xs xs
 adds_none p first end xs none = record {
   size = refl;
-  inside = λ n low high. or_none (is_listed xs n) ∙ ap (λ b. is_listed xs n || b) (sym (none n low high));
+  inside = λ n low high. or_none (is_listed_in xs n) ∙ ap (λ b. is_listed_in xs n || b) (sym (none n low high));
   outside = λ n out. refl;
 }
 
@@ -81,7 +81,7 @@ adds_then p a b c old mid new ab bc one two = record {
 pub adds_same : (p q : ℕ → Bool) (first end : ℕ) (old new : List Bool) → ((n : ℕ) → first ≤ n → n < end → p n ≡ q n) → Adds p first end old new → Adds q first end old new
 adds_same p q first end old new same adds = record {
   size = adds.size;
-  inside = λ n low high. adds.inside n low high ∙ ap (λ b. is_listed old n || b) (same n low high);
+  inside = λ n low high. adds.inside n low high ∙ ap (λ b. is_listed_in old n || b) (same n low high);
   outside = adds.outside;
 }
 
@@ -90,8 +90,8 @@ one_set : (p : ℕ → Bool) (k : ℕ) (xs : List Bool) → k < length xs → p 
 one_set p k xs within passes = record {
   size = length-set xs k true;
   inside = λ n low high. (let same : n ≡ k = omega arith in
-      ap (get_or (slice_set xs k true) n) refl ∙ subst (λ m. is_listed (slice_set xs k true) m ≡ (is_listed xs m || p m)) (sym same)
-      (get_or-set_same xs k true false within ∙ (or_some (is_listed xs k) ∙ ap (λ b. is_listed xs k || b) (sym passes))));
+      ap (get_or (slice_set xs k true) n) refl ∙ subst (λ m. is_listed_in (slice_set xs k true) m ≡ (is_listed_in xs m || p m)) (sym same)
+      (get_or-set_same xs k true false within ∙ (or_some (is_listed_in xs k) ∙ ap (λ b. is_listed_in xs k || b) (sym passes))));
   outside = λ n out. get_or-set_other xs k n true false (λ same. elim out [ inl below ↦ omega arith | inr past ↦ omega arith ]);
 }
 
@@ -113,7 +113,7 @@ pub drops_set : (old xs : List Bool) (k : ℕ) → k < length xs → DropsNone o
 drops_set old xs k within before = record {
   size = length-set xs k true ∙ before.size;
   kept = λ n is. elim (cases_eq n k) [
-    | inl same ↦ subst (λ m. is_listed (slice_set xs k true) m ≡ true) (sym same) (get_or-set_same xs k true false within)
+    | inl same ↦ subst (λ m. is_listed_in (slice_set xs k true) m ≡ true) (sym same) (get_or-set_same xs k true false within)
     | inr other ↦ get_or-set_other xs k n true false other ∙ before.kept n is
   ];
 }

@@ -23,7 +23,7 @@ use Rattle.image_check.specs.Stale.{is_stale, same_row, stale_sectors}
 use Rattle.image_laws.specs.Power.{LosesPower, IsPageSince}
 use Rattle.image_laws.proofs.PowerLemmas.{since, stored_stays}
 use Rattle.lost_sectors.specs.Lost.{IsLost, is_lost, lost_sectors, newest_sequence}
-use Rattle.lost_sectors.specs.Laws.{Damages, DamageLaw, IsSince, KeepsSince, LossLaw, NamesLaw, NamesOlder, NoneToldLaw, PageStays, SameLaw, StandsAsIn, StepLaw, UnsoundLaw}
+use Rattle.lost_sectors.specs.Laws.{Damages, DamageLaw, IsSince, KeepsSince, KeepsAfterLossLaw, NamesLaw, NamesOlder, NoneToldLaw, PageStays, SameLaw, StandsAsIn, StepLaw, UnsoundLaw}
 use Rattle.lost_sectors.proofs.LostLemmas.{lost, newest_sequence_at, newest_sequence_is, newest_sequence_none, none_is, same_of}
 
 -- ---- a key stays, or is since
@@ -168,7 +168,7 @@ some_found g mark stored left found key row loses late is =
           inr (its.0.sequence, newest_sequence_is found key row its.0 is its.1, late key row (record { none = gone; its = its.0; has = there; of = its.2 }))
     ]
 
-pub loss : LossLaw
+pub loss : KeepsAfterLossLaw
 loss g mark stored left found loses late = record { each = λ key. by_row key (newest (marks found) key) refl }
   where
     by_row : (key : Key) (at : Option ℕ) → newest (marks found) key ≡ at → StandsAsIn stored found key ⊎ IsSince mark found key

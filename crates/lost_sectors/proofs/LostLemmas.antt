@@ -12,7 +12,7 @@ use Rattle.page_layout.specs.Newest.{newest, sequence_at}
 use Rattle.page_layout.specs.Array.{marks}
 use Rattle.page_layout.proofs.NewestLemmas.{newest-record, sequence_at-key}
 use Rattle.translation_pages.specs.Entry.{entry_of}
-use Rattle.lost_sectors.specs.Lost.{IsLost, is_lost, is_lost_by, is_older, names_other, newest_sequence, sequence_in}
+use Rattle.lost_sectors.specs.Lost.{IsLost, is_lost, is_lost_by, is_older, names_other, newest_sequence, sequence_of_row}
 use Rattle.lost_sectors.specs.Laws.{LostLaw}
 
 pub none_is : {A : Type 0} {o : Option A} {s : A} → o ≡ None → o ≡ Some s → ⊥
@@ -28,11 +28,11 @@ true_false e = cc
 
 pub newest_sequence_none : (image : Image) (key : Key) → newest (marks image) key ≡ None → newest_sequence image key ≡ None
 unfolding newest_sequence
-newest_sequence_none image key none = ap (sequence_in (marks image) key) none
+newest_sequence_none image key none = ap (sequence_of_row (marks image) key) none
 
 pub newest_sequence_at : (image : Image) (key : Key) (row : ℕ) → newest (marks image) key ≡ Some row → newest_sequence image key ≡ sequence_at (marks image) key row
 unfolding newest_sequence
-newest_sequence_at image key row is = ap (sequence_in (marks image) key) is
+newest_sequence_at image key row is = ap (sequence_of_row (marks image) key) is
 
 pub newest_sequence_is : (image : Image) (key : Key) (row : ℕ) (r : Record) → newest (marks image) key ≡ Some row → get_or (marks image) row None ≡ Some r → newest_sequence image key ≡ Some r.sequence
 newest_sequence_is image key row r is has =

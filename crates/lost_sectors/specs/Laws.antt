@@ -46,8 +46,8 @@ StepLaw = (g : Geometry) (mark : ℕ) (old mid new : Image) → KeepsSince mark 
     → Keeps g mid new ⊎ ((r : Record) × (row : ℕ) × (body : List ℕ) × (mark ≤ r.sequence) × Writes g r row body mid new) → KeepsSince mark old new
 
 -- AND AFTER A LOSS OF POWER, where each page that was programmed since the sync has the mark's sequence or a later one
-abbrev pub LossLaw : Type 0
-LossLaw = (g : Geometry) (mark : ℕ) (stored left found : Image) → LosesPower g stored left found
+abbrev pub KeepsAfterLossLaw : Type 0
+KeepsAfterLossLaw = (g : Geometry) (mark : ℕ) (stored left found : Image) → LosesPower g stored left found
     → ((key : Key) (row : ℕ) (its : IsPageSince stored left key row) → mark ≤ its.its.sequence) → KeepsSince mark stored found
 
 -- NO SECTOR IS TOLD of a die that was flushed and never damaged, whatever went on since

@@ -13,13 +13,13 @@ use Rattle.page_layout.specs.Array.{marks}
 use Rattle.translation_pages.specs.Entry.{entry_of}
 
 -- the sequence of the page of a row, if there is one
-abbrev pub sequence_in : List (Option Record) → Key → Option ℕ → Option ℕ
-sequence_in marks key None = None
-sequence_in marks key (Some row) = sequence_at marks key row
+abbrev pub sequence_of_row : List (Option Record) → Key → Option ℕ → Option ℕ
+sequence_of_row marks key None = None
+sequence_of_row marks key (Some row) = sequence_at marks key row
 
 -- the sequence of a key's newest page, if it has one
 unfoldable pub newest_sequence : Image → Key → Option ℕ
-newest_sequence image key = sequence_in (marks image) key (newest (marks image) key)
+newest_sequence image key = sequence_of_row (marks image) key (newest (marks image) key)
 
 -- ---- the criterion
 
@@ -67,16 +67,16 @@ is_told image sequence named n = names_other named (newest (marks image) (Sector
 -- ---- a list of them
 
 -- whether sector n is listed
-abbrev pub is_listed : List Bool → (n : ℕ) → Bool
-is_listed lost n = get_or lost n false
+abbrev pub is_listed_in : List Bool → (n : ℕ) → Bool
+is_listed_in lost n = get_or lost n false
 
 -- THOSE FOR WHICH A TEST PASSES ARE LISTED TOO, from one sector up to another; of all others nothing has changed
 pub record Adds (passes : ℕ → Bool) (first end : ℕ) (old new : List Bool) : Type 0 where
   pub size : length new ≡ length old
-  pub inside : (n : ℕ) → first ≤ n → n < end → is_listed new n ≡ (is_listed old n || passes n)
-  pub outside : (n : ℕ) → (n < first) ⊎ (end ≤ n) → is_listed new n ≡ is_listed old n
+  pub inside : (n : ℕ) → first ≤ n → n < end → is_listed_in new n ≡ (is_listed_in old n || passes n)
+  pub outside : (n : ℕ) → (n < first) ⊎ (end ≤ n) → is_listed_in new n ≡ is_listed_in old n
 
 -- none is taken off it
 pub record DropsNone (old new : List Bool) : Type 0 where
   pub size : length new ≡ length old
-  pub kept : (n : ℕ) → is_listed old n ≡ true → is_listed new n ≡ true
+  pub kept : (n : ℕ) → is_listed_in old n ≡ true → is_listed_in new n ≡ true

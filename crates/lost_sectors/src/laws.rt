@@ -1,11 +1,11 @@
 //! What is told of a die that was damaged, and what is not of one that never was. Each function does nothing: its contract is the law.
-ghost use Rattle.lost_sectors.specs.Laws.{DamageLaw, LossLaw, LostLaw, NamesLaw, NoneToldLaw, SameLaw, StepLaw, UnsoundLaw};
+ghost use Rattle.lost_sectors.specs.Laws.{DamageLaw, KeepsAfterLossLaw, LostLaw, NamesLaw, NoneToldLaw, SameLaw, StepLaw, UnsoundLaw};
 
 /// Of a die that was flushed and never damaged no sector is told, whatever its steps were since, and after a loss of power. (This project.)
 pub fn none_told_laws()
     ensures same { SameLaw }
     ensures step { StepLaw }
-    ensures loss { LossLaw }
+    ensures loss { KeepsAfterLossLaw }
     ensures none { NoneToldLaw }
 {}
 

@@ -1,4 +1,4 @@
--- Where a sector stands on a list by sector, and what the list is with and without it.
+-- Where a sector stands on a list by sector, and what the list is with and without_sector it.
 use Rattle.std.proofs.Common.{◌≡◌, ◌≢◌, ℕ, zero, suc, ◌+◌, ◌-◌, ◌/◌, ◌<◌, ◌≤◌, ◌∙◌, Bool, true, false, not, cond, eqb, ltb, List, [], ◌∷◌, ◌++◌, length}
 use Rattle.std.proofs.Common.{take, drop, set, get_or, filter, Option, Some, None, refl, sym, ap, subst, arith, inl, inr, is_some}
 use Rattle.std.specs.List.{IsDistinct, AllByRecursion, insert, remove}
@@ -7,7 +7,7 @@ use Rattle.std.specs.Map.{keys_of, lookup}
 use Rattle.std.proofs.lemmas.Bool.{eqb-true, eqb-false, eq-eqb, ne_eqb, ltb-true, ltb-false, lt-ltb, le-ltb, cond-true, cond-false, cases_lt}
 use Rattle.std.proofs.lemmas.List.{take-append-drop, drop-drop}
 use Rattle.std.proofs.lemmas.Nat.{le-div}
-use Rattle.mapping_cache.specs.Mapping.{IsBySector, IsPlace, placed, moved_in, without, without_page}
+use Rattle.mapping_cache.specs.Mapping.{IsBySector, IsPlace, placed, moved_in, without_sector, without_page}
 use Rattle.mapping_cache.proofs.Entries.{by_test}
 
 -- what holds of each element holds at a place
@@ -157,14 +157,14 @@ module _ (n : ℕ) (ms : List (ℕ × ℕ)) (i : ℕ) (s : IsBySector ms) (p : I
   pub nowhere_is : length ms ≤ i → false ≡ is_some (lookup (eqb n) ms)
   nowhere_is l = sym (ap is_some (lookup_none_at (0, 0) (λ k_in. absurd (omega arith))))
 
-  -- ---- and what the list is then without n, and with a row for it
+  -- ---- and what the list is then without_sector n, and with a row for it
   alone : (d : ℕ × ℕ) → i < length ms → (get_or ms i d).0 ≡ n → (k : ℕ) → i + 1 ≤ k → k < length ms → eqb (get_or ms k d).0 n ≡ false
   alone d l e k a b = ne_eqb _ n (λ same. let up = sectors_rise ms s i k d (omega arith) b in omega arith)
 
   below_it : (d : ℕ × ℕ) (k : ℕ) → k < i → eqb (get_or ms k d).0 n ≡ false
   below_it d k l = ne_eqb _ n (λ same. let low = p.before k d (omega arith) l in omega arith)
 
-  pub without_there : is_some (lookup (eqb n) ms) ≡ true → without n ms ≡ remove ms i
+  pub without_there : is_some (lookup (eqb n) ms) ≡ true → without_sector n ms ≡ remove ms i
   without_there found =
       let there = found_there found in
       run_out (λ (e : ℕ × ℕ). eqb e.0 n) ms i 1 (0, 0) (let l = there.0 in omega arith) (below_it (0, 0))
@@ -172,7 +172,7 @@ module _ (n : ℕ) (ms : List (ℕ × ℕ)) (i : ℕ) (s : IsBySector ms) (p : I
       (alone (0, 0) there.0 (there.1 (0, 0)))
       ∙ ap (λ xs. take i ms ++ xs) (drop-drop 1 i ms ∙ ap (λ k. drop k ms) (let k : i + 1 ≡ suc i = omega arith in k))
 
-  pub without_none : is_some (lookup (eqb n) ms) ≡ false → without n ms ≡ ms
+  pub without_none : is_some (lookup (eqb n) ms) ≡ false → without_sector n ms ≡ ms
   without_none missing =
       run_out (λ (e : ℕ × ℕ). eqb e.0 n) ms i 0 (0, 0) (let l = p.within in omega arith) (below_it (0, 0))
       (λ k a b. absurd (omega arith))
@@ -248,7 +248,7 @@ module _ (n row : ℕ) where
       (λ y. cond-true _ _ _ y ∙ ap (λ xs. e ∷ xs) (moved_in-placed pp t es ne) ∙ sym (cond-true _ _ _ y))
       (λ f. cond-false _ _ _ f ∙ moved_in-placed pp t es ne ∙ sym (cond-false _ _ _ f)))
 
-  -- and without its own page neither
+  -- and without_sector its own page neither
   pub without_page-placed : (pp : ℕ) (ms : List (ℕ × ℕ)) → without_page pp (n / pp) (placed n row ms) ≡ without_page pp (n / pp) ms
   without_page-placed pp [] = cond-false _ _ _ (ap not (eq-eqb (n / pp) (n / pp) refl))
   without_page-placed pp (e ∷ es) = first_of (λ xs. without_page pp (n / pp) xs ≡ without_page pp (n / pp) (e ∷ es)) e es

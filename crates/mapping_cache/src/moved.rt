@@ -3,7 +3,7 @@
 ghost use Rattle.std.specs.Prelude.{◌≡◌, ◌<◌, ◌≤◌, ◌++◌, ◌-◌, None, nat_eq, is_some, length, take, drop};
 ghost use Rattle.std.specs.Map.{lookup};
 ghost use Rattle.std.specs.Vec.{vec_capacity};
-ghost use Rattle.mapping_cache.specs.Mapping.{IsBySector, IsPlace, IsLowestOver, placed, without, without_page, moved_in};
+ghost use Rattle.mapping_cache.specs.Mapping.{IsBySector, IsPlace, IsLowestOver, placed, without_sector, without_page, moved_in};
 
 use std::ops::Range;
 
@@ -40,7 +40,7 @@ pub(crate) fn row_in(moved: &[(u32, u32)], sector: u32) -> Option<u32>
 // Takes a sector off the list.
 pub(crate) fn forget_sector(moved: &mut Vec<(u32, u32)>, sector: u32)
     requires { IsBySector moved.old.items }
-    ensures items { moved.new.items ≡ without sector moved.old.items }
+    ensures items { moved.new.items ≡ without_sector sector moved.old.items }
     ensures capacity { vec_capacity moved.new ≡ vec_capacity moved.old }
 {
     let place = place_of(moved, sector);

@@ -20,7 +20,7 @@ use Rattle.bad_blocks.specs.Marks.{is_marked}
 use Rattle.bad_blocks.specs.Table.{no_table_row, wear_at, is_good, is_good_at, retired}
 use Rattle.bad_blocks.specs.TablePage.{table_bytes}
 use Rattle.bad_blocks.proofs.TableLemmas.{slice_get-set_same}
-use Rattle.promises.specs.Legal.{IsDue, Account, account_at, accounts_of, accounted_all, noted}
+use Rattle.promises.specs.Legal.{IsDue, Account, account_at, accounts_of, accounted_all, account_after}
 use Rattle.promises.proofs.AccountLemmas.{length-accounts_of, length-accounted_all, accounted-same, accounted-other}
 use Rattle.promises.proofs.LogLemmas.{counts}
 use Rattle.promises.proofs.LegalLemmas.{accounts_join, legal_append}
@@ -179,7 +179,7 @@ passes g first old new table block done next log its left h steps body says vers
             let in_block : row / g.pages ≡ b = next_block g first old table block done next log h ∙ sym same in
             ap (λ (xs : List Account). account_at xs b) (accounts_join g.pages accounts log (op ∷ []))
             ∙ (accounted-same g.pages (accounted_all g.pages accounts log) op b in_block (omega (arith, size, l))
-            ∙ (ap (λ (a : Account). noted a op) (ap (λ k. account_at (accounted_all g.pages accounts log) k) same ∙ next_turn g first old table block done next log h)
+            ∙ (ap (λ (a : Account). account_after a op) (ap (λ k. account_at (accounted_all g.pages accounts log) k) same ∙ next_turn g first old table block done next log h)
             ∙ ap turn (sym (done-same block (done + 1) b same))))
         | inr ne ↦ turns_other g first old table block done next b log its left true h l good ne ∙ ap turn (sym (done-other block (done + 1) b ne))
       ];

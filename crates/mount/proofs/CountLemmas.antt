@@ -39,9 +39,6 @@ pub sum_within : (a b n end m : ℕ) → b ≡ a + n → n < end → end ≡ m �
 sum_within a b n end m is below end_is = omega arith
 
 -- at least so many, as far as the count goes
-pub least_start : (a : ℕ) → a ≤ 2 ^ 64 - 1 → min (a + 0) (2 ^ 64 - 1) ≤ a
-least_start a fits = omega arith
-
 pub least_next : (a b c n : ℕ) → min (a + n) (2 ^ 64 - 1) ≤ b → c ≡ counted b → min (a + (n + 1)) (2 ^ 64 - 1) ≤ c
 least_next a b c n least one = omega (arith, least, one)
 

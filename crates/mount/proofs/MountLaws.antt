@@ -8,7 +8,7 @@ use Rattle.page_layout.specs.Array.{marks}
 use Rattle.page_layout.proofs.NewestLemmas.{sequence_at-key}
 use Rattle.image_check.specs.declared.refusal.Refusal.{Refusal}
 use Rattle.image_check.specs.declared.refusal.Refusal.TheVariants as refusals
-use Rattle.image_check.specs.Refused.{Tables, Next, Fresh, IsRefusal, IsStop, IsUnformatted}
+use Rattle.image_check.specs.Refused.{Tables, Next, Fresh, IsRefusal, StopsCheck, IsUnformatted}
 use Rattle.image_check.specs.Survey.{IsFirstOutside}
 use Rattle.mount.specs.Mounted.{IsUnmountable, Refuses}
 use Rattle.mount.specs.MountLaws.{AcceptedLaw, IsShared, SharedLaw, TableTieLaw}
@@ -20,7 +20,7 @@ accepted g capacity image c m = record {
   counted = λ a is. ap length is.stale_is;
 }
   where
-    refused : (r : Refusal) → IsRefusal g capacity image c r → IsStop r
+    refused : (r : Refusal) → IsRefusal g capacity image c r → StopsCheck r
     refused r (inl stop) = stop
     refused r (inr first) = absurd (first.wrong.fails (holds g capacity image c first.part m.agrees))
 
@@ -72,6 +72,6 @@ shared g capacity image a b r in_range repeated why = by_reason why
     by_refusal refusals.OutOfMemory u = absurd u.shows
     by_refusal refusals.WrongLength u = absurd u.shows
 
-    by_reason : Refuses g capacity image r → IsStop r ⊎ IsShared r
+    by_reason : Refuses g capacity image r → StopsCheck r ⊎ IsShared r
     by_reason (inl stop) = inl stop
     by_reason (inr u) = inr (by_refusal r u)

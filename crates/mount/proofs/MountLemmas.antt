@@ -2,7 +2,7 @@
 use Rattle.std.proofs.Common.{◌≡◌, ◌↔◌, ℕ, ◌+◌, ◌≤◌, All, List, length, map, Some, refl, sym, ap, subst, ◌∙◌, arith, get_or}
 use Rattle.std.specs.Prelude.{IsPermutation}
 use Rattle.page_layout.specs.declared.geometry.Geometry.{Geometry}
-use Rattle.image_check.specs.Newest.{place_in, blank}
+use Rattle.image_check.specs.Newest.{place_in, no_newest}
 use Rattle.page_layout.specs.Geometry.{row_count, translation_pages, table_pages}
 use Rattle.page_layout.specs.Page.{Image}
 use Rattle.page_layout.specs.Word.{row_of_word}
@@ -100,7 +100,7 @@ mounted g capacity image shown directory sectors stale sized h s d is few =
         sequences = parts.part Sequences (omega arith) (omega arith);
         tables = parts.part Tables (omega arith) (omega arith);
         directory = directory_holds g image items (map row_of_word directory) h.keys.whole h.keys.noted (λ i l. row_told g items g.sectors (translation_pages g + table_pages g) directory i d sized.within (omega arith) l);
-        sectors = sectors_hold g image items (map row_of_word sectors) h.keys.whole h.keys.noted (λ n l. row_told g items 0 g.sectors sectors n s sized.within (omega arith) l ∙ ap (λ k. Some (place_in (get_or items k blank))) (from_zero n));
+        sectors = sectors_hold g image items (map row_of_word sectors) h.keys.whole h.keys.noted (λ n l. row_told g items 0 g.sectors sectors n s sized.within (omega arith) l ∙ ap (λ k. Some (place_in (get_or items k no_newest))) (from_zero n));
         bad_set = each g image shown.blocks.items _ h.states (λ b. (same_fact, same_fact));
         states = each g image shown.blocks.items _ h.states (λ b. (refl, refl));
         live = each g image shown.blocks.items _ h.states (λ b. refl);

@@ -18,11 +18,11 @@ use Rattle.page_layout.proofs.ArrayLemmas.{body_page}
 use Rattle.page_layout.proofs.FlashLemmas.{image-program}
 use Rattle.bad_blocks.specs.declared.table.TableRow.{TableRow}
 use Rattle.bad_blocks.specs.Marks.{is_marked}
-use Rattle.bad_blocks.specs.Table.{IsCounted, no_table_row}
-use Rattle.bad_blocks.specs.TablePage.{code_of, word_or_padding, table_bytes, IsTablePage, IsWellFormed}
+use Rattle.bad_blocks.specs.Table.{HasFittingWear, no_table_row}
+use Rattle.bad_blocks.specs.TablePage.{code_of_class, word_or_padding, table_bytes, IsTablePage, IsWellFormed}
 use Rattle.bad_blocks.proofs.PageLemmas.{table_bytes_page, right_word}
 use Rattle.image_check.specs.Agrees.{HasTables}
-use Rattle.image_check.specs.Blocks.{table_body, table_class, class, is_good, is_grown, is_free, is_open, is_of_data, IsTableOf}
+use Rattle.image_check.specs.Blocks.{table_body, table_class, class, is_good_block, is_grown, is_shown_free, is_shown_open, is_of_data, IsTableOf}
 use Rattle.image_check.specs.Mountable.{IsOrderly}
 use Rattle.image_check.specs.Stale.{entry_of, is_stale, stale_sectors, stale_count}
 use Rattle.image_check.proofs.MountableLemmas.{mountable}
@@ -46,8 +46,8 @@ length_after a b (Erase block passed left ∷ log) leads none = absurd (omega ar
 
 -- ---- its tables
 
-table_counted : (g : Geometry) (image : Image) (log : List Operation) → All IsCounted (table_after g image log)
-table_counted g image log = All-map IsCounted (row_after g image log) (range_with_len 0 g.blocks) (λ k d l. record { most = omega arith })
+table_counted : (g : Geometry) (image : Image) (log : List Operation) → All HasFittingWear (table_after g image log)
+table_counted g image log = All-map HasFittingWear (row_after g image log) (range_with_len 0 g.blocks) (λ k d l. record { most = omega arith })
 
 body_is : (g : Geometry) (image : Image) (row u sequence : ℕ) (table : List TableRow) → HasTablePage g image row u sequence table → table_body image u ≡ table_bytes (entries g) table u
 body_is g image row u sequence table page = table_is image u row page.newest_is ∙ (body_page image row page.its page.at ∙ page.body)
@@ -68,14 +68,14 @@ tables_taken g needed old new good f =
 
 -- ---- its blocks
 
-code_after : (marked failed : Bool) → (code_of (class_after marked failed) + 256 * 0) % 256 ≡ code_of (class_after marked failed)
+code_after : (marked failed : Bool) → (code_of_class (class_after marked failed) + 256 * 0) % 256 ≡ code_of_class (class_after marked failed)
 code_after true failed = refl
 code_after false true = refl
 code_after false false = refl
 
 -- the class that the newest table gives a block
 table_class_is : (g : Geometry) (needed : ℕ) (old new : Flash) (good b : ℕ) (f : IsFormatted g needed old new good) → b < g.blocks
-    → table_class g new.image b ≡ code_of (class_after (is_marked g old.image b) (failed_in g.pages f.log b))
+    → table_class g new.image b ≡ code_of_class (class_after (is_marked g old.image b) (failed_in g.pages f.log b))
 table_class_is g needed old new good b f l =
     let rows : List TableRow = table_after g old.image f.log in
     let size : length rows ≡ g.blocks = length-table_after g old.image f.log in
@@ -93,7 +93,7 @@ other_class false false true true = λ is. absurd (omega arith)
 other_class false false true false = λ is. absurd (omega arith)
 other_class false false false of_data = λ is. absurd (omega arith)
 
-four : (marked failed : Bool) (code other : ℕ) → code ≡ code_of (class_after marked failed) → other ≢ 4 → ◌≡◌ {A = ℕ} (cond (code == 1) 4 other) 4 ↔ (marked ≡ true)
+four : (marked failed : Bool) (code other : ℕ) → code ≡ code_of_class (class_after marked failed) → other ≢ 4 → ◌≡◌ {A = ℕ} (cond (code == 1) 4 other) 4 ↔ (marked ≡ true)
 four true failed code other is ne = (λ c. refl, λ m. rw is refl)
 four false true code other is ne = (λ c. absurd (ne (sym (rw is refl) ∙ c)), λ m. absurd (cc m))
 four false false code other is ne = (λ c. absurd (ne (sym (rw is refl) ∙ c)), λ m. absurd (cc m))
@@ -102,17 +102,17 @@ class_four : (g : Geometry) (needed : ℕ) (old new : Flash) (good b : ℕ) → 
 unfolding class
 class_four g needed old new good b f l =
     four (is_marked g old.image b) (failed_in g.pages f.log b) (table_class g new.image b) _ (table_class_is g needed old new good b f l)
-    (other_class (is_grown g new.image b) (is_free g new.image b) (is_open g new.image b) (is_of_data g new.image b))
+    (other_class (is_grown g new.image b) (is_shown_free g new.image b) (is_shown_open g new.image b) (is_of_data g new.image b))
 
-good_seen : (marked failed broken gap : Bool) (code : ℕ) → code ≡ code_of (class_after marked failed) → (not (marked || failed) ≡ true → (broken || gap) ≡ false)
+good_seen : (marked failed broken gap : Bool) (code : ℕ) → code ≡ code_of_class (class_after marked failed) → (not (marked || failed) ≡ true → (broken || gap) ≡ false)
     → (not (code == 1) && not (not (code == 1) && (code == 2 || broken || gap))) ≡ not (marked || failed)
 good_seen true failed broken gap code is quiet = rw is refl
 good_seen false true broken gap code is quiet = rw is refl
 good_seen false false broken gap code is quiet = rw (is, quiet refl) refl
 
 -- the checker calls good what the table calls good
-good_same : (g : Geometry) (needed : ℕ) (old new : Flash) (good b : ℕ) (f : IsFormatted g needed old new good) → b < g.blocks → is_good g new.image b ≡ is_good_after g old.image f.log b
-unfolding is_good
+good_same : (g : Geometry) (needed : ℕ) (old new : Flash) (good b : ℕ) (f : IsFormatted g needed old new good) → b < g.blocks → is_good_block g new.image b ≡ is_good_after g old.image f.log b
+unfolding is_good_block
 good_same g needed old new good b f l =
     let ps = block_pages g new.image b in
     good_seen (is_marked g old.image b) (failed_in g.pages f.log b) (list_any is_broken ps) (has_gap ps) (table_class g new.image b) (table_class_is g needed old new good b f l) (f.shown b l)
@@ -154,7 +154,7 @@ orderly g needed old new good capacity f =
 pub ready : FormattedLaw
 ready g needed old new good f = record {
   factory = λ b l. class_four g needed old new good b f l;
-  good_is = count_within (is_good g new.image) (is_good_after g old.image f.log) 0 g.blocks (λ k low high. good_same g needed old new good k f (omega (arith, high))) ∙ sym f.good_is;
+  good_is = count_within (is_good_block g new.image) (is_good_after g old.image f.log) 0 g.blocks (λ k low high. good_same g needed old new good k f (omega (arith, high))) ∙ sym f.good_is;
   fresh = none_stale g new.image f.blank.no_sector f.blank.no_translation;
   mountable = λ capacity least most.
       let size : length new.image ≡ row_count g = length_after old new f.log f.done.leads f.done.erases ∙ f.whole.rows in

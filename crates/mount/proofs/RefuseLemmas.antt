@@ -12,8 +12,8 @@ use Rattle.image_check.specs.Mountable.{IsMountable}
 use Rattle.image_check.specs.Stale.{stale_sectors, stale_count}
 use Rattle.image_check.specs.Surveyed.{Surveys}
 use Rattle.image_check.specs.Refused.{Part, Asked, Numbers, Sequences, Tables, Directory, Sectors, BadSet, States, Live, Wear, Next, Fresh, Holds}
-use Rattle.image_check.specs.Refused.{Says, order, part_of, HoldBetween, FailsFrom, IsMemory, IsStop, IsOfImage}
-use Rattle.mount.specs.Mounted.{Shows, IsAfter, IsSpent, Refuses, IsOfMounting}
+use Rattle.image_check.specs.Refused.{RefusalSays, order, part_of, HoldBetween, FailsFrom, IsMemory, StopsCheck, IsOfImage}
+use Rattle.mount.specs.Mounted.{ShowsRefusal, IsAfter, IsSpent, Refuses, IsOfMounting}
 
 -- each part of the agreement
 pub holds : (g : Geometry) (capacity : ℕ) (image : Image) (c : Claim) (p : Part) → Agrees g capacity image c → Holds g capacity image c p
@@ -31,7 +31,7 @@ holds g capacity image c Next h = h.next
 holds g capacity image c Fresh h = h.fresh
 
 -- what a refusal that is of the image says, it says of the image alone
-shows : (g : Geometry) (capacity : ℕ) (image : Image) (c : Claim) (r : Refusal) (part : Part) → IsOfImage r → part_of r ≡ Some part → Says g capacity image c r → Shows g capacity image r
+shows : (g : Geometry) (capacity : ℕ) (image : Image) (c : Claim) (r : Refusal) (part : Part) → IsOfImage r → part_of r ≡ Some part → RefusalSays g capacity image c r → ShowsRefusal g capacity image r
 shows g capacity image c (refusals.NumberRange row) part kind is said = said
 shows g capacity image c (refusals.SequenceRepeated a b) part kind is said = said
 shows g capacity image c refusals.NotFormatted part kind is said = said
@@ -107,7 +107,7 @@ of_mounting (refusals.LiveWrong b) kind = absurd kind
 of_mounting (refusals.WearWrong b) kind = absurd kind
 of_mounting refusals.WrongLength kind = absurd kind
 
-pub stop_of_mounting : (r : Refusal) → IsStop r → IsOfMounting r
+pub stop_of_mounting : (r : Refusal) → StopsCheck r → IsOfMounting r
 stop_of_mounting r (inl source) = subst IsOfMounting (sym source) tt
 stop_of_mounting r (inr memory) = subst IsOfMounting (sym memory) tt
 

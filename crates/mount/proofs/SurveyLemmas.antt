@@ -17,8 +17,8 @@ use Rattle.bad_blocks.specs.declared.table.TableRow.{TableRow}
 use Rattle.bad_blocks.specs.Marks.{has_mark, is_marked}
 use Rattle.mount.specs.Fresh.{is_page_used, is_used, IsFirst}
 use Rattle.mount.specs.Formatted.{class_after, table_after}
-use Rattle.mount.specs.PageLook.{look_of}
-use Rattle.mount.specs.declared.format_survey.PageLook.{PageLook}
+use Rattle.mount.specs.FreshLook.{fresh_look_of}
+use Rattle.mount.specs.declared.format_survey.FreshLook.{FreshLook}
 use Rattle.bad_blocks.specs.Table.{no_table_row, unworn}
 use Rattle.bad_blocks.proofs.RangeLemmas.{map_range_from_places}
 use Rattle.mount.proofs.TableLemmas.{row_after}
@@ -98,11 +98,11 @@ pub or_else : (either one two : Bool) → one ≡ false → either ≡ two → e
 or_else either one two is made = made ∙ ap (λ b. b || two) (sym is)
 
 -- by the looks at its first page and its last
-pub marked_block : (g : Geometry) (image : Image) (block first last pages : ℕ) (marked : Bool) (one two : PageLook) → marked ≡ one.has_zero || two.has_zero
-    → one ≡ look_of (get_or image first no_page) → two ≡ look_of (get_or image last no_page) → first ≡ block * g.pages → last ≡ block * g.pages + (pages - 1) → pages ≡ g.pages → marked ≡ is_marked g image block
+pub marked_block : (g : Geometry) (image : Image) (block first last pages : ℕ) (marked : Bool) (one two : FreshLook) → marked ≡ one.has_zero || two.has_zero
+    → one ≡ fresh_look_of (get_or image first no_page) → two ≡ fresh_look_of (get_or image last no_page) → first ≡ block * g.pages → last ≡ block * g.pages + (pages - 1) → pages ≡ g.pages → marked ≡ is_marked g image block
 marked_block g image block first last pages marked one two either one_is two_is first_is last_is pages_are =
-    let at_first : one.has_zero ≡ has_mark image (block * g.pages) = ap (λ (l : PageLook). l.has_zero) one_is ∙ ap (has_mark image) first_is in
-    let at_last : two.has_zero ≡ has_mark image (block * g.pages + (g.pages - 1)) = ap (λ (l : PageLook). l.has_zero) two_is ∙ ap (has_mark image) (last_is ∙ ap (λ n. block * g.pages + (n - 1)) pages_are) in
+    let at_first : one.has_zero ≡ has_mark image (block * g.pages) = ap (λ (l : FreshLook). l.has_zero) one_is ∙ ap (has_mark image) first_is in
+    let at_last : two.has_zero ≡ has_mark image (block * g.pages + (g.pages - 1)) = ap (λ (l : FreshLook). l.has_zero) two_is ∙ ap (has_mark image) (last_is ∙ ap (λ n. block * g.pages + (n - 1)) pages_are) in
     either ∙ (ap (λ b. b || two.has_zero) at_first ∙ ap (λ b. has_mark image (block * g.pages) || b) at_last)
 
 -- the rows of the first page of a block, of its last one, and how many are between

@@ -14,7 +14,7 @@ use Rattle.mount.specs.Log.{failures}
 use Rattle.mount.specs.Fresh.{is_used, IsFirstPass}
 use Rattle.mount.proofs.TableLemmas.{good_count-table}
 use Rattle.mount.specs.Formatted.{good_after, Answers, IsNotFresh, table_after, IsFormatted, IsTooFewGood, IsWriteFailed, Formats}
-use Rattle.mount.specs.Attempt.{IsTrying, Tries, WritesFormat, AnswersWrite}
+use Rattle.mount.specs.Attempt.{IsTrying, TriesBlock, WritesFormat, AnswersTableWrite}
 use Rattle.mount.specs.declared.format_fault.FormatFault.{FormatFault}
 use Rattle.mount.specs.declared.format_fault.FormatFault.TheVariants.{TooFewGood, Bus, OutOfMemory, WriteFailed, NotFresh}
 use Rattle.mount.proofs.FinishLemmas.{finished}
@@ -22,11 +22,11 @@ use Rattle.mount.proofs.SizeLemmas.{table_pages_fit}
 
 -- ---- by the outcome
 
-pub tries-passed : (g : Geometry) (first now : Flash) (table : List TableRow) (block next failed : ℕ) (outcome : Outcome) → is_passed outcome ≡ true → Tries g first now table block next failed outcome → IsTrying g first now table block (table_pages g) next failed
+pub tries-passed : (g : Geometry) (first now : Flash) (table : List TableRow) (block next failed : ℕ) (outcome : Outcome) → is_passed outcome ≡ true → TriesBlock g first now table block next failed outcome → IsTrying g first now table block (table_pages g) next failed
 tries-passed g first now table block next failed Passed passed tries = tries
 tries-passed g first now table block next failed Failed passed tries = absurd (cc passed)
 
-pub tries-failed : (g : Geometry) (first now : Flash) (table : List TableRow) (block next failed : ℕ) (outcome : Outcome) → is_passed outcome ≡ false → Tries g first now table block next failed outcome
+pub tries-failed : (g : Geometry) (first now : Flash) (table : List TableRow) (block next failed : ℕ) (outcome : Outcome) → is_passed outcome ≡ false → TriesBlock g first now table block next failed outcome
     → (other : ℕ) → IsTrying g first now (retired table block) other 0 next (failed + 1)
 tries-failed g first now table block next failed Passed passed tries other = absurd (cc passed)
 tries-failed g first now table block next failed Failed passed tries other = tries other
@@ -148,10 +148,10 @@ pub bus_not_memory : {T : Type 0} → ◌≡◌ {A = Result T FormatFault} (Err 
 bus_not_memory is = (let never : ⊥ = cc in never)
 
 -- what the writes answer after a scan that programmed nothing
-pub writes_answers : (g : Geometry) (needed before old new : ℕ) (r : Result ℕ FormatFault) → old ≡ before → AnswersWrite g needed old new r → Answers g needed before new r
-writes_answers g needed before old new r same writes = by_case r (subst (λ n. AnswersWrite g needed n new r) same writes)
+pub writes_answers : (g : Geometry) (needed before old new : ℕ) (r : Result ℕ FormatFault) → old ≡ before → AnswersTableWrite g needed old new r → Answers g needed before new r
+writes_answers g needed before old new r same writes = by_case r (subst (λ n. AnswersTableWrite g needed n new r) same writes)
   where
-    by_case : (r : Result ℕ FormatFault) → AnswersWrite g needed before new r → Answers g needed before new r
+    by_case : (r : Result ℕ FormatFault) → AnswersTableWrite g needed before new r → Answers g needed before new r
     by_case (Ok good) writes = writes
     by_case (Err (TooFewGood good asked)) writes = writes
     by_case (Err Bus) writes = writes
@@ -160,5 +160,5 @@ writes_answers g needed before old new r same writes = by_case r (subst (λ n. A
     by_case (Err (NotFresh row)) writes = absurd writes
 
 -- the writes never want memory
-pub not_for_memory : (g : Geometry) (needed old new : ℕ) (r : Result ℕ FormatFault) → r ≡ Err OutOfMemory → AnswersWrite g needed old new r → ⊥
-not_for_memory g needed old new r is writes = subst (λ r. AnswersWrite g needed old new r) is writes
+pub not_for_memory : (g : Geometry) (needed old new : ℕ) (r : Result ℕ FormatFault) → r ≡ Err OutOfMemory → AnswersTableWrite g needed old new r → ⊥
+not_for_memory g needed old new r is writes = subst (λ r. AnswersTableWrite g needed old new r) is writes

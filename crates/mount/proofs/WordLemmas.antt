@@ -11,7 +11,7 @@ use Rattle.page_layout.specs.Word.{no_row, row_of_word, word_of_row}
 use Rattle.certificate.specs.Parts.{IsRowWord}
 use Rattle.certificate.specs.Spelling.{IsRowOf}
 use Rattle.image_check.specs.declared.newest.Newest.{Newest}
-use Rattle.image_check.specs.Newest.{place_in, blank}
+use Rattle.image_check.specs.Newest.{place_in, no_newest}
 use Rattle.mount.specs.Shown.{HasWords}
 
 few_rows : (g : Geometry) → row_count g < no_row
@@ -32,16 +32,16 @@ slice_get-map f [] i x e = absurd cc
 slice_get-map f (y ∷ ys) zero x e = let same : y ≡ x = cc in ap (λ z. Some (f z)) same
 slice_get-map f (y ∷ ys) (suc i) x e = slice_get-map f ys i x e
 
-row_below : (g : Geometry) (newest : List Newest) (i : ℕ) → All (λ x. IsRowOf (row_count g) (place_in x)) newest → i < length newest → IsRowOf (row_count g) (place_in (get_or newest i blank))
-row_below g newest i within l = within i blank l
+row_below : (g : Geometry) (newest : List Newest) (i : ℕ) → All (λ x. IsRowOf (row_count g) (place_in x)) newest → i < length newest → IsRowOf (row_count g) (place_in (get_or newest i no_newest))
+row_below g newest i within l = within i no_newest l
 
 -- the row that a word stands for is that of the key's newest page
 pub row_told : (g : Geometry) (newest : List Newest) (first n : ℕ) (words : List ℕ) (i : ℕ) → HasWords newest first n words
     → All (λ x. IsRowOf (row_count g) (place_in x)) newest → first + n ≤ length newest → i < n
-    → slice_get (map row_of_word words) i ≡ Some (place_in (get_or newest (first + i) blank))
+    → slice_get (map row_of_word words) i ≡ Some (place_in (get_or newest (first + i) no_newest))
 row_told g newest first n words i h within room l =
     let few = few_rows g in
-    slice_get-map row_of_word words i _ (h.word i l) ∙ ap Some (word_read (row_count g) (place_in (get_or newest (first + i) blank)) few (row_below g newest (first + i) within (omega arith)))
+    slice_get-map row_of_word words i _ (h.word i l) ∙ ap Some (word_read (row_count g) (place_in (get_or newest (first + i) no_newest)) few (row_below g newest (first + i) within (omega arith)))
 
 -- each word is that of a row, or of none
 pub words_fit : (g : Geometry) (newest : List Newest) (first n : ℕ) (words : List ℕ) → HasWords newest first n words → All (λ x. IsRowOf (row_count g) (place_in x)) newest → first + n ≤ length newest → All (IsRowWord (row_count g)) words
@@ -49,7 +49,7 @@ words_fit g newest first n words h within room = λ k d l.
     let size = h.size in
     let few = few_rows g in
     let at = first + k in
-    let row = place_in (get_or newest at blank) in
+    let row = place_in (get_or newest at no_newest) in
     let is : get_or words k d ≡ word_of_row row = get_or_from_slice_get words k (word_of_row row) d (h.word k (omega arith)) in
     let below : IsRowOf (row_count g) row = row_below g newest at within (omega arith) in
     subst (IsRowWord (row_count g)) (sym is) (subst (IsRowOf (row_count g)) (sym (word_read (row_count g) row few below)) below)
@@ -68,10 +68,10 @@ pub one_word_more : (newest : List Newest) (first n k : ℕ) (words new : List �
     → new ≡ words ++ (word_of_row (place_in at) ∷ []) → at ≡ get_or newest k at → HasWords newest first (n + 1) new
 one_word_more newest first n k words new at h here within is its =
     let word = word_of_row (place_in at) in
-    let found : at ≡ get_or newest (first + n) blank = get_or_read newest k at within its blank ∙ ap (λ i. get_or newest i blank) here in
+    let found : at ≡ get_or newest (first + n) no_newest = get_or_read newest k at within its no_newest ∙ ap (λ i. get_or newest i no_newest) here in
     record {
       size = ap length is ∙ (length-append words (word ∷ []) ∙ ap (λ m. m + 1) h.size);
-      word = below_more (λ i. slice_get new i ≡ Some (word_of_row (place_in (get_or newest (first + i) blank)))) n
+      word = below_more (λ i. slice_get new i ≡ Some (word_of_row (place_in (get_or newest (first + i) no_newest)))) n
           (λ i l. ap (λ xs. slice_get xs i) is ∙ (get_front words word i (omega (arith, l, h.size)) ∙ h.word i l))
           (ap (λ xs. slice_get xs n) is ∙ (subst (λ m. slice_get (words ++ (word ∷ [])) m ≡ Some word) h.size (get_last words word) ∙ ap (λ x. Some (word_of_row (place_in x))) found));
     }

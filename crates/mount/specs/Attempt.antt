@@ -69,9 +69,9 @@ pub record IsTrying (g : Geometry) (first now : Flash) (table : List TableRow) (
   pub fewer : good_count table + failed ≡ good_after g first.image []
 
 -- what the programs in one block did, by their outcome: all table pages stand in it, or it has failed
-abbrev pub Tries : Geometry → Flash → Flash → List TableRow → ℕ → ℕ → ℕ → Outcome → Type 0
-Tries g first now table block next failed Passed = IsTrying g first now table block (table_pages g) next failed
-Tries g first now table block next failed Failed = (other : ℕ) → IsTrying g first now (retired table block) other 0 next (failed + 1)
+abbrev pub TriesBlock : Geometry → Flash → Flash → List TableRow → ℕ → ℕ → ℕ → Outcome → Type 0
+TriesBlock g first now table block next failed Passed = IsTrying g first now table block (table_pages g) next failed
+TriesBlock g first now table block next failed Failed = (other : ℕ) → IsTrying g first now (retired table block) other 0 next (failed + 1)
 
 -- ---- the answers of the programs
 
@@ -85,11 +85,11 @@ WritesFormat g needed first now (Err WriteFailed) = IsWriteFailed g needed first
 WritesFormat g needed first now (Err (NotFresh row)) = ⊥
 
 -- what it answers for any die, by the programs before and after
-abbrev pub AnswersWrite : Geometry → ℕ → ℕ → ℕ → Result ℕ FormatFault → Type 0
-AnswersWrite g needed old_programs new_programs (Ok good) = (needed ≤ good) × (good ≤ g.blocks)
-AnswersWrite g needed old_programs new_programs (Err (TooFewGood good asked)) =
+abbrev pub AnswersTableWrite : Geometry → ℕ → ℕ → ℕ → Result ℕ FormatFault → Type 0
+AnswersTableWrite g needed old_programs new_programs (Ok good) = (needed ≤ good) × (good ≤ g.blocks)
+AnswersTableWrite g needed old_programs new_programs (Err (TooFewGood good asked)) =
     (good < needed) × (asked ≡ needed) × ((new_programs ≡ old_programs) ⊎ (good + 1 ≡ needed))
-AnswersWrite g needed old_programs new_programs (Err Bus) = Unit {0}
-AnswersWrite g needed old_programs new_programs (Err OutOfMemory) = ⊥
-AnswersWrite g needed old_programs new_programs (Err WriteFailed) = AreThreeMore old_programs new_programs
-AnswersWrite g needed old_programs new_programs (Err (NotFresh row)) = ⊥
+AnswersTableWrite g needed old_programs new_programs (Err Bus) = Unit {0}
+AnswersTableWrite g needed old_programs new_programs (Err OutOfMemory) = ⊥
+AnswersTableWrite g needed old_programs new_programs (Err WriteFailed) = AreThreeMore old_programs new_programs
+AnswersTableWrite g needed old_programs new_programs (Err (NotFresh row)) = ⊥

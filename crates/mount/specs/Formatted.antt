@@ -20,7 +20,7 @@ use Rattle.bad_blocks.specs.declared.table.TableRow.{TableRow}
 use Rattle.bad_blocks.specs.Marks.{is_marked}
 use Rattle.bad_blocks.specs.TablePage.{table_bytes}
 use Rattle.mount.specs.Fresh.{is_used, IsFirstPass, IsFresh}
-use Rattle.promises.specs.Log.{programs_in, erases_in, failed_in, good_of, good_count}
+use Rattle.promises.specs.Log.{programs_in, erases_in, failed_in, good_of, good_count_after}
 use Rattle.promises.specs.Legal.{IsLegal}
 use Rattle.mount.specs.Log.{failures}
 use Rattle.mount.specs.declared.format_fault.FormatFault.{FormatFault}
@@ -45,7 +45,7 @@ is_good_after g image log block = good_of g.pages (is_marked g image) log block
 
 -- how many there are
 abbrev pub good_after : Geometry → Image → List Operation → ℕ
-good_after g image log = good_count g (is_marked g image) log
+good_after g image log = good_count_after g (is_marked g image) log
 
 -- ---- what was done
 

@@ -2,7 +2,7 @@ pub mod Fresh
 pub mod Log
 pub mod Formatted
 pub mod FormatLaws
-pub mod PageLook
+pub mod FreshLook
 pub mod Attempt
 pub mod Mounted
 pub mod MountLaws

@@ -12,7 +12,7 @@ use Rattle.image_check.specs.Agrees.{Agrees, AreInRange, HasTables}
 use Rattle.image_check.specs.Mountable.{IsMountable}
 use Rattle.image_check.specs.Stale.{stale_count}
 use Rattle.image_check.specs.Survey.{IsFirstOutside}
-use Rattle.image_check.specs.Refused.{Part, Numbers, Sequences, Tables, order, part_of, IsFirstRepeated, IsUnformatted, IsTableDamaged, IsStop}
+use Rattle.image_check.specs.Refused.{Part, Numbers, Sequences, Tables, order, part_of, IsFirstRepeated, IsUnformatted, IsTableDamaged, StopsCheck}
 
 -- one more than the greatest sequence of all sound pages
 pub record IsNextSequence (marks : List (Option Record)) (next : ℕ) : Type 0 where
@@ -35,24 +35,24 @@ pub record IsSpent (marks : List (Option Record)) : Type 0 where
   pub is : last.sequence ≡ 2 ^ 64 - 1
 
 -- what a refusal says of the image. The other refusals are of a certificate, and mounting has none
-abbrev pub Shows : Geometry → ℕ → Image → Refusal → Type 0
-Shows g capacity image (refusals.NumberRange row) = IsFirstOutside g (marks image) row
-Shows g capacity image (refusals.SequenceRepeated a b) = IsFirstRepeated (marks image) a b
-Shows g capacity image refusals.NotFormatted = IsUnformatted g image
-Shows g capacity image (refusals.TableDamaged u) = IsTableDamaged g image u
-Shows g capacity image refusals.NextSequence = IsSpent (marks image)
-Shows g capacity image (refusals.TooStale stale most) = (stale ≡ stale_count g image) × (most ≡ capacity) × (capacity < stale)
-Shows g capacity image refusals.GeometryDiffers = ⊥
-Shows g capacity image (refusals.DirectoryWrong i) = ⊥
-Shows g capacity image (refusals.NoSuchRecord n row) = ⊥
-Shows g capacity image (refusals.NotNewest n row) = ⊥
-Shows g capacity image (refusals.BadSetWrong b) = ⊥
-Shows g capacity image (refusals.BlockState b) = ⊥
-Shows g capacity image (refusals.LiveWrong b) = ⊥
-Shows g capacity image (refusals.WearWrong b) = ⊥
-Shows g capacity image refusals.Source = ⊥
-Shows g capacity image refusals.OutOfMemory = ⊥
-Shows g capacity image refusals.WrongLength = ⊥
+abbrev pub ShowsRefusal : Geometry → ℕ → Image → Refusal → Type 0
+ShowsRefusal g capacity image (refusals.NumberRange row) = IsFirstOutside g (marks image) row
+ShowsRefusal g capacity image (refusals.SequenceRepeated a b) = IsFirstRepeated (marks image) a b
+ShowsRefusal g capacity image refusals.NotFormatted = IsUnformatted g image
+ShowsRefusal g capacity image (refusals.TableDamaged u) = IsTableDamaged g image u
+ShowsRefusal g capacity image refusals.NextSequence = IsSpent (marks image)
+ShowsRefusal g capacity image (refusals.TooStale stale most) = (stale ≡ stale_count g image) × (most ≡ capacity) × (capacity < stale)
+ShowsRefusal g capacity image refusals.GeometryDiffers = ⊥
+ShowsRefusal g capacity image (refusals.DirectoryWrong i) = ⊥
+ShowsRefusal g capacity image (refusals.NoSuchRecord n row) = ⊥
+ShowsRefusal g capacity image (refusals.NotNewest n row) = ⊥
+ShowsRefusal g capacity image (refusals.BadSetWrong b) = ⊥
+ShowsRefusal g capacity image (refusals.BlockState b) = ⊥
+ShowsRefusal g capacity image (refusals.LiveWrong b) = ⊥
+ShowsRefusal g capacity image (refusals.WearWrong b) = ⊥
+ShowsRefusal g capacity image refusals.Source = ⊥
+ShowsRefusal g capacity image refusals.OutOfMemory = ⊥
+ShowsRefusal g capacity image refusals.WrongLength = ⊥
 
 -- the refusal names a part that comes later in the order than this one
 abbrev pub IsAfter : Part → Refusal → Type 0
@@ -63,14 +63,14 @@ IsAfter part r = (named : Part) × (part_of r ≡ Some named) × (order part < o
 -- Law: an image whose sound pages share a sequence is refused for that, if its numbers are in range (`SharedLaw`).
 pub record IsUnmountable (g : Geometry) (capacity : ℕ) (image : Image) (r : Refusal) : Type 0 where
   pub none : ¬ IsMountable g capacity image
-  pub shows : Shows g capacity image r
+  pub shows : ShowsRefusal g capacity image r
   pub numbers : IsAfter Numbers r → AreInRange g (marks image)
   pub sequences : IsAfter Sequences r → AreDistinct (marks image)
   pub tables : IsAfter Tables r → HasTables g image
 
 -- what a refusal to mount says: memory or a page read failed, or the image has no certificate
 abbrev pub Refuses : Geometry → ℕ → Image → Refusal → Type 0
-Refuses g capacity image r = IsStop r ⊎ IsUnmountable g capacity image r
+Refuses g capacity image r = StopsCheck r ⊎ IsUnmountable g capacity image r
 
 -- a refusal that may come, whatever the pages were
 abbrev pub IsOfMounting : Refusal → Type 0

@@ -10,7 +10,7 @@ use Rattle.certificate.specs.Spelling.{FitsBlock, IsRowOf}
 use Rattle.image_check.specs.Blocks.{AreStates}
 use Rattle.image_check.specs.Refused.{HoldBetween}
 use Rattle.image_check.specs.declared.newest.Newest.{Newest}
-use Rattle.image_check.specs.Newest.{place_in, blank}
+use Rattle.image_check.specs.Newest.{place_in, no_newest}
 use Rattle.image_check.specs.Surveyed.{SurveysKeys}
 use Rattle.mount.specs.declared.mount_pages.Shown.{Shown}
 use Rattle.mount.specs.Mounted.{IsNextSequence}
@@ -32,4 +32,4 @@ pub record IsShown (g : Geometry) (image : Image) (shown : Shown) : Type 0 where
 -- the words of n keys' newest rows, from the first of these keys on
 pub record HasWords (newest : List Newest) (first n : ℕ) (words : List ℕ) : Type 0 where
   pub size : length words ≡ n
-  pub word : (i : ℕ) → i < n → slice_get words i ≡ Some (word_of_row (place_in (get_or newest (first + i) blank)))
+  pub word : (i : ℕ) → i < n → slice_get words i ≡ Some (word_of_row (place_in (get_or newest (first + i) no_newest)))

@@ -9,7 +9,7 @@ ghost use Rattle.bad_blocks.specs.Marks.{is_marked};
 ghost use Rattle.bad_blocks.specs.Table.{unworn};
 ghost use Rattle.mount.specs.Fresh.{is_page_used, is_used, IsFirst};
 ghost use Rattle.mount.specs.Formatted.{class_after, table_after};
-ghost use Rattle.mount.specs.PageLook.{look_of, is_look_used};
+ghost use Rattle.mount.specs.FreshLook.{fresh_look_of, is_look_used};
 
 use crate::format_fault::FormatFault;
 use bad_blocks::Class;
@@ -20,7 +20,7 @@ use page_layout::source::{PageSource, SourceFault};
 
 /// What one look at a page keeps of it.
 #[derive(Clone, Copy)]
-pub struct PageLook {
+pub struct FreshLook {
     // A spare byte is 00h.
     pub has_zero: bool,
     pub is_erased: bool,
@@ -29,20 +29,20 @@ pub struct PageLook {
 
 // An erased page is not hashed: it has no record.
 #[tactic(auto, using(crate::proofs::LookLemmas::erased_not_sound))]
-fn look_at(geometry: &Geometry, body: &[u8], spare: &[u8]) -> PageLook
+fn look_at(geometry: &Geometry, body: &[u8], spare: &[u8]) -> FreshLook
     requires body_whole { length body.now ≡ geometry.now.data_bytes }
     requires spare_whole { length spare.now ≡ geometry.now.spare_bytes }
-    ensures { result ≡ look_of (page body.now spare.now) }
+    ensures { result ≡ fresh_look_of (page body.now spare.now) }
 {
     let is_erased = is_erased(body, spare);
-    PageLook {
+    FreshLook {
         has_zero: has_zero(spare),
         is_erased,
         is_sound: !is_erased && read_record(geometry, body, spare).is_some(),
     }
 }
 
-impl PageLook {
+impl FreshLook {
     // Whether the page keeps the die from being fresh.
     fn is_used(self, marked: bool) -> bool
         ensures { result ≡ is_look_used marked self }
@@ -61,12 +61,12 @@ fn read_look<S: PageSource>(
     row: u32,
     body: &mut [u8],
     spare: &mut [u8],
-) -> Result<PageLook, SourceFault>
+) -> Result<FreshLook, SourceFault>
     requires within { row < row_count geometry.now }
     requires geometry { (S.view.flash source.old).geometry ≡ geometry.now }
     requires body_whole { length body.old ≡ geometry.now.data_bytes }
     requires spare_whole { length spare.old ≡ geometry.now.spare_bytes }
-    ensures looked { IfOk result (λ look. S.view.honest source.old ≡ true → look ≡ look_of (page_at (S.view.flash source.old) row)) }
+    ensures looked { IfOk result (λ look. S.view.honest source.old ≡ true → look ≡ fresh_look_of (page_at (S.view.flash source.old) row)) }
     ensures same { OnOk result (S.view.honest source.old ≡ true → S.view.flash source.new ≡ S.view.flash source.old) }
     ensures whole { OnOk result (S.view.honest source.old ≡ true → IsImage geometry.now (S.view.flash source.old).image) }
     ensures only_reads { OnlyReads S.view source.old source.new }
@@ -118,10 +118,10 @@ fn used_between<S: PageSource>(
 fn first_of_block(
     marked: bool,
     first_row: u32,
-    first: PageLook,
+    first: FreshLook,
     inner: Option<u32>,
     last_row: u32,
-    last: PageLook,
+    last: FreshLook,
 ) -> Option<u32>
     requires order { first_row < last_row }
     requires row { IfSome inner (λ row. row < last_row) }

@@ -4,7 +4,7 @@ ghost use Rattle.page_layout.specs.Counter.{counted, HasRisen};
 ghost use Rattle.page_layout.specs.Flash.{Flash};
 ghost use Rattle.page_layout.specs.Geometry.{table_pages};
 ghost use Rattle.bad_blocks.specs.Table.{good_count, is_good_at, unworn};
-ghost use Rattle.mount.specs.Attempt.{IsTableProgram, IsTrying, Tries, WritesFormat, AnswersWrite};
+ghost use Rattle.mount.specs.Attempt.{IsTableProgram, IsTrying, TriesBlock, WritesFormat, AnswersTableWrite};
 ghost use Rattle.mount.specs.OnlyWrites.{OnlyWrites};
 
 use crate::format_fault::FormatFault;
@@ -66,7 +66,7 @@ fn write_in_block<N: Nand>(
     requires spare_whole { length spare.old ≡ geometry.now.spare_bytes }
     ensures tries { IfOk result (λ outcome. N.view.honest nand.old ≡ true → (first : Flash) (failed : ℕ) →
         IsTrying geometry.now first (N.view.flash nand.old) (unworn classes.now) block 0 sequence.old failed →
-        Tries geometry.now first (N.view.flash nand.new) (unworn classes.now) block sequence.new failed outcome) }
+        TriesBlock geometry.now first (N.view.flash nand.new) (unworn classes.now) block sequence.new failed outcome) }
     ensures sequences { sequence.new ≤ sequence.old + table_pages geometry.now }
     ensures only_writes { OnlyWrites N.view nand.old nand.new }
     ensures programs { N.view.programs nand.new ≤ N.view.programs nand.old + table_pages geometry.now }
@@ -145,7 +145,7 @@ pub fn write_tables<N: Nand>(
     ensures writes { N.view.honest nand.old ≡ true →
         IsTrying geometry.now (N.view.flash nand.old) (N.view.flash nand.old) (unworn classes.old) 0 0 1 0 →
         WritesFormat geometry.now need (N.view.flash nand.old) (N.view.flash nand.new) result }
-    ensures answers { AnswersWrite geometry.now need (N.view.programs nand.old) (N.view.programs nand.new) result }
+    ensures answers { AnswersTableWrite geometry.now need (N.view.programs nand.old) (N.view.programs nand.new) result }
     ensures only_writes { OnlyWrites N.view nand.old nand.new }
     ensures programs { N.view.programs nand.new ≤ N.view.programs nand.old + 3 * table_pages geometry.now }
     ensures rose { IsErrOf result FormatFault.Bus → HasRisen (N.view.failed nand.old) (N.view.failed nand.new) }

@@ -8,7 +8,7 @@ ghost use Rattle.page_layout.specs.Page.{Image, IsImage};
 ghost use Rattle.page_layout.specs.OnlyReads.{OnlyReads};
 ghost use Rattle.image_check.specs.declared.refusal.Refusal.TheVariants as refusals;
 ghost use Rattle.image_check.specs.Agrees.{HasTables};
-ghost use Rattle.image_check.specs.Refused.{IsStop};
+ghost use Rattle.image_check.specs.Refused.{StopsCheck};
 ghost use Rattle.image_check.specs.Surveyed.{IsSized, Surveys, SurveysPairs};
 ghost use Rattle.mount.specs.Mounted.{IsNextSequence, IsSpent, Refuses, IsOfMounting};
 ghost use Rattle.mount.specs.Shown.{IsShownSized, IsShown};
@@ -42,7 +42,7 @@ fn survey_pages<S: PageSource>(
     ensures sized { IfOk result (IsSized geometry.now (row_count geometry.now)) }
     ensures surveys { IfOk result (λ survey. S.view.honest source.old ≡ true → Surveys geometry.now (S.view.flash source.old).image survey) }
     ensures whole { OnOk result (S.view.honest source.old ≡ true → IsImage geometry.now (S.view.flash source.old).image) }
-    ensures stops { IfErr result IsStop }
+    ensures stops { IfErr result StopsCheck }
     ensures same { result ≢ Err Refusal.Source → S.view.honest source.old ≡ true → S.view.flash source.new ≡ S.view.flash source.old }
     ensures only_reads { OnlyReads S.view source.old source.new }
     ensures reads { S.view.reads source.new ≤ S.view.reads source.old + row_count geometry.now }

@@ -24,10 +24,10 @@ use Rattle.nand_die.specs.declared.fault.Fault.{Fault}
 use Rattle.nand_die.specs.declared.bus_state.BusState.{BusState}
 use Rattle.nand_die.specs.declared.bus_state.BusState.TheVariants as state
 use Rattle.nand_die.specs.declared.bus_state.OutputSource.TheVariants as source
-use Rattle.nand_die.specs.declared.change.BlockTurn.{BlockTurn}
+use Rattle.nand_die.specs.declared.change.NextPage.{NextPage}
 use Rattle.nand_die.specs.BusState.{IsProtocolFault, phase_of}
 use Rattle.nand_die.specs.Faults.{fault_at, left_by, IsPageLeft, ArePagesLeft}
-use Rattle.nand_die.specs.Turns.{flash_of, left_page, left_block, turn_of}
+use Rattle.nand_die.specs.NextPages.{flash_of, left_page, left_block, next_page_of}
 use Rattle.nand_die.specs.declared.chip.Chip.TheInside.{Inside}
 use Rattle.nand_die.specs.contracts.chip.Chip.{the_view}
 use Rattle.nand_die.specs.ChipValue.{AreFields, ChipValue, answered, Acts, in_state, fault_next, program_passes, program_left, erase_passes, erase_left}
@@ -51,14 +51,14 @@ left_at g [] n h = record { size = λ l. absurd (omega (arith, l)); unsound = λ
 left_at g (f ∷ fs) n h = left_if g (f.nth_change == n) f (fault_at fs n) h.0 (left_at g fs n h.1)
 
 -- what the next fault leaves is as long as a page, where it leaves any bytes
-pub struck_size : (i : Inside) (fs : List Fault) (left : List ℕ) → AreFields i.geometry i.bytes.items i.register.items i.turns.items i.bus_state i.faults.items
+pub struck_size : (i : Inside) (fs : List Fault) (left : List ℕ) → AreFields i.geometry i.bytes.items i.register.items i.next_pages.items i.bus_state i.faults.items
     → left ≡ left_by (fault_at fs (i.counts.asked + 1)) → fs ≡ i.faults.items → 0 < length left → length left ≡ page_bytes i.geometry
 struck_size i fs left fit is same =
     (subst (IsPageLeft i.geometry) (sym (is ∙ ap (λ gs. left_by (fault_at gs (i.counts.asked + 1))) same)) (left_at i.geometry i.faults.items (i.counts.asked + 1) fit.left)).size
 
 -- other pages in the fields
-pub pages_changed : (i : Inside) (bytes bytes' : List ℕ) → AreFields i.geometry i.bytes.items i.register.items i.turns.items i.bus_state i.faults.items → bytes' ≡ bytes → IsRaw i.geometry bytes
-    → AreFields i.geometry bytes' i.register.items i.turns.items i.bus_state i.faults.items
+pub pages_changed : (i : Inside) (bytes bytes' : List ℕ) → AreFields i.geometry i.bytes.items i.register.items i.next_pages.items i.bus_state i.faults.items → bytes' ≡ bytes → IsRaw i.geometry bytes
+    → AreFields i.geometry bytes' i.register.items i.next_pages.items i.bus_state i.faults.items
 pages_changed i bytes bytes' fit is raw = record {
   raw = subst (IsRaw i.geometry) (sym is) raw;
   register_whole = fit.register_whole;
@@ -67,10 +67,10 @@ pages_changed i bytes bytes' fit is raw = record {
   left = fit.left;
 }
 
--- the same after a program or an erase: other turns too, and nothing is put out
-pub change_fits : (i : Inside) (bytes bytes' : List ℕ) (turns turns' : List BlockTurn) → AreFields i.geometry i.bytes.items i.register.items i.turns.items i.bus_state i.faults.items → bytes' ≡ bytes → turns' ≡ turns
-    → IsRaw i.geometry bytes → length turns ≡ i.geometry.blocks → AreFields i.geometry bytes' i.register.items turns' (state.Ready source.Nothing) i.faults.items
-change_fits i bytes bytes' turns turns' fit is are raw blocks = record {
+-- the same after a program or an erase: other next pages too, and nothing is put out
+pub change_fits : (i : Inside) (bytes bytes' : List ℕ) (next_pages next_pages' : List NextPage) → AreFields i.geometry i.bytes.items i.register.items i.next_pages.items i.bus_state i.faults.items → bytes' ≡ bytes → next_pages' ≡ next_pages
+    → IsRaw i.geometry bytes → length next_pages ≡ i.geometry.blocks → AreFields i.geometry bytes' i.register.items next_pages' (state.Ready source.Nothing) i.faults.items
+change_fits i bytes bytes' next_pages next_pages' fit is are raw blocks = record {
   raw = subst (IsRaw i.geometry) (sym is) raw;
   register_whole = fit.register_whole;
   blocks = ap length are ∙ blocks;
@@ -79,8 +79,8 @@ change_fits i bytes bytes' turns turns' fit is are raw blocks = record {
 }
 
 -- an array of the right length is whole
-pub whole_of : (g : Geometry) (bytes : List ℕ) (turns : List BlockTurn) (abuse : ℕ) → IsRaw g bytes → length turns ≡ g.blocks → IsWhole (flash_of g bytes turns abuse)
-whole_of g bytes turns abuse raw lt = record { image_whole = raw_image_whole g bytes raw.whole raw.fits; turns_whole = length-map turns turn_of ∙ lt }
+pub whole_of : (g : Geometry) (bytes : List ℕ) (next_pages : List NextPage) (abuse : ℕ) → IsRaw g bytes → length next_pages ≡ g.blocks → IsWhole (flash_of g bytes next_pages abuse)
+whole_of g bytes next_pages abuse raw lt = record { image_whole = raw_image_whole g bytes raw.whole raw.fits; next_pages_whole = length-map next_pages next_page_of ∙ lt }
 
 -- a cycle that moves to another phase
 pub acts_moves : {A : Type 0} → (due : Due) (d e : ChipValue) (phase : Phase) (x : A) → due ≡ Moves phase → e ≡ in_state (to_phase phase d.state) d → IsWhole d.state.flash → Acts due d e (Ok x)
@@ -211,7 +211,7 @@ lawful_erase d block w lt left sized =
     let was : List Page = block_at f block in
     let bytes : List ℕ = left_by (fault_next d) in
     record {
-      in_range = subst (λ n. block < n) (sym w.turns_whole) lt;
+      in_range = subst (λ n. block < n) (sym w.next_pages_whole) lt;
       in_image = subst (λ n. block * g.pages + g.pages ≤ n) (sym w.image_whole.rows) (block_within g block lt);
       due = λ p. and_true may (not (is_some (fault_next d))) p;
       size = length_left g was may (erase_passes d block) bytes (length_block g f.image block lt w.image_whole.rows) (omega (arith, g.limits.page_count.least));
@@ -291,66 +291,66 @@ erases_as d flash block legal passed comes left asked changes is_legal is_passed
     done_as d _ _ _ _ _ _ _ _ (is_flash ∙ (ap (λ b. after f (Erase block b (left_block f.geometry was legal passed left))) p ∙ ap (λ m. after f (Erase block (erase_passes d block) m)) l)) p is_asked is_changes
 
 -- a program of the fields
-pub program_acts : {A : Type 0} → (i : Inside) (xs ys bytes : List ℕ) (ts turns : List BlockTurn) (fs : List Fault) (row : ℕ) (legal passed comes : Bool) (left : List ℕ) (abuse asked changes : ℕ) (x : A)
-    → AreFields i.geometry i.bytes.items i.register.items i.turns.items i.bus_state i.faults.items → row < row_count i.geometry
-    → xs ≡ i.bytes.items → ts ≡ i.turns.items → ys ≡ i.register.items → fs ≡ i.faults.items
+pub program_acts : {A : Type 0} → (i : Inside) (xs ys bytes : List ℕ) (ts next_pages : List NextPage) (fs : List Fault) (row : ℕ) (legal passed comes : Bool) (left : List ℕ) (abuse asked changes : ℕ) (x : A)
+    → AreFields i.geometry i.bytes.items i.register.items i.next_pages.items i.bus_state i.faults.items → row < row_count i.geometry
+    → xs ≡ i.bytes.items → ts ≡ i.next_pages.items → ys ≡ i.register.items → fs ≡ i.faults.items
     → comes ≡ is_some (fault_at fs (i.counts.asked + 1)) → left ≡ left_by (fault_at fs (i.counts.asked + 1))
     → legal ≡ may_program (flash_of i.geometry xs ts i.counts.abuse) row → passed ≡ (legal && not comes)
-    → flash_of i.geometry bytes turns (if legal then i.counts.abuse else counted i.counts.abuse)
+    → flash_of i.geometry bytes next_pages (if legal then i.counts.abuse else counted i.counts.abuse)
     ≡ after (flash_of i.geometry xs ts i.counts.abuse) (Program row (page_of i.geometry ys) passed (left_page i.geometry (page_at (flash_of i.geometry xs ts i.counts.abuse) row) legal passed (page_of i.geometry ys) left))
     → abuse ≡ (if legal then i.counts.abuse else counted i.counts.abuse) → asked ≡ counted i.counts.asked → changes ≡ counted i.counts.changes
-    → IsRaw i.geometry bytes → length turns ≡ length ts
-    → Acts (Programs row (page_of i.geometry i.register.items)) (the_view i) (done (the_view i) (flash_of i.geometry bytes turns abuse) passed asked changes) (Ok x)
-program_acts i xs ys bytes ts turns fs row legal passed comes left abuse asked changes x fit lt e1 e2 e3 e4 is_comes is_left is_legal is_passed is_flash is_abuse is_asked is_changes raw lt' =
+    → IsRaw i.geometry bytes → length next_pages ≡ length ts
+    → Acts (Programs row (page_of i.geometry i.register.items)) (the_view i) (done (the_view i) (flash_of i.geometry bytes next_pages abuse) passed asked changes) (Ok x)
+program_acts i xs ys bytes ts next_pages fs row legal passed comes left abuse asked changes x fit lt e1 e2 e3 e4 is_comes is_left is_legal is_passed is_flash is_abuse is_asked is_changes raw lt' =
     let g = i.geometry in
     let n : ℕ = i.counts.abuse in
     let d : ChipValue = the_view i in
-    let K : List ℕ → List BlockTurn → List ℕ → Flash
+    let K : List ℕ → List NextPage → List ℕ → Flash
     = λ zs us ws. after (flash_of g zs us n) (Program row (page_of g ws) passed (left_page g (page_at (flash_of g zs us n) row) legal passed (page_of g ws) left)) in
     acts_programs d _ row (page_of g i.register.items) x
-    (programs_as d (flash_of g bytes turns abuse) row (page_of g i.register.items) legal passed comes left asked changes
+    (programs_as d (flash_of g bytes next_pages abuse) row (page_of g i.register.items) legal passed comes left asked changes
     (is_legal ∙ (ap (λ zs. may_program (flash_of g zs ts n) row) e1 ∙ ap (λ us. may_program (flash_of g i.bytes.items us n) row) e2)) is_passed
     (is_comes ∙ ap (λ gs. is_some (fault_at gs (i.counts.asked + 1))) e4) (is_left ∙ ap (λ gs. left_by (fault_at gs (i.counts.asked + 1))) e4)
-    (ap (flash_of g bytes turns) is_abuse ∙ (is_flash ∙ (ap (λ zs. K zs ts ys) e1 ∙ (ap (λ us. K i.bytes.items us ys) e2 ∙ ap (λ ws. K i.bytes.items i.turns.items ws) e3)))) is_asked is_changes)
-    lt (whole_of g i.bytes.items i.turns.items n fit.raw fit.blocks)
-    (whole_of g bytes turns abuse raw (lt' ∙ (ap length e2 ∙ fit.blocks))) refl (left_at g i.faults.items (i.counts.asked + 1) fit.left)
+    (ap (flash_of g bytes next_pages) is_abuse ∙ (is_flash ∙ (ap (λ zs. K zs ts ys) e1 ∙ (ap (λ us. K i.bytes.items us ys) e2 ∙ ap (λ ws. K i.bytes.items i.next_pages.items ws) e3)))) is_asked is_changes)
+    lt (whole_of g i.bytes.items i.next_pages.items n fit.raw fit.blocks)
+    (whole_of g bytes next_pages abuse raw (lt' ∙ (ap length e2 ∙ fit.blocks))) refl (left_at g i.faults.items (i.counts.asked + 1) fit.left)
 
 -- an erase of the fields
-pub erase_acts : {A : Type 0} → (i : Inside) (xs bytes : List ℕ) (ts turns : List BlockTurn) (fs : List Fault) (block : ℕ) (legal passed comes : Bool) (left : List ℕ) (abuse asked changes : ℕ) (x : A)
-    → AreFields i.geometry i.bytes.items i.register.items i.turns.items i.bus_state i.faults.items → block < i.geometry.blocks
-    → xs ≡ i.bytes.items → ts ≡ i.turns.items → fs ≡ i.faults.items
+pub erase_acts : {A : Type 0} → (i : Inside) (xs bytes : List ℕ) (ts next_pages : List NextPage) (fs : List Fault) (block : ℕ) (legal passed comes : Bool) (left : List ℕ) (abuse asked changes : ℕ) (x : A)
+    → AreFields i.geometry i.bytes.items i.register.items i.next_pages.items i.bus_state i.faults.items → block < i.geometry.blocks
+    → xs ≡ i.bytes.items → ts ≡ i.next_pages.items → fs ≡ i.faults.items
     → comes ≡ is_some (fault_at fs (i.counts.asked + 1)) → left ≡ left_by (fault_at fs (i.counts.asked + 1))
     → legal ≡ may_erase (flash_of i.geometry xs ts i.counts.abuse) block → passed ≡ (legal && not comes)
-    → flash_of i.geometry bytes turns (if legal then i.counts.abuse else counted i.counts.abuse)
+    → flash_of i.geometry bytes next_pages (if legal then i.counts.abuse else counted i.counts.abuse)
     ≡ after (flash_of i.geometry xs ts i.counts.abuse) (Erase block passed (left_block i.geometry (block_at (flash_of i.geometry xs ts i.counts.abuse) block) legal passed left))
     → abuse ≡ (if legal then i.counts.abuse else counted i.counts.abuse) → asked ≡ counted i.counts.asked → changes ≡ counted i.counts.changes
-    → IsRaw i.geometry bytes → length turns ≡ length ts
-    → Acts (Erases block) (the_view i) (done (the_view i) (flash_of i.geometry bytes turns abuse) passed asked changes) (Ok x)
-erase_acts i xs bytes ts turns fs block legal passed comes left abuse asked changes x fit lt e1 e2 e4 is_comes is_left is_legal is_passed is_flash is_abuse is_asked is_changes raw lt' =
+    → IsRaw i.geometry bytes → length next_pages ≡ length ts
+    → Acts (Erases block) (the_view i) (done (the_view i) (flash_of i.geometry bytes next_pages abuse) passed asked changes) (Ok x)
+erase_acts i xs bytes ts next_pages fs block legal passed comes left abuse asked changes x fit lt e1 e2 e4 is_comes is_left is_legal is_passed is_flash is_abuse is_asked is_changes raw lt' =
     let g = i.geometry in
     let n : ℕ = i.counts.abuse in
     let d : ChipValue = the_view i in
-    let K : List ℕ → List BlockTurn → Flash
+    let K : List ℕ → List NextPage → Flash
     = λ zs us. after (flash_of g zs us n) (Erase block passed (left_block g (block_at (flash_of g zs us n) block) legal passed left)) in
     acts_erases d _ block x
-    (erases_as d (flash_of g bytes turns abuse) block legal passed comes left asked changes
+    (erases_as d (flash_of g bytes next_pages abuse) block legal passed comes left asked changes
     (is_legal ∙ (ap (λ zs. may_erase (flash_of g zs ts n) block) e1 ∙ ap (λ us. may_erase (flash_of g i.bytes.items us n) block) e2)) is_passed
     (is_comes ∙ ap (λ gs. is_some (fault_at gs (i.counts.asked + 1))) e4) (is_left ∙ ap (λ gs. left_by (fault_at gs (i.counts.asked + 1))) e4)
-    (ap (flash_of g bytes turns) is_abuse ∙ (is_flash ∙ (ap (λ zs. K zs ts) e1 ∙ ap (λ us. K i.bytes.items us) e2))) is_asked is_changes)
-    lt (whole_of g i.bytes.items i.turns.items n fit.raw fit.blocks)
-    (whole_of g bytes turns abuse raw (lt' ∙ (ap length e2 ∙ fit.blocks))) refl (left_at g i.faults.items (i.counts.asked + 1) fit.left)
+    (ap (flash_of g bytes next_pages) is_abuse ∙ (is_flash ∙ (ap (λ zs. K zs ts) e1 ∙ ap (λ us. K i.bytes.items us) e2))) is_asked is_changes)
+    lt (whole_of g i.bytes.items i.next_pages.items n fit.raw fit.blocks)
+    (whole_of g bytes next_pages abuse raw (lt' ∙ (ap length e2 ∙ fit.blocks))) refl (left_at g i.faults.items (i.counts.asked + 1) fit.left)
 
 -- the same where the fields are held in others
-pub acts_closed : {A : Type 0} → (due : Due) (i : Inside) (bytes bytes' : List ℕ) (turns turns' : List BlockTurn) (abuse asked changes : ℕ) (passed : Bool) (x : A) → bytes' ≡ bytes → turns' ≡ turns
-    → Acts due (the_view i) (done (the_view i) (flash_of i.geometry bytes turns abuse) passed asked changes) (Ok x)
-    → Acts due (the_view i) (done (the_view i) (flash_of i.geometry bytes' turns' abuse) passed asked changes) (Ok x)
-acts_closed due i bytes bytes' turns turns' abuse asked changes passed x e f h =
+pub acts_closed : {A : Type 0} → (due : Due) (i : Inside) (bytes bytes' : List ℕ) (next_pages next_pages' : List NextPage) (abuse asked changes : ℕ) (passed : Bool) (x : A) → bytes' ≡ bytes → next_pages' ≡ next_pages
+    → Acts due (the_view i) (done (the_view i) (flash_of i.geometry bytes next_pages abuse) passed asked changes) (Ok x)
+    → Acts due (the_view i) (done (the_view i) (flash_of i.geometry bytes' next_pages' abuse) passed asked changes) (Ok x)
+acts_closed due i bytes bytes' next_pages next_pages' abuse asked changes passed x e f h =
     subst (λ us. Acts due (the_view i) (done (the_view i) (flash_of i.geometry bytes' us abuse) passed asked changes) (Ok x)) (sym f)
-    (subst (λ zs. Acts due (the_view i) (done (the_view i) (flash_of i.geometry zs turns abuse) passed asked changes) (Ok x)) (sym e) h)
+    (subst (λ zs. Acts due (the_view i) (done (the_view i) (flash_of i.geometry zs next_pages abuse) passed asked changes) (Ok x)) (sym e) h)
 
 -- the fields are whole
-pub fields_whole : (i : Inside) → AreFields i.geometry i.bytes.items i.register.items i.turns.items i.bus_state i.faults.items → IsWhole (flash_of i.geometry i.bytes.items i.turns.items i.counts.abuse)
-fields_whole i fit = whole_of i.geometry i.bytes.items i.turns.items i.counts.abuse fit.raw fit.blocks
+pub fields_whole : (i : Inside) → AreFields i.geometry i.bytes.items i.register.items i.next_pages.items i.bus_state i.faults.items → IsWhole (flash_of i.geometry i.bytes.items i.next_pages.items i.counts.abuse)
+fields_whole i fit = whole_of i.geometry i.bytes.items i.next_pages.items i.counts.abuse fit.raw fit.blocks
 
 -- a register in which bytes were written
 replaced_so : (register here bytes written : List ℕ) (column k : ℕ) → here ≡ register → written ≡ bytes → k ≡ length bytes → take column here ++ (written ++ drop k (drop column here)) ≡ replaced register column bytes

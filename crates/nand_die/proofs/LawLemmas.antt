@@ -9,7 +9,7 @@ use Rattle.page_layout.specs.Flash.{after, may_program, may_erase, page_at, no_p
 use Rattle.onfi_cycles.specs.Cycles.{status_of}
 use Rattle.nand_die.specs.declared.fault.Fault.{Fault}
 use Rattle.nand_die.specs.Faults.{left_by}
-use Rattle.nand_die.specs.Turns.{left_page}
+use Rattle.nand_die.specs.NextPages.{left_page}
 use Rattle.nand_die.specs.ChipValue.{fault_next, erase_passes}
 use Rattle.nand_die.specs.Laws.{ProgramPassesLaw, ErasePassesLaw, ProgramAbuseLaw, EraseAbuseLaw, CountLaw, QuietLaw, NamedLaw, NoneMisnamedLaw}
 use Rattle.nand_die.specs.Laws.{OneMisnamedLaw, NoneWrongLaw, OneWrongLaw}

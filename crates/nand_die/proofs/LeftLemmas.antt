@@ -8,7 +8,7 @@ use Rattle.page_layout.specs.declared.geometry.Geometry.{Geometry}
 use Rattle.page_layout.specs.Page.{Page}
 use Rattle.page_layout.specs.Flash.{with_block}
 use Rattle.onfi_cycles.specs.Cycles.{page_of}
-use Rattle.nand_die.specs.Turns.{left_block}
+use Rattle.nand_die.specs.NextPages.{left_block}
 
 -- the pages of a block in an image
 abbrev pub block_of : Geometry → ℕ → List Page → List Page

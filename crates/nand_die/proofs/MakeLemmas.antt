@@ -15,12 +15,12 @@ use Rattle.page_layout.specs.Geometry.{row_count, page_bytes}
 use Rattle.page_layout.specs.Page.{Page, page}
 use Rattle.page_layout.specs.Raw.{raw_image}
 use Rattle.page_layout.specs.Change.{erased_page}
-use Rattle.page_layout.specs.Flash.{TurnState, no_page, no_turn}
+use Rattle.page_layout.specs.Flash.{NextState, no_page, no_next_page}
 use Rattle.onfi_cycles.specs.Cycles.{page_of}
 use Rattle.nand_die.specs.declared.fault.Mark.{Mark}
-use Rattle.nand_die.specs.declared.change.BlockTurn.{BlockTurn}
-use Rattle.nand_die.specs.Turns.{turn_of}
-use Rattle.nand_die.specs.Made.{IsMisnamed, AreNames, IsFirstMisnamed, is_named, first_turn, first_turns, barred_turn, marked_row, with_mark}
+use Rattle.nand_die.specs.declared.change.NextPage.{NextPage}
+use Rattle.nand_die.specs.NextPages.{next_page_of}
+use Rattle.nand_die.specs.Made.{IsMisnamed, AreNames, IsFirstMisnamed, is_named, first_next_page, first_next_pages, barred_next_page, marked_row, with_mark}
 use Rattle.nand_die.specs.Made.{new_page, new_image}
 use Rattle.nand_die.proofs.PagesLemmas.{page_written, page_read, part_length, blank_image}
 
@@ -98,20 +98,20 @@ image_more g marks m row at lt =
     (λ k ne. ap (λ b. if b then with_mark (erased_page g) else erased_page g)
     (test k ∙ or_false (list_any (λ x. marked_row g x == k) marks) ((marked_row g m == k) || false) (ap (λ b. b || false) (ne_eqb (marked_row g m) k (λ e. ne (sym e ∙ sym at))))))
 
--- ---- turns
+-- ---- next pages
 
-pub new_turns_so : (g : Geometry) (turns : List BlockTurn) (n : ℕ) (t : BlockTurn) → turns ≡ replicate n t → turn_of t ≡ first_turn 0 false → n ≡ g.blocks → map turn_of turns ≡ first_turns g (λ block. 0) []
-new_turns_so g turns n t is turn e = ap (map turn_of) is ∙ (all n ∙ (ap (replicate n) turn ∙ (ap (λ k. replicate k (first_turn 0 false)) e ∙ sym (map_const (first_turn 0 false) 0 g.blocks))))
+pub new_turns_so : (g : Geometry) (next_pages : List NextPage) (n : ℕ) (t : NextPage) → next_pages ≡ replicate n t → next_page_of t ≡ first_next_page 0 false → n ≡ g.blocks → map next_page_of next_pages ≡ first_next_pages g (λ block. 0) []
+new_turns_so g next_pages n t is next_page e = ap (map next_page_of) is ∙ (all n ∙ (ap (replicate n) next_page ∙ (ap (λ k. replicate k (first_next_page 0 false)) e ∙ sym (map_const (first_next_page 0 false) 0 g.blocks))))
   where
-    all : (k : ℕ) → map turn_of (replicate k t) ≡ replicate k (turn_of t)
+    all : (k : ℕ) → map next_page_of (replicate k t) ≡ replicate k (next_page_of t)
     all zero = refl
-    all (suc k) = ap (λ ts. turn_of t ∷ ts) (all k)
+    all (suc k) = ap (λ ts. next_page_of t ∷ ts) (all k)
 
--- one more turn was found
-pub found_more : (f : ℕ → TurnState) (turns : List BlockTurn) (k : ℕ) (t : BlockTurn) → k < length turns → turn_of t ≡ f k → map turn_of (take k turns) ≡ map f (range_with_len 0 k)
-    → map turn_of (take (k + 1) (slice_set turns k t)) ≡ map f (range_with_len 0 (k + 1))
-found_more f turns k t lt is before =
-    ap (map turn_of) (take_more_set turns k t lt) ∙ (map-append turn_of (take k turns) (t ∷ []) ∙ (ap (λ ts. ts ++ turn_of t ∷ []) before
+-- one more next page was found
+pub found_more : (f : ℕ → NextState) (next_pages : List NextPage) (k : ℕ) (t : NextPage) → k < length next_pages → next_page_of t ≡ f k → map next_page_of (take k next_pages) ≡ map f (range_with_len 0 k)
+    → map next_page_of (take (k + 1) (slice_set next_pages k t)) ≡ map f (range_with_len 0 (k + 1))
+found_more f next_pages k t lt is before =
+    ap (map next_page_of) (take_more_set next_pages k t lt) ∙ (map-append next_page_of (take k next_pages) (t ∷ []) ∙ (ap (λ ts. ts ++ next_page_of t ∷ []) before
     ∙ (ap (λ u. map f (range_with_len 0 k) ++ u ∷ []) is ∙ sym (map-range_with_len_more f 0 k k (omega arith)))))
 
 named_here : (a b : Bool) → b ≡ true → (a || (b || false)) ≡ true
@@ -120,16 +120,16 @@ named_here false b e = ap (λ x. x || false) e
 
 -- one more block is bad
 pub turns_more : (g : Geometry) (next : ℕ → ℕ) (names : List ℕ) (block : ℕ) → block < g.blocks
-    → slice_set (first_turns g next names) block (barred_turn (get_or (first_turns g next names) block no_turn)) ≡ first_turns g next (names ++ block ∷ [])
+    → slice_set (first_next_pages g next names) block (barred_next_page (get_or (first_next_pages g next names) block no_next_page)) ≡ first_next_pages g next (names ++ block ∷ [])
 turns_more g next names block lt =
-    let f : ℕ → TurnState = λ k. first_turn (next k) (is_named names k) in
-    let h : ℕ → TurnState = λ k. first_turn (next k) (is_named (names ++ block ∷ []) k) in
+    let f : ℕ → NextState = λ k. first_next_page (next k) (is_named names k) in
+    let h : ℕ → NextState = λ k. first_next_page (next k) (is_named (names ++ block ∷ []) k) in
     let test : (k : ℕ) → is_named (names ++ block ∷ []) k ≡ (is_named names k || ((block == k) || false)) = λ k. list_any-append (λ n. n == k) names (block ∷ []) in
-    let there : get_or (first_turns g next names) block no_turn ≡ f block = get_or-map-range_with_len f 0 g.blocks block block no_turn lt (omega arith) in
-    let here : h block ≡ barred_turn (get_or (first_turns g next names) block no_turn)
-    = ap (first_turn (next block)) (test block ∙ named_here (is_named names block) (block == block) (eq-eqb block block refl)) ∙ ap barred_turn (sym there) in
-    set_made f h g.blocks block (barred_turn (get_or (first_turns g next names) block no_turn)) lt here
-    (λ k ne. ap (first_turn (next k)) (test k ∙ or_false (is_named names k) ((block == k) || false) (ap (λ b. b || false) (ne_eqb block k (λ e. ne (sym e))))))
+    let there : get_or (first_next_pages g next names) block no_next_page ≡ f block = get_or-map-range_with_len f 0 g.blocks block block no_next_page lt (omega arith) in
+    let here : h block ≡ barred_next_page (get_or (first_next_pages g next names) block no_next_page)
+    = ap (first_next_page (next block)) (test block ∙ named_here (is_named names block) (block == block) (eq-eqb block block refl)) ∙ ap barred_next_page (sym there) in
+    set_made f h g.blocks block (barred_next_page (get_or (first_next_pages g next names) block no_next_page)) lt here
+    (λ k ne. ap (first_next_page (next k)) (test k ∙ or_false (is_named names k) ((block == k) || false) (ap (λ b. b || false) (ne_eqb block k (λ e. ne (sym e))))))
 
 -- ---- names
 
@@ -158,25 +158,25 @@ named_contains names block c = at names c.0 c.1 c.2
     at (n ∷ ns) zero lt e = ap (λ b. b || is_named ns block) (eq-eqb n block e)
     at (n ∷ ns) (suc k) lt e = or_right (n == block) (is_named ns block) (at ns k (omega arith) e)
 
--- the first k names were taken: none of them is misnamed, and these are the turns
-pub record Named (g : Geometry) (next : ℕ → ℕ) (names : List ℕ) (k : ℕ) (turns : List TurnState) : Type 0 where
-  pub turns_so : turns ≡ first_turns g next (take k names)
+-- the first k names were taken: none of them is misnamed, and these are the next pages
+pub record Named (g : Geometry) (next : ℕ → ℕ) (names : List ℕ) (k : ℕ) (next_pages : List NextState) : Type 0 where
+  pub turns_so : next_pages ≡ first_next_pages g next (take k names)
   pub right : (at other : ℕ) → at < k → ¬ IsMisnamed g names at other
 
-pub named_none : (g : Geometry) (next : ℕ → ℕ) (names : List ℕ) (turns : List TurnState) → turns ≡ first_turns g next [] → Named g next names 0 turns
-named_none g next names turns e = record { turns_so = e; right = λ at other lt. absurd (omega (arith, lt)) }
+pub named_none : (g : Geometry) (next : ℕ → ℕ) (names : List ℕ) (next_pages : List NextState) → next_pages ≡ first_next_pages g next [] → Named g next names 0 next_pages
+named_none g next names next_pages e = record { turns_so = e; right = λ at other lt. absurd (omega (arith, lt)) }
 
-barred_is : (g : Geometry) (next : ℕ → ℕ) (names : List ℕ) (block : ℕ) → block < g.blocks → (get_or (first_turns g next names) block no_turn).barred ≡ is_named names block
-barred_is g next names block lt = ap (λ (t : TurnState). t.barred) (get_or-map-range_with_len (λ k. first_turn (next k) (is_named names k)) 0 g.blocks block block no_turn lt (omega arith))
+barred_is : (g : Geometry) (next : ℕ → ℕ) (names : List ℕ) (block : ℕ) → block < g.blocks → (get_or (first_next_pages g next names) block no_next_page).barred ≡ is_named names block
+barred_is g next names block lt = ap (λ (t : NextState). t.barred) (get_or-map-range_with_len (λ k. first_next_page (next k) (is_named names k)) 0 g.blocks block block no_next_page lt (omega arith))
 
-pub named_more : (g : Geometry) (next : ℕ → ℕ) (names : List ℕ) (k block n : ℕ) (old new : List TurnState) → Named g next names k old → k < length names → block ≡ get_or names k block → n ≡ g.blocks
-    → block < n → (get_or old block no_turn).barred ≡ false → new ≡ slice_set old block (barred_turn (get_or old block no_turn)) → Named g next names (k + 1) new
+pub named_more : (g : Geometry) (next : ℕ → ℕ) (names : List ℕ) (k block n : ℕ) (old new : List NextState) → Named g next names k old → k < length names → block ≡ get_or names k block → n ≡ g.blocks
+    → block < n → (get_or old block no_next_page).barred ≡ false → new ≡ slice_set old block (barred_next_page (get_or old block no_next_page)) → Named g next names (k + 1) new
 named_more g next names k block n old new before lt is e within free so =
     let here : block < g.blocks = omega (arith, e, within) in
-    let unnamed : is_named (take k names) block ≡ false = sym (barred_is g next (take k names) block here) ∙ (ap (λ ts. (get_or ts block no_turn).barred) (sym before.turns_so) ∙ free) in
+    let unnamed : is_named (take k names) block ≡ false = sym (barred_is g next (take k names) block here) ∙ (ap (λ ts. (get_or ts block no_next_page).barred) (sym before.turns_so) ∙ free) in
     let more : take (k + 1) names ≡ take k names ++ block ∷ [] = take_more names k block lt ∙ ap (λ b. take k names ++ b ∷ []) (sym is) in
     record {
-      turns_so = so ∙ (ap (λ ts. slice_set ts block (barred_turn (get_or ts block no_turn))) before.turns_so ∙ (turns_more g next (take k names) block here ∙ ap (first_turns g next) (sym more)));
+      turns_so = so ∙ (ap (λ ts. slice_set ts block (barred_next_page (get_or ts block no_next_page))) before.turns_so ∙ (turns_more g next (take k names) block here ∙ ap (first_next_pages g next) (sym more)));
       right = λ at other within_k bad. elim (cases_lt at k) [
         | inl earlier ↦ before.right at other earlier bad
         | inr now ↦
@@ -191,20 +191,20 @@ named_more g next names k block n old new before lt is e within free so =
     }
 
 -- all of them
-pub named_all : (g : Geometry) (next : ℕ → ℕ) (names : List ℕ) (k : ℕ) (turns : List TurnState) → Named g next names k turns → length names ≤ k → AreNames g names
-named_all g next names k turns named le at other bad = named.right at other (omega (arith, le, slice_get_within names at other bad.here)) bad
+pub named_all : (g : Geometry) (next : ℕ → ℕ) (names : List ℕ) (k : ℕ) (next_pages : List NextState) → Named g next names k next_pages → length names ≤ k → AreNames g names
+named_all g next names k next_pages named le at other bad = named.right at other (omega (arith, le, slice_get_within names at other bad.here)) bad
 
 -- the next one is misnamed
-pub named_stop : (g : Geometry) (next : ℕ → ℕ) (names : List ℕ) (k block n : ℕ) (turns : List TurnState) → Named g next names k turns → k < length names → block ≡ get_or names k block → n ≡ g.blocks
-    → (n ≤ block) ⊎ ((get_or turns block no_turn).barred ≡ true) → IsFirstMisnamed g names block
-named_stop g next names k block n turns named lt is e why = record {
+pub named_stop : (g : Geometry) (next : ℕ → ℕ) (names : List ℕ) (k block n : ℕ) (next_pages : List NextState) → Named g next names k next_pages → k < length names → block ≡ get_or names k block → n ≡ g.blocks
+    → (n ≤ block) ⊎ ((get_or next_pages block no_next_page).barred ≡ true) → IsFirstMisnamed g names block
+named_stop g next names k block n next_pages named lt is e why = record {
   at = k;
   misnamed = record {
     here = slice_get-get_or names k block lt ∙ ap Some (sym is);
     wrong = elim (cases_lt block g.blocks) [
       | inl within ↦ elim why [
         | inl past ↦ absurd (omega (arith, past, e, within))
-        | inr barred ↦ inr (contains_named (take k names) block (sym (barred_is g next (take k names) block within) ∙ (ap (λ ts. (get_or ts block no_turn).barred) (sym named.turns_so) ∙ barred)))
+        | inr barred ↦ inr (contains_named (take k names) block (sym (barred_is g next (take k names) block within) ∙ (ap (λ ts. (get_or ts block no_next_page).barred) (sym named.turns_so) ∙ barred)))
       ]
       | inr past ↦ inl past
     ];

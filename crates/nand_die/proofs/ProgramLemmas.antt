@@ -6,7 +6,7 @@ use Rattle.page_layout.specs.declared.geometry.Geometry.{Geometry}
 use Rattle.page_layout.specs.Page.{Page}
 use Rattle.page_layout.specs.Flash.{no_page}
 use Rattle.onfi_cycles.specs.Cycles.{page_of}
-use Rattle.nand_die.specs.Turns.{left_page}
+use Rattle.nand_die.specs.NextPages.{left_page}
 
 bare_left : (g : Geometry) (old : Page) (legal : Bool) (page : Page) (left : List ℕ) → nat_lt 0 (length left) ≡ false → left_page g old legal false page left ≡ old
 bare_left g old false page left e = refl

@@ -10,14 +10,14 @@ use Rattle.onfi_cycles.specs.declared.nand.BusFault.TheVariants.{ColumnRange, Ou
 use Rattle.onfi_cycles.specs.Cycles.{Phase, Moves, Refuses, Ready, PageOut, IdentityOut, output_due, bytes_for}
 use Rattle.nand_die.specs.declared.bus_state.OutputSource.{OutputSource}
 use Rattle.nand_die.specs.declared.bus_state.OutputSource.TheVariants as output
-use Rattle.nand_die.specs.BusState.{output_of, IsOutputWithin, IsProtocolFault, Shows}
+use Rattle.nand_die.specs.BusState.{output_of, IsOutputWithin, IsProtocolFault, ShowsPagePutOut}
 
 -- so many bytes were put out of a source, and this is to be put out next
 pub record PutsOn (g : Geometry) (page : List ℕ) (status : ℕ) (from next : OutputSource) (n : ℕ) (out : List ℕ) : Type 0 where
   pub due : output_due g (output_of from) n ≡ Moves (Ready (output_of next))
   pub within : IsOutputWithin g next
   pub same_page : (row column : ℕ) → next ≡ output.Page row column → (before : ℕ) × (from ≡ output.Page row before)
-  pub bytes : (s : Flash) (phase : Phase) → Shows s from page → out ≡ bytes_for (record { flash = s; phase = phase; status = status }) (output_of from) n
+  pub bytes : (s : Flash) (phase : Phase) → ShowsPagePutOut s from page → out ≡ bytes_for (record { flash = s; phase = phase; status = status }) (output_of from) n
 
 -- a part from this place on
 abbrev IsPart : List ℕ → ℕ → ℕ → ℕ → List ℕ → Type 0

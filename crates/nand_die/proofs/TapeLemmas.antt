@@ -11,7 +11,7 @@ use Rattle.page_layout.specs.Flash.{Operation, Program, Erase}
 use Rattle.onfi_cycles.specs.Cycles.{page_of}
 use Rattle.nand_die.specs.declared.tape.Note.{Note}
 use Rattle.nand_die.specs.declared.tape.Note.TheVariants as note
-use Rattle.nand_die.specs.Tape.{TapeValue, IsTape, pages_of, width, width_of, operation_of, log_of, noted_log}
+use Rattle.nand_die.specs.Tape.{TapeValue, IsTape, pages_of, width, width_of, operation_of, log_of_notes, noted_log}
 use Rattle.nand_die.proofs.PagesLemmas.{length-pages_of, pages_append, pages_suc}
 
 operation_front : (P : ℕ) (n : Note) (ps qs : List Page) → width P n ≤ length ps → operation_of P n (ps ++ qs) ≡ operation_of P n ps
@@ -20,15 +20,15 @@ operation_front P (note.Program row passed) (a ∷ []) qs le = absurd (omega (ar
 operation_front P (note.Program row passed) (a ∷ b ∷ ps) qs le = refl
 operation_front P (note.Erase block passed) ps qs le = ap (Erase block passed) (take-append-le P ps qs le)
 
-log_append : (P : ℕ) (notes : List Note) (n : Note) (ps qs : List Page) → length ps ≡ width_of P notes → log_of P (notes ++ n ∷ []) (ps ++ qs) ≡ log_of P notes ps ++ (operation_of P n qs ∷ [])
+log_append : (P : ℕ) (notes : List Note) (n : Note) (ps qs : List Page) → length ps ≡ width_of P notes → log_of_notes P (notes ++ n ∷ []) (ps ++ qs) ≡ log_of_notes P notes ps ++ (operation_of P n qs ∷ [])
 log_append P [] n [] qs e = refl
 log_append P [] n (p ∷ ps) qs e = absurd (omega (arith, e))
 log_append P (m ∷ notes) n ps qs e =
     let w : ℕ = width P m in
     let le : w ≤ length ps = omega (arith, e) in
     let rest : length (drop w ps) ≡ width_of P notes = omega (arith, e, length-drop w ps) in
-    ap (λ o. o ∷ log_of P (notes ++ n ∷ []) (drop w (ps ++ qs))) (operation_front P m ps qs le)
-    ∙ ap (λ os. operation_of P m ps ∷ os) (ap (log_of P (notes ++ n ∷ [])) (drop-append-le w ps qs le) ∙ log_append P notes n (drop w ps) qs rest)
+    ap (λ o. o ∷ log_of_notes P (notes ++ n ∷ []) (drop w (ps ++ qs))) (operation_front P m ps qs le)
+    ∙ ap (λ os. operation_of P m ps ∷ os) (ap (log_of_notes P (notes ++ n ∷ [])) (drop-append-le w ps qs le) ∙ log_append P notes n (drop w ps) qs rest)
 
 pub width_more : (P : ℕ) (notes : List Note) (n : Note) → width_of P (notes ++ n ∷ []) ≡ width_of P notes + width P n
 width_more P [] n = omega arith
@@ -40,8 +40,8 @@ noted_more : (g : Geometry) (notes : List Note) (bytes more : List ℕ) (n : Not
 noted_more g notes bytes more n e =
     let P : ℕ = g.pages in
     let W : ℕ = width_of P notes in
-    ap (λ k. log_of P (notes ++ n ∷ []) (pages_of g k (bytes ++ more))) (width_more P notes n)
-    ∙ (ap (log_of P (notes ++ n ∷ [])) (pages_append g W (width P n) bytes more e)
+    ap (λ k. log_of_notes P (notes ++ n ∷ []) (pages_of g k (bytes ++ more))) (width_more P notes n)
+    ∙ (ap (log_of_notes P (notes ++ n ∷ [])) (pages_append g W (width P n) bytes more e)
     ∙ log_append P notes n (pages_of g W bytes) (pages_of g (width P n) more) (length-pages_of g W bytes))
 
 pub noted_program : (g : Geometry) (notes : List Note) (bytes kept left : List ℕ) (row : ℕ) (passed : Bool) → length bytes ≡ width_of g.pages notes * page_bytes g

@@ -86,12 +86,12 @@ column_progress_due to purpose (progress.Complete row column) = cycles.Moves (to
 column_progress_due to purpose (progress.Refused fault) = cycles.Refuses fault
 
 -- the bytes are those of the page that is put out, where one is
-abbrev pub Shows : Flash → OutputSource → List ℕ → Type 0
-Shows s source.Nothing bytes = Unit {0}
-Shows s (source.Page row column) bytes = bytes_of_page (page_at s row) ≡ bytes
-Shows s source.Status bytes = Unit {0}
-Shows s (source.Identity taken) bytes = Unit {0}
-Shows s (source.Zeros taken) bytes = Unit {0}
+abbrev pub ShowsPagePutOut : Flash → OutputSource → List ℕ → Type 0
+ShowsPagePutOut s source.Nothing bytes = Unit {0}
+ShowsPagePutOut s (source.Page row column) bytes = bytes_of_page (page_at s row) ≡ bytes
+ShowsPagePutOut s source.Status bytes = Unit {0}
+ShowsPagePutOut s (source.Identity taken) bytes = Unit {0}
+ShowsPagePutOut s (source.Zeros taken) bytes = Unit {0}
 
 -- ---- what holds of them
 

@@ -11,10 +11,10 @@ use Rattle.onfi_cycles.specs.Spelling.{done, refused}
 use Rattle.onfi_cycles.specs.declared.nand.BusFault.{BusFault}
 use Rattle.nand_die.specs.declared.fault.Fault.{Fault}
 use Rattle.nand_die.specs.declared.bus_state.BusState.{BusState}
-use Rattle.nand_die.specs.declared.change.BlockTurn.{BlockTurn}
+use Rattle.nand_die.specs.declared.change.NextPage.{NextPage}
 use Rattle.nand_die.specs.BusState.{IsWithin, IsProtocolFault}
 use Rattle.nand_die.specs.Faults.{fault_at, left_by, ArePagesLeft}
-use Rattle.nand_die.specs.Turns.{left_page, left_block}
+use Rattle.nand_die.specs.NextPages.{left_page, left_block}
 
 -- what its bus shows, the faults that are set on it, how many programs and erases were asked for since, and how many in all
 pub record ChipValue : Type 0 where
@@ -85,9 +85,9 @@ pub record Acts {A : Type 0} (due : Due) (old new : ChipValue) (result : Result 
   pub whole : IsWhole new.state.flash
 
 -- what is true of a die's fields
-pub record AreFields (g : Geometry) (bytes register : List ℕ) (turns : List BlockTurn) (state : BusState) (faults : List Fault) : Type 0 where
+pub record AreFields (g : Geometry) (bytes register : List ℕ) (next_pages : List NextPage) (state : BusState) (faults : List Fault) : Type 0 where
   pub raw : IsRaw g bytes
   pub register_whole : length register ≡ page_bytes g
-  pub blocks : length turns ≡ g.blocks
+  pub blocks : length next_pages ≡ g.blocks
   pub within : IsWithin g state
   pub left : ArePagesLeft g faults

@@ -108,8 +108,8 @@ after_cycle (DataIn bytes) d = after_quiet (DataIn bytes) d
 after_cycle (DataOut count) d = after_quiet (DataOut count) d
 
 -- ITS ANSWER: the device's fault from the cycle on in which it stops, else what the protocol asks for
-abbrev pub answer_of : Cycle → DieValue → Result (Unit {0}) BusFault
-answer_of cycle d = if d.stopped || stops d cycle then refused Device else answer_to (due_now d cycle)
+abbrev pub answer_to_cycle : Cycle → DieValue → Result (Unit {0}) BusFault
+answer_to_cycle cycle d = if d.stopped || stops d cycle then refused Device else answer_to (due_now d cycle)
 
 -- WHAT A DIE LEAVES THAT STOPS IN A CYCLE: an image that a stop may leave, by the operations that led to the die's image from an earlier
 -- one, as a log or a record has them, and by the operation in which it stops
@@ -118,7 +118,7 @@ LeavesStopped d cycle left = (first : Image) (log : List Operation) → d.state.
     MayLeave d.state.flash.geometry first (log ++ operation_due (due_now d cycle) (chip_of d)) left
 
 -- a data out that is taken puts out the bytes that the protocol has; the buffer is as long as it was
-pub record PutsOut (d : DieValue) (count : ℕ) (answer : Result (Unit {0}) BusFault) (out : List ℕ) : Type 0 where
+pub record PutsOutBytes (d : DieValue) (count : ℕ) (answer : Result (Unit {0}) BusFault) (out : List ℕ) : Type 0 where
   pub gives : OnOk answer (out ≡ bytes_out d.state d.state.phase count)
   pub long : length out ≡ count
 
@@ -127,13 +127,13 @@ abbrev pub IsOutOf : DieValue → Cycle → Result (Unit {0}) BusFault → List 
 IsOutOf d (Command code) answer out = out ≡ []
 IsOutOf d (Address byte) answer out = out ≡ []
 IsOutOf d (DataIn bytes) answer out = out ≡ []
-IsOutOf d (DataOut count) answer out = PutsOut d count answer out
+IsOutOf d (DataOut count) answer out = PutsOutBytes d count answer out
 
 -- a call of a die: the die after it, its answer and the bytes that it puts out follow from its value, one on which no stop is set does not
 -- fail, and one that stops leaves no other image
 pub record IsCall (old : DieValue) (cycle : Cycle) (answer : Result (Unit {0}) BusFault) (out : List ℕ) (new : DieValue) : Type 0 where
   pub does : new ≡ after_cycle cycle old
-  pub answers : answer ≡ answer_of cycle old
+  pub answers : answer ≡ answer_to_cycle cycle old
   pub puts_out : IsOutOf old cycle answer out
   pub own : is_calm old ≡ true → IfErr answer IsProtocolFault
   pub leaves : old.stopped ≡ false → stops old cycle ≡ true → LeavesStopped old cycle new.state.flash.image

@@ -23,7 +23,7 @@ use Rattle.nand_die.specs.ChipValue.{ChipValue, fault_next, answered, answer_to}
 use Rattle.nand_die.specs.Tape.{next_record}
 use Rattle.nand_die.specs.Stopping.{operation_due, left_by_stop}
 use Rattle.nand_die.specs.Buses.{FuseState, Fused, is_blown, GarbleState, Garbled, garbled}
-use Rattle.nand_die.specs.DieValue.{DieValue, IsCall, after_cycle, answer_of, chip_of, due_now, is_calm, stops}
+use Rattle.nand_die.specs.DieValue.{DieValue, IsCall, after_cycle, answer_to_cycle, chip_of, due_now, is_calm, stops}
 
 -- A program passes, with status E0h, just where its page is the next of a block that is neither bad nor failed and no fault is due. Else
 -- it fails, with status E1h.
@@ -67,12 +67,12 @@ QuietLaw = (d : ChipValue) →
 
 -- A die on which no stop is set has failed no cycle, and answers what the protocol asks for.
 abbrev pub CalmLaw : Type 0
-CalmLaw = (d : DieValue) → is_calm d ≡ true → (d.failures ≡ 0) × ((cycle : Cycle) → answer_of cycle d ≡ answer_to (due_now d cycle))
+CalmLaw = (d : DieValue) → is_calm d ≡ true → (d.failures ≡ 0) × ((cycle : Cycle) → answer_to_cycle cycle d ≡ answer_to (due_now d cycle))
 
 -- A die that has stopped answers each cycle with the device's fault, and stays as it is.
 abbrev pub StoppedLaw : Type 0
 StoppedLaw = (d : DieValue) (cycle : Cycle) → d.stopped ≡ true →
-    (answer_of cycle d ≡ refused Device) × ((after_cycle cycle d).stopped ≡ true) × ((after_cycle cycle d).state.flash ≡ d.state.flash) × ((after_cycle cycle d).changes ≡ d.changes)
+    (answer_to_cycle cycle d ≡ refused Device) × ((after_cycle cycle d).stopped ≡ true) × ((after_cycle cycle d).state.flash ≡ d.state.flash) × ((after_cycle cycle d).changes ≡ d.changes)
 
 -- A record gains a program or an erase while it has room, and ends past it.
 abbrev pub RoomLaw : Type 0

@@ -1,6 +1,6 @@
 pub mod Faults
 pub mod BusState
-pub mod Turns
+pub mod NextPages
 pub mod Made
 pub mod Tape
 pub mod ChipValue

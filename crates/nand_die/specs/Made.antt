@@ -9,7 +9,7 @@ use Rattle.page_layout.specs.Raw.{raw_image}
 use Rattle.page_layout.specs.Sound.{is_erased_page}
 use Rattle.page_layout.specs.Block.{block_pages, past_last}
 use Rattle.page_layout.specs.Change.{erased_page}
-use Rattle.page_layout.specs.Flash.{Flash, TurnState, no_page}
+use Rattle.page_layout.specs.Flash.{Flash, NextState, no_page}
 use Rattle.nand_die.specs.declared.fault.Mark.{Mark}
 use Rattle.nand_die.specs.declared.fault.DieFault.{DieFault}
 use Rattle.nand_die.specs.declared.fault.DieFault.TheVariants.{WrongLength, BadMark, OutOfMemory, SoundFaultPage}
@@ -42,19 +42,19 @@ NamesFirst g names SoundFaultPage = ⊥
 abbrev pub is_named : List ℕ → ℕ → Bool
 is_named names block = list_any (λ n. n == block) names
 
--- ---- the turns of blocks of which nothing was asked
+-- ---- the next pages of blocks of which nothing was asked
 
 -- of a block of which nothing was asked: its next page, and whether it is bad
-abbrev pub first_turn : ℕ → Bool → TurnState
-first_turn next bad = record { next = next; barred = bad; programs = 0; erases = 0 }
+abbrev pub first_next_page : ℕ → Bool → NextState
+first_next_page next bad = record { next = next; barred = bad; programs = 0; erases = 0 }
 
 -- the same block, in which nothing more may be done
-abbrev pub barred_turn : TurnState → TurnState
-barred_turn t = record { next = t.next; barred = true; programs = t.programs; erases = t.erases }
+abbrev pub barred_next_page : NextState → NextState
+barred_next_page t = record { next = t.next; barred = true; programs = t.programs; erases = t.erases }
 
 -- these are the next pages, and the blocks of the list are bad
-abbrev pub first_turns : Geometry → (ℕ → ℕ) → List ℕ → List TurnState
-first_turns g next names = map (λ block. first_turn (next block) (is_named names block)) (range_with_len 0 g.blocks)
+abbrev pub first_next_pages : Geometry → (ℕ → ℕ) → List ℕ → List NextState
+first_next_pages g next names = map (λ block. first_next_page (next block) (is_named names block)) (range_with_len 0 g.blocks)
 
 -- ---- a new die
 
@@ -80,7 +80,7 @@ new_image g marks = map (new_page g marks) (range_with_len 0 (row_count g))
 
 -- nothing was programmed, and the marked blocks are bad
 abbrev pub new_flash : Geometry → List Mark → Flash
-new_flash g marks = record { geometry = g; image = new_image g marks; turns = first_turns g (λ block. 0) (marked_blocks marks); abuse = 0 }
+new_flash g marks = record { geometry = g; image = new_image g marks; next_pages = first_next_pages g (λ block. 0) (marked_blocks marks); abuse = 0 }
 
 -- ---- a die that holds an image
 
@@ -96,7 +96,7 @@ next_in g image block = past_last (block_pages g image block)
 
 -- the pages are the image's, the next page of each block is one past its last page that is not erased, and the blocks named are bad
 abbrev pub loaded_flash : Geometry → List ℕ → List ℕ → Flash
-loaded_flash g bytes bad = record { geometry = g; image = raw_image g bytes; turns = first_turns g (next_in g (raw_image g bytes)) bad; abuse = 0 }
+loaded_flash g bytes bad = record { geometry = g; image = raw_image g bytes; next_pages = first_next_pages g (next_in g (raw_image g bytes)) bad; abuse = 0 }
 
 -- ---- what is refused
 

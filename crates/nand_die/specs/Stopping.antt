@@ -39,7 +39,7 @@ torn_image (Refuses fault) s left = s.image
 
 -- the die with these pages
 abbrev pub with_image : Image → ChipValue → ChipValue
-with_image image d = in_state (record { flash = record { geometry = d.state.flash.geometry; image = image; turns = d.state.flash.turns; abuse = d.state.flash.abuse }; phase = d.state.phase; status = d.state.status }) d
+with_image image d = in_state (record { flash = record { geometry = d.state.flash.geometry; image = image; next_pages = d.state.flash.next_pages; abuse = d.state.flash.abuse }; phase = d.state.phase; status = d.state.status }) d
 
 -- the die with its unfinished command given up
 abbrev pub quit : ChipValue → ChipValue

@@ -28,13 +28,13 @@ abbrev pub operation_of : ℕ → Note → List Page → Operation
 operation_of pages (note.Program row passed) ps = Program row (get_or ps 0 no_page) passed (get_or ps 1 no_page)
 operation_of pages (note.Erase block passed) ps = Erase block passed (take pages ps)
 
-abbrev pub log_of : ℕ → List Note → List Page → List Operation
-log_of pages [] ps = []
-log_of pages (n ∷ notes) ps = operation_of pages n ps ∷ log_of pages notes (drop (width pages n) ps)
+abbrev pub log_of_notes : ℕ → List Note → List Page → List Operation
+log_of_notes pages [] ps = []
+log_of_notes pages (n ∷ notes) ps = operation_of pages n ps ∷ log_of_notes pages notes (drop (width pages n) ps)
 
 -- the log of notes whose pages are these bytes
 abbrev pub noted_log : Geometry → List Note → List ℕ → List Operation
-noted_log g notes bytes = log_of g.pages notes (pages_of g (width_of g.pages notes) bytes)
+noted_log g notes bytes = log_of_notes g.pages notes (pages_of g (width_of g.pages notes) bytes)
 
 -- a record in memory: what it tells, of what die, how many operations it has room for yet, and the page of a program that is to come
 pub record TapeValue : Type 0 where
@@ -58,9 +58,9 @@ abbrev pub told_by : Option TapeValue → Option Recording
 told_by None = None
 told_by (Some t) = Some t.recording
 
-abbrev pub free_in : Option TapeValue → ℕ
-free_in None = 0
-free_in (Some t) = t.free
+abbrev pub tape_room_left : Option TapeValue → ℕ
+tape_room_left None = 0
+tape_room_left (Some t) = t.free
 
 -- a record after one operation more: past the room it ends
 abbrev pub next_record : ℕ → Operation → Option Recording → Option Recording
@@ -72,6 +72,6 @@ IsTapeOf g None = Unit {0}
 IsTapeOf g (Some t) = t.geometry ≡ g
 
 -- whose next program is of this page
-abbrev pub HasKept : List ℕ → Option TapeValue → Type 0
-HasKept page None = Unit {0}
-HasKept page (Some t) = t.kept ≡ page
+abbrev pub HasPageToCome : List ℕ → Option TapeValue → Type 0
+HasPageToCome page None = Unit {0}
+HasPageToCome page (Some t) = t.kept ≡ page

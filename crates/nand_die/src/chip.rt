@@ -10,11 +10,11 @@ ghost use Rattle.nand_die.specs.BusState.{IsProtocolFault};
 
 use crate::array::{block_slice, image_length, page_length, page_slice, write_page};
 use crate::bus_state::{AddressStep, BusState, CommandStep, OutputSource};
-use crate::change::{BlockTurn, Change, erase_into, program_into, program_is_due};
+use crate::change::{Change, NextPage, erase_into, program_into, program_is_due};
 use crate::cycle_step::{address_step, command_step, data_place};
 use crate::data_out::{page_put_out, put_out_at};
 use crate::fault::{DieFault, Fault, Mark};
-use crate::make::{blank, copy_of, loaded_turns, marked_turns};
+use crate::make::{blank, copy_of, loaded_next_pages, marked_next_pages};
 use crate::strike::{check_faults, next_strike};
 use onfi_cycles::BusFault;
 use page_layout::geometry::Geometry;
@@ -59,7 +59,7 @@ pub struct Chip {
     geometry: Geometry,
     bytes: Vec<u8>,
     register: Vec<u8>,
-    turns: Vec<BlockTurn>,
+    next_pages: Vec<NextPage>,
     bus_state: BusState,
     passed: bool,
     faults: Vec<Fault>,
@@ -69,19 +69,19 @@ pub struct Chip {
 impl Model for Chip {
     ghost use Rattle.onfi_cycles.specs.Cycles.{status_of};
     ghost use Rattle.nand_die.specs.BusState.{phase_of};
-    ghost use Rattle.nand_die.specs.Turns.{flash_of};
+    ghost use Rattle.nand_die.specs.NextPages.{flash_of};
     ghost use Rattle.nand_die.specs.ChipValue.{ChipValue, AreFields};
 
     ghost Value = { ChipValue };
 
     ghost view = { λ d. record {
-      state = record { flash = flash_of d.geometry d.bytes.items d.turns.items d.counts.abuse; phase = phase_of d.register.items d.bus_state; status = status_of d.passed };
+      state = record { flash = flash_of d.geometry d.bytes.items d.next_pages.items d.counts.abuse; phase = phase_of d.register.items d.bus_state; status = status_of d.passed };
       faults = d.faults.items;
       asked = d.counts.asked;
       changes = d.counts.changes;
     } };
 
-    ghost invariant = { λ d. AreFields d.geometry d.bytes.items d.register.items d.turns.items d.bus_state d.faults.items };
+    ghost invariant = { λ d. AreFields d.geometry d.bytes.items d.register.items d.next_pages.items d.bus_state d.faults.items };
 }
 
 impl Chip {
@@ -90,18 +90,18 @@ impl Chip {
     ghost use Rattle.nand_die.specs.Stopping.{quit, is_change, missed, torn_image, with_image};
     ghost use Rattle.nand_die.specs.Jobs.{IsJob};
     ghost use Rattle.nand_die.specs.Faults.{ArePagesLeft, HasFirstWrong};
-    ghost use Rattle.nand_die.specs.Turns.{flash_of};
+    ghost use Rattle.nand_die.specs.NextPages.{flash_of};
     ghost use Rattle.nand_die.specs.Made.{AreNames, marked_blocks, new_flash, loaded_flash, RefusesMarks, RefusesImage};
 
     fn of(
         alloc: Global,
         geometry: Geometry,
         bytes: Vec<u8>,
-        turns: Vec<BlockTurn>,
+        next_pages: Vec<NextPage>,
     ) -> Result<Chip, DieFault>
         requires whole { length bytes.items ≡ row_count geometry * page_bytes geometry }
-        requires blocks { length turns.items ≡ geometry.blocks }
-        ensures made { IfOk result (λ chip. chip ≡ fresh (flash_of geometry bytes.items turns.items 0)) }
+        requires blocks { length next_pages.items ≡ geometry.blocks }
+        ensures made { IfOk result (λ chip. chip ≡ fresh (flash_of geometry bytes.items next_pages.items 0)) }
         ensures err { IfErr result (λ fault. fault ≡ DieFault.OutOfMemory) }
     {
         let register = blank(alloc, page_length(&geometry))?;
@@ -109,7 +109,7 @@ impl Chip {
             geometry,
             bytes,
             register,
-            turns,
+            next_pages,
             bus_state: BusState::Unreset,
             passed: true,
             faults: Vec::new(alloc),
@@ -128,8 +128,8 @@ impl Chip {
         ensures err { IfErr result (RefusesMarks geometry marks.now) }
     {
         let mut bytes = blank(alloc, image_length(&geometry))?;
-        let turns = marked_turns(alloc, &mut bytes, &geometry, marks)?;
-        Chip::of(alloc, geometry, bytes, turns)
+        let next_pages = marked_next_pages(alloc, &mut bytes, &geometry, marks)?;
+        Chip::of(alloc, geometry, bytes, next_pages)
     }
 
     // A die that holds a raw image, with these bad blocks.
@@ -147,9 +147,9 @@ impl Chip {
         if image.len() != image_length(&geometry) {
             return Err(DieFault::WrongLength);
         }
-        let turns = loaded_turns(alloc, &geometry, image, bad)?;
+        let next_pages = loaded_next_pages(alloc, &geometry, image, bad)?;
         let bytes = copy_of(alloc, image)?;
-        Chip::of(alloc, geometry, bytes, turns)
+        Chip::of(alloc, geometry, bytes, next_pages)
     }
 
     // The programs and erases so far that were illegal.
@@ -280,12 +280,12 @@ impl Chip {
     {
         match command_step(&self.geometry, self.bus_state, code) {
             CommandStep::Programs { row } => {
-                if program_is_due(&self.turns, &self.geometry, row) {
+                if program_is_due(&self.next_pages, &self.geometry, row) {
                     write_page(&mut self.bytes, &self.geometry, row, page);
                 }
             }
             CommandStep::Erases { block } => {
-                if !self.turns[block as usize].barred {
+                if !self.next_pages[block as usize].barred {
                     write_page(
                         &mut self.bytes,
                         &self.geometry,
@@ -318,7 +318,7 @@ impl Chip {
         let strike = next_strike(self.faults.as_slice(), self.counts.asked);
         let change = program_into(
             &mut self.bytes,
-            &mut self.turns,
+            &mut self.next_pages,
             &self.geometry,
             row,
             &self.register,
@@ -338,7 +338,7 @@ impl Chip {
         let strike = next_strike(self.faults.as_slice(), self.counts.asked);
         let change = erase_into(
             &mut self.bytes,
-            &mut self.turns,
+            &mut self.next_pages,
             &self.geometry,
             block,
             strike,

@@ -1,4 +1,4 @@
-//! What each cycle asks of the die, by where it stands: the table of commands and the rules of turns.
+//! What each cycle asks of the die, by where it stands: the commands and the rules of turns.
 ghost use Rattle.std.specs.Prelude.{◌≡◌, ◌<◌, ◌≤◌, ◌+◌, ℕ, List, length as count, IfSome, IfNone, IfOk, IfErr};
 ghost use Rattle.page_layout.specs.declared.geometry.Geometry.{Geometry};
 ghost use Rattle.page_layout.specs.Geometry.{row_count, page_bytes};

@@ -3,9 +3,9 @@ ghost use Rattle.std.specs.Prelude.{◌≡◌, ◌<◌, ◌≤◌, ◌+◌, ◌*
 ghost use Rattle.page_layout.specs.Geometry.{row_count, page_bytes};
 ghost use Rattle.page_layout.specs.Flash.{Flash};
 ghost use Rattle.onfi_cycles.specs.Cycles.{Phase, Moves, Ready, Refuses, output_due, data_out_due, bytes_for, bytes_out, status_of};
-ghost use Rattle.nand_die.specs.declared.change.BlockTurn.{BlockTurn};
-ghost use Rattle.nand_die.specs.BusState.{output_of, phase_of, IsWithin, IsOutputWithin, IsProtocolFault, Shows};
-ghost use Rattle.nand_die.specs.Turns.{flash_of};
+ghost use Rattle.nand_die.specs.declared.change.NextPage.{NextPage};
+ghost use Rattle.nand_die.specs.BusState.{output_of, phase_of, IsWithin, IsOutputWithin, IsProtocolFault, ShowsPagePutOut};
+ghost use Rattle.nand_die.specs.NextPages.{flash_of};
 
 use crate::array::page_slice;
 use crate::bus_state::{BusState, OutputSource};
@@ -43,7 +43,7 @@ fn put_out(
     ensures due { IfOk result (λ next. output_due geometry.now (output_of source) (length to.old) ≡ Moves (Ready (output_of next))) }
     ensures within { IfOk result (λ next. IsOutputWithin geometry.now next) }
     ensures same_page { IfOk result (λ next. (row column : ℕ) → next ≡ OutputSource.Page row column → (before : ℕ) × (source ≡ OutputSource.Page row before)) }
-    ensures bytes { IfOk result (λ next. (s : Flash) (phase : Phase) → Shows s source page.now →
+    ensures bytes { IfOk result (λ next. (s : Flash) (phase : Phase) → ShowsPagePutOut s source page.now →
         to.new ≡ bytes_for (record { flash = s; phase = phase; status = status_of passed }) (output_of source) (length to.old)) }
     ensures refused { IfErr result (λ fault. (output_due geometry.now (output_of source) (length to.old) ≡ Refuses fault) × IsProtocolFault fault × (to.new ≡ to.old)) }
 {
@@ -92,7 +92,7 @@ pub fn put_out_at(
     ensures due { IfOk result (λ next. (register : List ℕ) → data_out_due geometry.now (phase_of register state) (length to.old) ≡ Moves (Ready (output_of next))) }
     ensures within { IfOk result (λ next. IsOutputWithin geometry.now next) }
     ensures same_page { IfOk result (λ next. (row column : ℕ) → next ≡ OutputSource.Page row column → (before : ℕ) × (state ≡ BusState.Ready (OutputSource.Page row before))) }
-    ensures bytes { IfOk result (λ next. (register : List ℕ) (s : Flash) (phase : Phase) → ((source : OutputSource) → state ≡ BusState.Ready source → Shows s source page.now) →
+    ensures bytes { IfOk result (λ next. (register : List ℕ) (s : Flash) (phase : Phase) → ((source : OutputSource) → state ≡ BusState.Ready source → ShowsPagePutOut s source page.now) →
         to.new ≡ bytes_out (record { flash = s; phase = phase; status = status_of passed }) (phase_of register state) (length to.old)) }
     ensures refused { IfErr result (λ fault. (register : List ℕ) → data_out_due geometry.now (phase_of register state) (length to.old) ≡ Refuses fault) }
     ensures own { IfErr result IsProtocolFault }
@@ -122,7 +122,7 @@ pub fn page_put_out<'a>(bytes: &'a [u8], geometry: &Geometry, state: BusState) -
     requires whole { length bytes.now ≡ row_count geometry.now * page_bytes geometry.now }
     requires within { IsWithin geometry.now state }
     ensures size { length result.now ≡ page_bytes geometry.now }
-    ensures shows { (turns : List BlockTurn) (abuse : ℕ) (source : OutputSource) → state ≡ BusState.Ready source → Shows (flash_of geometry.now bytes.now turns abuse) source result.now }
+    ensures shows { (next_pages : List NextPage) (abuse : ℕ) (source : OutputSource) → state ≡ BusState.Ready source → ShowsPagePutOut (flash_of geometry.now bytes.now next_pages abuse) source result.now }
 {
     match state {
         BusState::Ready(source) => page_slice(bytes, geometry, row_put_out(geometry, source)),

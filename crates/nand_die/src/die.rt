@@ -36,12 +36,12 @@ pub struct Die {
 
 impl Model for Die {
     ghost use Rattle.nand_die.specs.Stopping.{IsStop};
-    ghost use Rattle.nand_die.specs.Tape.{told_by, free_in, IsTapeOf};
+    ghost use Rattle.nand_die.specs.Tape.{told_by, tape_room_left, IsTapeOf};
     ghost use Rattle.nand_die.specs.DieValue.{DieValue, die_of};
 
     ghost Value = { DieValue };
 
-    ghost view = { λ d. die_of d.chip d.stop d.left d.stopped d.failures (told_by d.tape) (free_in d.tape) };
+    ghost view = { λ d. die_of d.chip d.stop d.left d.stopped d.failures (told_by d.tape) (tape_room_left d.tape) };
 
     ghost invariant = { λ d. IsStop d.chip.state.flash.geometry d.stop × IsTapeOf d.chip.state.flash.geometry d.tape };
 }

@@ -4,7 +4,7 @@ ghost use Rattle.page_layout.specs.Geometry.{page_bytes};
 ghost use Rattle.page_layout.specs.Raw.{raw_image};
 ghost use Rattle.page_layout.specs.Flash.{Program, Erase};
 ghost use Rattle.onfi_cycles.specs.Cycles.{page_of};
-ghost use Rattle.nand_die.specs.Tape.{pages_of, next_record, told_by, free_in, IsTapeOf, HasKept};
+ghost use Rattle.nand_die.specs.Tape.{pages_of, next_record, told_by, tape_room_left, IsTapeOf, HasPageToCome};
 
 use crate::array::page_length;
 use crate::fault::DieFault;
@@ -160,9 +160,9 @@ pub fn keep_page(tape: &mut Option<Tape>, geometry: &Geometry, page: &[u8])
     requires of { IsTapeOf geometry.now tape.old }
     requires whole { length page.now ≡ page_bytes geometry.now }
     ensures of { IsTapeOf geometry.now tape.new }
-    ensures kept { HasKept page.now tape.new }
+    ensures kept { HasPageToCome page.now tape.new }
     ensures told { told_by tape.new ≡ told_by tape.old }
-    ensures free { free_in tape.new ≡ free_in tape.old }
+    ensures free { tape_room_left tape.new ≡ tape_room_left tape.old }
 {
     if let Some(open) = tape {
         open.keep(page);
@@ -180,9 +180,9 @@ pub fn note_program(
     requires of { IsTapeOf geometry.now tape.old }
     requires whole { length left.now ≡ page_bytes geometry.now }
     ensures of { IsTapeOf geometry.now tape.new }
-    ensures told { (page : List ℕ) → HasKept page tape.old → told_by tape.new
-        ≡ next_record (free_in tape.old) (Program row (page_of geometry.now page) passed (page_of geometry.now left.now)) (told_by tape.old) }
-    ensures free { free_in tape.new ≡ free_in tape.old - 1 }
+    ensures told { (page : List ℕ) → HasPageToCome page tape.old → told_by tape.new
+        ≡ next_record (tape_room_left tape.old) (Program row (page_of geometry.now page) passed (page_of geometry.now left.now)) (told_by tape.old) }
+    ensures free { tape_room_left tape.new ≡ tape_room_left tape.old - 1 }
 {
     match tape {
         Some(open) if !open.is_full() => open.note_program(row, passed, left),
@@ -201,8 +201,8 @@ pub fn note_erase(
     requires of { IsTapeOf geometry.now tape.old }
     requires whole { length left.now ≡ geometry.now.pages * page_bytes geometry.now }
     ensures of { IsTapeOf geometry.now tape.new }
-    ensures told { told_by tape.new ≡ next_record (free_in tape.old) (Erase block passed (pages_of geometry.now geometry.now.pages left.now)) (told_by tape.old) }
-    ensures free { free_in tape.new ≡ free_in tape.old - 1 }
+    ensures told { told_by tape.new ≡ next_record (tape_room_left tape.old) (Erase block passed (pages_of geometry.now geometry.now.pages left.now)) (told_by tape.old) }
+    ensures free { tape_room_left tape.new ≡ tape_room_left tape.old - 1 }
 {
     match tape {
         Some(open) if !open.is_full() => open.note_erase(block, passed, left),

@@ -20,7 +20,7 @@ use std::fs::File;
 use std::io::{BufReader, BufWriter, Read, Write};
 use std::process::ExitCode;
 use std::rt::{Clock, Env, Files};
-use system::SystemFiles;
+use system::DiskSystem;
 
 // The bytes that are read or printed at once.
 const BUFFERED: usize = 65_536;
@@ -53,7 +53,7 @@ fn run_over<
     let Ok(mut writer) = BufWriter::with_capacity(system.alloc(), BUFFERED, out) else {
         return tell(system.alloc(), &DiskCommandFault::OutOfMemory, err);
     };
-    let mut files = SystemFiles::new(system, first);
+    let mut files = DiskSystem::new(system, first);
     let status = run(
         system.alloc(),
         words,

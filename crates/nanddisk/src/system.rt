@@ -25,16 +25,16 @@ const MOST_BYTES: u64 = 65_536;
 
 /// The system's files, by their paths. A disk is made as its part beside PATH, its shape is told in PATH.json, and its mark is kept in PATH.mark.
 #[derive(Drop)]
-pub struct SystemFiles<'a, R> {
+pub struct DiskSystem<'a, R> {
     system: System<'a, R>,
     // the part that is being made, which is locked as long as it is here
     part: Option<File>,
 }
 
-impl<'a, R: Files<File = File> + AllocGlobal> SystemFiles<'a, R> {
+impl<'a, R: Files<File = File> + AllocGlobal> DiskSystem<'a, R> {
     /// The files that the program's handle `rt` reaches. Nothing is opened. The system's first error that a fault comes of is noted.
-    pub fn new(rt: &'a R, first: &'a FirstError) -> SystemFiles<'a, R> {
-        SystemFiles {
+    pub fn new(rt: &'a R, first: &'a FirstError) -> DiskSystem<'a, R> {
+        DiskSystem {
             system: System { rt, first },
             part: None,
         }
@@ -244,9 +244,9 @@ fn copied<'a, R: Files<File = File>>(
     }
 }
 
-impl<'a, R: Files<File = File> + AllocGlobal + Clock> DiskFiles for SystemFiles<'a, R> {
+impl<'a, R: Files<File = File> + AllocGlobal + Clock> DiskFiles for DiskSystem<'a, R> {
     ghost use Rattle.std.specs.Prelude.{None};
-    ghost use Rattle.disk_commands.specs.Files.{unknown};
+    ghost use Rattle.disk_commands.specs.Files.{unknown_disk_files};
 
     type Locked = LockedFile;
 
@@ -256,7 +256,7 @@ impl<'a, R: Files<File = File> + AllocGlobal + Clock> DiskFiles for SystemFiles<
 
     type Lists = FileLists<'a, R>;
 
-    ghost answers = { λ _. unknown };
+    ghost answers = { λ _. unknown_disk_files };
 
     ghost kept = { λ _. None };
 

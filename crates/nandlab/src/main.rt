@@ -15,7 +15,7 @@ use std::fs::File;
 use std::io::{IsTerminal, Write};
 use std::process::ExitCode;
 use std::rt::{Env, Files};
-use system::SystemFiles;
+use system::LabSystem;
 
 // The exit status of a command for which a file or a stream failed.
 const FAILED: u8 = 3;
@@ -48,7 +48,7 @@ fn run_over<
     trials: P,
 ) -> u8 {
     let is_watched = screen.is_terminal();
-    let mut files = SystemFiles::new(system, first, screen, trials, is_watched);
+    let mut files = LabSystem::new(system, first, screen, trials, is_watched);
     run(system.alloc(), words, &mut files, out, err)
 }
 

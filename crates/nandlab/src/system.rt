@@ -1,6 +1,6 @@
 //! The files of the system.
 ghost use Rattle.std.specs.Prelude.{ℕ, List, false, IfErr};
-ghost use Rattle.lab_commands.specs.Files.{IsUnkept, unknown};
+ghost use Rattle.lab_commands.specs.Files.{IsFileUnkept, unknown_store};
 
 use crate::progress::{Meter, Metered, Trials, size_of};
 use lab_commands::{KeepFault, LabFileFault, LabFiles, MapText, Progress, Standing};
@@ -32,7 +32,7 @@ const MAP_BUFFER: usize = 65_536;
 
 /// The system's files, by their paths.
 #[derive(Drop)]
-pub struct SystemFiles<'a, R, E> {
+pub struct LabSystem<'a, R, E> {
     system: System<'a, R>,
     // where the first file that may shows how far it was read
     screen: Option<E>,
@@ -63,7 +63,7 @@ pub struct PieceFile<'a, R> {
     size: u32,
 }
 
-impl<'a, R: Files<File = File> + AllocGlobal, E: Write> SystemFiles<'a, R, E> {
+impl<'a, R: Files<File = File> + AllocGlobal, E: Write> LabSystem<'a, R, E> {
     /// The files that the program's handle `rt` reaches, and a screen, twice, to show progress on, which somebody may look at. Nothing is opened. The system's first error that
     /// a fault comes of is noted: of opening, reading, making, writing, syncing or naming a file, or of asking about one.
     pub fn new(
@@ -72,8 +72,8 @@ impl<'a, R: Files<File = File> + AllocGlobal, E: Write> SystemFiles<'a, R, E> {
         screen: E,
         trials: E,
         is_watched: bool,
-    ) -> SystemFiles<'a, R, E> {
-        SystemFiles {
+    ) -> LabSystem<'a, R, E> {
+        LabSystem {
             system: System { rt, first },
             screen: Some(screen),
             trials: Some(trials),
@@ -142,7 +142,7 @@ fn part_fault_of(fault: PartFault) -> LabFileFault {
 
 // Why a part did not get a name that no file may have.
 fn keep_fault_of(fault: PartFault) -> KeepFault
-    ensures { (path : List ℕ) → IsUnkept unknown path false result }
+    ensures { (path : List ℕ) → IsFileUnkept unknown_store path false result }
 {
     match fault {
         PartFault::Exists => KeepFault::Taken,
@@ -188,7 +188,7 @@ fn publish<R: Files<File = File>>(
     path: &str,
     over: bool,
 ) -> Result<(), KeepFault>
-    ensures { IfErr result (IsUnkept unknown path.now over) }
+    ensures { IfErr result (IsFileUnkept unknown_store path.now over) }
 {
     match settled(system, file.sync_all()) {
         Ok(()) => {}
@@ -215,7 +215,7 @@ fn put_in_place<R: Files<File = File>>(
     path: &str,
     over: bool,
 ) -> Result<(), KeepFault>
-    ensures { IfErr result (IsUnkept unknown path.now over) }
+    ensures { IfErr result (IsFileUnkept unknown_store path.now over) }
 {
     match publish(system, file, name, path, over) {
         Ok(()) => Ok(()),
@@ -365,9 +365,9 @@ impl<R: Files<File = File>> PageTarget for PieceFile<'_, R> {
     }
 }
 
-impl<'a, R: Files<File = File> + AllocGlobal, E: Write + Drop> LabFiles for SystemFiles<'a, R, E> {
+impl<'a, R: Files<File = File> + AllocGlobal, E: Write + Drop> LabFiles for LabSystem<'a, R, E> {
     ghost use Rattle.std.specs.Prelude.{None};
-    ghost use Rattle.lab_commands.specs.Files.{unknown};
+    ghost use Rattle.lab_commands.specs.Files.{unknown_store};
 
     type Reader = Metered<'a, BufReader<File>, E>;
 
@@ -377,7 +377,7 @@ impl<'a, R: Files<File = File> + AllocGlobal, E: Write + Drop> LabFiles for Syst
 
     type Watch = Trials<E>;
 
-    ghost answers = { λ _. unknown };
+    ghost answers = { λ _. unknown_store };
 
     ghost kept = { λ _. None };
 

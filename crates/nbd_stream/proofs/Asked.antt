@@ -8,7 +8,7 @@ use Rattle.nbd_stream.specs.declared.task.NbdCommand.{NbdCommand}
 use Rattle.nbd_stream.specs.declared.task.NbdCommand.TheVariants as command
 use Rattle.nbd_stream.specs.declared.task.Task.{Task}
 use Rattle.nbd_stream.specs.declared.task.Task.TheVariants.{Read, Write, Flush, Trim, WriteZeroes}
-use Rattle.nbd_stream.specs.Frames.{Request, IsRequest, body_length}
+use Rattle.nbd_stream.specs.Frames.{NbdRequest, IsNbdRequest, counted_body_length}
 use Rattle.nbd_stream.specs.Tasks.{admitted_by, command_from, is_durable, IsFor}
 use Rattle.nbd_stream.specs.Disk.{IsInside, count_given, count_taken}
 use Rattle.nbd_stream.specs.Exchanges.{header_of, task_of}
@@ -56,40 +56,40 @@ not_both code e = search rules
 write_code : (code : ℕ) → (code == 1) ≡ writes (command_from code)
 write_code code = by_tests (code == 0) (code == 1) (code == 2) (code == 3) (code == 4) (code == 6) (not_both code)
 
-no_body : (code count : ℕ) → (code == 1) ≡ false → 0 ≡ body_length code count
+no_body : (code count : ℕ) → (code == 1) ≡ false → 0 ≡ counted_body_length code count
 no_body code count e = ap (λ (b : Bool). if b then count else 0) (sym e)
 
-its_body : (code count : ℕ) → (code == 1) ≡ true → count ≡ body_length code count
+its_body : (code count : ℕ) → (code == 1) ≡ true → count ≡ counted_body_length code count
 its_body code count e = ap (λ (b : Bool). if b then count else 0) (sym e)
 
-taken_by : (k : Option NbdCommand) (e : Export) (h : NbdHeader) (task : Task) → (h.code == 1) ≡ writes k → admitted_by k e h ≡ Ok task → count_taken task ≡ body_length h.code h.count
+taken_by : (k : Option NbdCommand) (e : Export) (h : NbdHeader) (task : Task) → (h.code == 1) ≡ writes k → admitted_by k e h ≡ Ok task → count_taken task ≡ counted_body_length h.code h.count
 unfolding writes
 taken_by None e h task code is = (let no : ⊥ = cc in absurd no)
 taken_by (Some command.Disconnect) e h task code is = (let no : ⊥ = cc in absurd no)
 taken_by (Some command.Read) e h task code is =
     let a = err_if _ Invalid _ task is in
     let b = ok_if _ (Read h.offset h.count) Invalid task a.1 in
-    subst (λ (t : Task). count_taken t ≡ body_length h.code h.count) b.1 (no_body h.code h.count code)
+    subst (λ (t : Task). count_taken t ≡ counted_body_length h.code h.count) b.1 (no_body h.code h.count code)
 taken_by (Some command.Write) e h task code is =
     let a = err_if _ Invalid _ task is in
     let b = change_sound e h e.maximum NoSpace (Write h.offset h.count (is_durable h)) task a.1 in
-    subst (λ (t : Task). count_taken t ≡ body_length h.code h.count) b.same (its_body h.code h.count code)
+    subst (λ (t : Task). count_taken t ≡ counted_body_length h.code h.count) b.same (its_body h.code h.count code)
 taken_by (Some command.Flush) e h task code is =
     let a = err_if _ Invalid _ task is in
     let b = ok_if _ Flush Invalid task a.1 in
-    subst (λ (t : Task). count_taken t ≡ body_length h.code h.count) b.1 (no_body h.code h.count code)
+    subst (λ (t : Task). count_taken t ≡ counted_body_length h.code h.count) b.1 (no_body h.code h.count code)
 taken_by (Some command.Trim) e h task code is =
     let a = err_if _ Invalid _ task is in
     let b = change_sound e h 4294967295 Invalid (Trim h.offset h.count (is_durable h)) task a.1 in
-    subst (λ (t : Task). count_taken t ≡ body_length h.code h.count) b.same (no_body h.code h.count code)
+    subst (λ (t : Task). count_taken t ≡ counted_body_length h.code h.count) b.same (no_body h.code h.count code)
 taken_by (Some command.WriteZeroes) e h task code is =
     let a = err_if _ Invalid _ task is in
     let b = change_sound e h 4294967295 NoSpace (WriteZeroes h.offset h.count (is_durable h)) task a.1 in
-    subst (λ (t : Task). count_taken t ≡ body_length h.code h.count) b.same (no_body h.code h.count code)
+    subst (λ (t : Task). count_taken t ≡ counted_body_length h.code h.count) b.same (no_body h.code h.count code)
 
 -- a request that is asked of a disk has as many bytes as the task takes
-pub taken_of : (e : Export) (r : Request) (task : Task) → IsRequest r → task_of e r ≡ Ok task → length r.body ≡ count_taken task
+pub taken_of : (e : Export) (r : NbdRequest) (task : Task) → IsNbdRequest r → task_of e r ≡ Ok task → length r.body ≡ count_taken task
 taken_of e r task is asked = is.body ∙ sym (taken_by (command_from r.code) e (header_of r) task (write_code r.code) asked)
 
-pub inside : (e : Export) (r : Request) (task : Task) (size : ℕ) → task_of e r ≡ Ok task → size ≡ e.size → IsInside size task
+pub inside : (e : Export) (r : NbdRequest) (task : Task) (size : ℕ) → task_of e r ≡ Ok task → size ≡ e.size → IsInside size task
 inside e r task size asked same = inside_of e task size (admitted_sound e (header_of r) task asked) same

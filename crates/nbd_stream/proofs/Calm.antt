@@ -6,7 +6,7 @@ use Rattle.nbd_stream.specs.declared.fault.DiskFault.{DiskFault}
 use Rattle.nbd_stream.specs.declared.request.StreamEnd.{StreamEnd}
 use Rattle.nbd_stream.specs.declared.task.Task.{Task}
 use Rattle.nbd_stream.specs.Disk.{Contents}
-use Rattle.nbd_stream.specs.Exchanges.{Exchange, exchanges_in, requests_in}
+use Rattle.nbd_stream.specs.Exchanges.{NbdExchange, exchanges_in, requests_in}
 use Rattle.nbd_stream.specs.Transmission.{Carries, Serves}
 use Rattle.nbd_stream.proofs.RunLemmas.{done_law}
 use Rattle.nbd_stream.proofs.UntilLemmas.{stays_law}
@@ -27,6 +27,6 @@ of_calm contents honest calm does rests e limit old new u v b a result (inr begu
       before' = begun.before';
       negotiated = begun.negotiated;
       requests = requests_in (exchanges_in its.rounds);
-      stream = subst (λ (xs : List Exchange). Carries begun.unread' v begun.before' a xs result) law.0 its.stream;
+      stream = subst (λ (xs : List NbdExchange). Carries begun.unread' v begun.before' a xs result) law.0 its.stream;
       left_is = law.1;
     })

@@ -4,7 +4,7 @@ use Rattle.std.specs.Prelude.{slice_index, unwrap_or, if◌then◌else◌}
 use Rattle.std.proofs.lemmas.List.{drop_at, take_at, length-take-le, length-replicate, get_or-take, get_or-drop, get_or-replicate, get_or_append_left, get_or-append_right}
 use Rattle.nbd_stream.specs.declared.task.Task.TheVariants.{Read, Write, Flush, Trim, WriteZeroes}
 use Rattle.nbd_stream.specs.Disk.{bytes_given, is_in, with_bytes}
-use Rattle.nbd_stream.specs.Runs.{ByteLaw, ReadBackLaw}
+use Rattle.nbd_stream.specs.Runs.{ByteLaw, ReadAfterChangeLaw}
 use Rattle.nbd_stream.proofs.TaskLemmas.{below, at_most, not_below}
 
 not_at_most : (m n : ℕ) → nat_le m n ≡ false → n < m
@@ -73,7 +73,7 @@ read_again o n d body bytes fits long =
     ap (take k) (drop_at (take o bytes) (body ++ drop (o + length body) bytes) o (length-take-le o bytes (omega arith)))
     ∙ take_at body (drop (o + length body) bytes) k (omega arith)
 
-pub read_back_law : ReadBackLaw
+pub read_back_law : ReadAfterChangeLaw
 read_back_law o n d body bytes fits long =
     let zeros = read_again o n d (replicate {A = ℕ} n 0) bytes fits (length-replicate {A = ℕ} n 0) in
     (read_again o n d body bytes fits long, zeros, zeros)

@@ -16,14 +16,14 @@ use Rattle.nbd_stream.specs.declared.option.NextOption.TheVariants as next
 use Rattle.nbd_stream.specs.declared.request.StreamEnd.{StreamEnd}
 use Rattle.nbd_stream.specs.declared.negotiation.Negotiated.{Negotiated}
 use Rattle.nbd_stream.specs.declared.negotiation.Negotiated.TheVariants.{Ended}
-use Rattle.nbd_stream.specs.Options.{AskedOption, IsData, IsOption, ReadsOption, answer_bytes, answer_of, asked_option, option_bytes, reply_to, step_after, step_of}
-use Rattle.nbd_stream.specs.Negotiation.{AnswersNext, AnswersOptions, HasAnswered, HaveAnswered}
+use Rattle.nbd_stream.specs.Options.{AskedOption, IsData, IsOption, ReadsOption, option_answer_bytes, answer_to_option, asked_option, option_bytes, reply_to, step_after, step_of}
+use Rattle.nbd_stream.specs.Negotiation.{AnswersNext, AnswersOptions, HasAnsweredOption, HaveAnswered}
 
 -- ---- one option
 
 -- the answer that is found is the option's, whatever its data
 abbrev pub Answering : ℕ → List ℕ → OptionHeader → Answer → Type 0
-Answering limit buffer h answer = (body : List ℕ) → IsData h buffer body → answer ≡ answer_of limit (asked_option h.code body)
+Answering limit buffer h answer = (body : List ℕ) → IsData h buffer body → answer ≡ answer_to_option limit (asked_option h.code body)
 
 module _ (e : Export) (no_zeroes : Bool) (limit : ℕ) (u v b : Option (List ℕ)) (buffer : List ℕ) where
   pub next_unread : (f : ServeFault) → ReadsOption u v buffer (Err f) → AnswersNext e no_zeroes limit u v b b (Err f)
@@ -34,17 +34,17 @@ module _ (e : Export) (no_zeroes : Bool) (limit : ℕ) (u v b : Option (List ℕ
   next_ended end (tail, rests, read) = inr (record { tail = tail; is = rests; read = read; kept = refl })
 
   module _ (a : Option (List ℕ)) (h : OptionHeader) (answer : Answer) (whole : ReadsOption u v buffer (Ok (next.Whole h))) (answers : Answering limit buffer h answer) where
-    pub next_unsent : (f : ServeFault) → SendsBytes {T = Unit {0}} b a (answer_bytes e no_zeroes h.code answer) (Err f) → AnswersNext e no_zeroes limit u v b a (Err f)
+    pub next_unsent : (f : ServeFault) → SendsBytes {T = Unit {0}} b a (option_answer_bytes e no_zeroes h.code answer) (Err f) → AnswersNext e no_zeroes limit u v b a (Err f)
     next_unsent f (is, front) =
         let due = answers whole.0 whole.1 in
         subst (λ k. AnswersNext e no_zeroes limit u v b a (Err k)) (sym is) (record {
           option = asked_option h.code whole.0;
           is = whole.2;
           read = whole.3;
-          written = subst (λ (x : Answer). AppendsFront b a (answer_bytes e no_zeroes h.code x)) due front;
+          written = subst (λ (x : Answer). AppendsFront b a (option_answer_bytes e no_zeroes h.code x)) due front;
         })
 
-    pub next_sent : (step : AnswerStep) → Appends b a (answer_bytes e no_zeroes h.code answer) → step ≡ step_after h.code answer → HasAnswered e no_zeroes limit u v (Appends b a) step
+    pub next_sent : (step : AnswerStep) → Appends b a (option_answer_bytes e no_zeroes h.code answer) → step ≡ step_after h.code answer → HasAnsweredOption e no_zeroes limit u v (Appends b a) step
     next_sent step wrote follows =
         let due = answers whole.0 whole.1 in
         record {
@@ -52,7 +52,7 @@ module _ (e : Export) (no_zeroes : Bool) (limit : ℕ) (u v b : Option (List ℕ
           is = whole.2;
           read = whole.3;
           step_is = sym (follows ∙ ap (step_after h.code) due);
-          written = subst (λ (x : Answer). Appends b a (answer_bytes e no_zeroes h.code x)) due wrote;
+          written = subst (λ (x : Answer). Appends b a (option_answer_bytes e no_zeroes h.code x)) due wrote;
         }
 
 -- ---- many

@@ -4,7 +4,7 @@ use Rattle.std.specs.Prelude.{slice_index, slice_range}
 use Rattle.std.specs.Int.{to_be_bytes, w16, w32, w64}
 use Rattle.std.proofs.lemmas.Nat.{be_bytes_2, be_bytes_4, be_bytes_8}
 use Rattle.byteorder.specs.Endian.{big_number}
-use Rattle.nbd_stream.specs.Frames.{Spells}
+use Rattle.nbd_stream.specs.Frames.{SpellsHeader}
 use Rattle.nbd_stream.specs.declared.request.NbdHeader.{NbdHeader}
 
 -- cells below 256
@@ -46,7 +46,7 @@ pub record Reads (xs : List ℕ) (h : NbdHeader) : Type 0 where
   pub offset : h.offset ≡ big_number 8 (slice_range xs 16 24)
   pub count : h.count ≡ big_number 4 (slice_range xs 24 28)
 
-pub spelled : (xs : List ℕ) (h : NbdHeader) → length xs ≡ 28 → ((i : ℕ) → get_or xs i 0 < 256) → slice_index xs 0 ≡ 37 → slice_index xs 1 ≡ 96 → slice_index xs 2 ≡ 149 → slice_index xs 3 ≡ 19 → Reads xs h → Spells xs h
+pub spelled : (xs : List ℕ) (h : NbdHeader) → length xs ≡ 28 → ((i : ℕ) → get_or xs i 0 < 256) → slice_index xs 0 ≡ 37 → slice_index xs 1 ≡ 96 → slice_index xs 2 ≡ 149 → slice_index xs 3 ≡ 19 → Reads xs h → SpellsHeader xs h
 spelled (x0 ∷ x1 ∷ x2 ∷ x3 ∷ x4 ∷ x5 ∷ x6 ∷ x7 ∷ x8 ∷ x9 ∷ x10 ∷ x11 ∷ x12 ∷ x13 ∷ x14 ∷ x15 ∷ x16 ∷ x17 ∷ x18 ∷ x19 ∷ x20 ∷ x21 ∷ x22 ∷ x23 ∷ x24 ∷ x25 ∷ x26 ∷ x27 ∷ []) h long small m0 m1 m2 m3 read =
     let flags = cells_2 x4 x5 h.flags (small 4) (small 5) read.flags in
     let code = cells_2 x6 x7 h.code (small 6) (small 7) read.code in

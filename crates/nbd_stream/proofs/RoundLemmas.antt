@@ -5,23 +5,23 @@ use Rattle.nbd_stream.specs.declared.export.Export.{Export}
 use Rattle.nbd_stream.specs.declared.fault.DiskFault.{DiskFault}
 use Rattle.nbd_stream.specs.declared.reply.RequestError.{RequestError}
 use Rattle.nbd_stream.specs.declared.task.Task.{Task}
-use Rattle.nbd_stream.specs.Disk.{Contents, IsEither, TaskSteps, bytes_after, makes_last}
-use Rattle.nbd_stream.specs.Exchanges.{Exchange, Round, RestsBy, TellsBy, TellsRound, ToldEachRound, AreRestsDone, exchanges_in, task_of}
+use Rattle.nbd_stream.specs.Disk.{Contents, IsOldOrDue, TaskSteps, bytes_after, makes_last}
+use Rattle.nbd_stream.specs.Exchanges.{NbdExchange, Round, RestsBy, TellsBy, TellsRound, ToldEachRound, AreRestsDone, exchanges_in, task_of}
 use Rattle.nbd_stream.specs.Runs.{AnswersBy, Runs, AreDone}
 
 -- ---- a task, and then a rest
 
 -- a byte stands as it was before the task, or as it was to be
 stands_so : (old due : List ℕ) (m : Contents) (answer : Result (List ℕ) RequestError) (p : ℕ)
-    → OnOk answer (m.bytes ≡ due) → OnErr answer ((place : ℕ) → IsEither old due m.bytes place) → IsEither old due m.bytes p
+    → OnOk answer (m.bytes ≡ due) → OnErr answer ((place : ℕ) → IsOldOrDue old due m.bytes place) → IsOldOrDue old due m.bytes p
 stands_so old due m (Ok bytes) p done torn = inr (ap (λ (l : List ℕ). slice_index l p) done)
 stands_so old due m (Err error) p done torn = torn p
 
 -- the byte that the rest leaves if the power goes
-left_so : (s m t : Contents) (due : List ℕ) (p : ℕ) → IsEither s.bytes due m.bytes p
-    → (slice_index m.durable p ≡ slice_index s.durable p) ⊎ IsEither s.bytes due m.durable p
+left_so : (s m t : Contents) (due : List ℕ) (p : ℕ) → IsOldOrDue s.bytes due m.bytes p
+    → (slice_index m.durable p ≡ slice_index s.durable p) ⊎ IsOldOrDue s.bytes due m.durable p
     → (slice_index t.durable p ≡ slice_index m.durable p) ⊎ (slice_index t.durable p ≡ slice_index m.bytes p)
-    → (slice_index t.durable p ≡ slice_index s.durable p) ⊎ IsEither s.bytes due t.durable p
+    → (slice_index t.durable p ≡ slice_index s.durable p) ⊎ IsOldOrDue s.bytes due t.durable p
 left_so s m t due p stands (inl was) (inl same) = inl (same ∙ was)
 left_so s m t due p stands (inr (inl was)) (inl same) = inr (inl (same ∙ was))
 left_so s m t due p stands (inr (inr was)) (inl same) = inr (inr (same ∙ was))
@@ -52,7 +52,7 @@ module _ (s m t : Contents) (bytes : t.bytes ≡ m.bytes)
       record {
         done = done_so answer due steps.done;
         gave = steps.gave;
-        torn = subst (λ (l : List ℕ). OnErr answer ((p : ℕ) → IsEither s.bytes due l p)) (sym bytes) steps.torn;
+        torn = subst (λ (l : List ℕ). OnErr answer ((p : ℕ) → IsOldOrDue s.bytes due l p)) (sym bytes) steps.torn;
         stays = λ p. left_so s m t due p (stands_so s.bytes due m answer p steps.done steps.torn) (steps.stays p) (stays p);
         lasts = lasts_so answer task steps.lasts;
       }
@@ -76,29 +76,29 @@ module _ {D : Type 0} (contents : D → Contents) (honest calm : D → Bool) (do
   rest_done k old new None same h = tt
   rest_done k old new (Some result) (is, idles, more) h = idles.calmly h
 
-  pub one_sized : (k : Result Task RequestError) (old new : D) (x : Exchange) → TellsBy contents honest calm does k old x new → length (contents new).bytes ≡ length (contents old).bytes
+  pub one_sized : (k : Result Task RequestError) (old new : D) (x : NbdExchange) → TellsBy contents honest calm does k old x new → length (contents new).bytes ≡ length (contents old).bytes
   one_sized (Err error) old new x (is, same) = ap (λ (d : D). length (contents d).bytes) same
   one_sized (Ok task) old new x (performs, done) = performs.sized
 
-  one_back : (k : Result Task RequestError) (old new : D) (x : Exchange) → TellsBy contents honest calm does k old x new → honest new ≡ true → honest old ≡ true
+  one_back : (k : Result Task RequestError) (old new : D) (x : NbdExchange) → TellsBy contents honest calm does k old x new → honest new ≡ true → honest old ≡ true
   one_back (Err error) old new x (is, same) h = sym (ap honest same) ∙ h
   one_back (Ok task) old new x (performs, done) h = performs.back h
 
-  one_calm : (k : Result Task RequestError) (old new : D) (x : Exchange) → TellsBy contents honest calm does k old x new → calm new ≡ calm old
+  one_calm : (k : Result Task RequestError) (old new : D) (x : NbdExchange) → TellsBy contents honest calm does k old x new → calm new ≡ calm old
   one_calm (Err error) old new x (is, same) = ap calm same
   one_calm (Ok task) old new x (performs, done) = performs.calm_is
 
-  one_done : (k : Result Task RequestError) (old new : D) (x : Exchange) → TellsBy contents honest calm does k old x new → calm old ≡ true → (task : Task) → k ≡ Ok task → IsOk x.answer
+  one_done : (k : Result Task RequestError) (old new : D) (x : NbdExchange) → TellsBy contents honest calm does k old x new → calm old ≡ true → (task : Task) → k ≡ Ok task → IsOk x.answer
   one_done (Err error) old new x tells h task is = (let no : ⊥ = cc in absurd no)
   one_done (Ok task') old new x (performs, done) h task is = performs.calmly h
 
   -- the answer, by the disk that was asked
-  pub one_answers : (k : Result Task RequestError) (old new : D) (x : Exchange) → TellsBy contents honest calm does k old x new → honest new ≡ true → AnswersBy k (contents old) x (contents new)
+  pub one_answers : (k : Result Task RequestError) (old new : D) (x : NbdExchange) → TellsBy contents honest calm does k old x new → honest new ≡ true → AnswersBy k (contents old) x (contents new)
   one_answers (Err error) old new x (is, same) h = (is, ap contents same)
   one_answers (Ok task) old new x (performs, done) h = (performs.sized, performs.steps h)
 
   -- and by the one that rested
-  rested_answers : (k : Result Task RequestError) (old mid new : D) (x : Exchange) (rested : Option (Result (Unit {0}) DiskFault))
+  rested_answers : (k : Result Task RequestError) (old mid new : D) (x : NbdExchange) (rested : Option (Result (Unit {0}) DiskFault))
       → TellsBy contents honest calm does k old x mid → RestsBy contents honest calm rests k mid rested new → honest new ≡ true → AnswersBy k (contents old) x (contents new)
   rested_answers k old mid new x None tells same h =
       subst (λ (d : D). AnswersBy k (contents old) x (contents d)) (sym same) (one_answers k old mid x tells (sym (ap honest same) ∙ h))

@@ -4,11 +4,11 @@ use Rattle.std.specs.Prelude.{slice_index, unwrap_or, IsOk, IfOk, OnOk, OnErr}
 use Rattle.nbd_stream.specs.declared.export.Export.{Export}
 use Rattle.nbd_stream.specs.declared.reply.RequestError.{RequestError}
 use Rattle.nbd_stream.specs.declared.task.Task.{Task}
-use Rattle.nbd_stream.specs.Frames.{Request, IsRequest}
-use Rattle.nbd_stream.specs.Disk.{Contents, IsEither, bytes_after, bytes_given, is_in, makes_last, value_at}
-use Rattle.nbd_stream.specs.Exchanges.{Exchange, requests_in, task_of}
-use Rattle.nbd_stream.specs.Runs.{AnswersBy, Runs, AreFor, IsSet, IsToLast, answer_by, bytes_left, exchanges_of, left_by, value_by, value_of}
-use Rattle.nbd_stream.specs.Runs.{DoneLaw, KeptLaw, LastsLaw, NothingLostLaw, SetLaw}
+use Rattle.nbd_stream.specs.Frames.{NbdRequest, IsNbdRequest}
+use Rattle.nbd_stream.specs.Disk.{Contents, IsOldOrDue, bytes_after, bytes_given, is_in, makes_last, value_at}
+use Rattle.nbd_stream.specs.Exchanges.{NbdExchange, requests_in, task_of}
+use Rattle.nbd_stream.specs.Runs.{AnswersBy, Runs, AreForExport, IsSet, IsToLast, answer_by, bytes_left, array_exchanges, bytes_left_by, value_by, value_set_by}
+use Rattle.nbd_stream.specs.Runs.{DoneLaw, KeptOrSetLaw, LastsLaw, NothingLostLaw, SetLaw}
 use Rattle.nbd_stream.proofs.DiskLemmas.{byte_law}
 use Rattle.nbd_stream.proofs.Asked.{inside, taken_of}
 
@@ -22,22 +22,22 @@ had_or_set : (P : ℕ → Type 0) (set : Option ℕ) (was now : ℕ) → P was �
 had_or_set P None was now had is = inl (subst P (sym is) had)
 had_or_set P (Some v) was now had is = inr (ap (λ (k : ℕ). Some k) (sym is))
 
-either_of : (P : ℕ → Type 0) (set : Option ℕ) (old due new : List ℕ) (p : ℕ) → P (slice_index old p) → IsHadOrSet P set (slice_index due p) → IsEither old due new p → IsHadOrSet P set (slice_index new p)
+either_of : (P : ℕ → Type 0) (set : Option ℕ) (old due new : List ℕ) (p : ℕ) → P (slice_index old p) → IsHadOrSet P set (slice_index due p) → IsOldOrDue old due new p → IsHadOrSet P set (slice_index new p)
 either_of P set old due new p had has (inl is) = inl (subst P (sym is) had)
 either_of P set old due new p had has (inr is) = subst (IsHadOrSet P set) (sym is) has
 
 -- the bytes after a task that is done, or that failed
 after_task : (P : ℕ → Type 0) (set : Option ℕ) (s t : Contents) (due : List ℕ) (answer : Result (List ℕ) RequestError) (p : ℕ)
-    → OnOk answer (t.bytes ≡ due) → OnErr answer ((place : ℕ) → IsEither s.bytes due t.bytes place) → P (slice_index s.bytes p) → IsHadOrSet P set (slice_index due p) → IsHadOrSet P set (slice_index t.bytes p)
+    → OnOk answer (t.bytes ≡ due) → OnErr answer ((place : ℕ) → IsOldOrDue s.bytes due t.bytes place) → P (slice_index s.bytes p) → IsHadOrSet P set (slice_index due p) → IsHadOrSet P set (slice_index t.bytes p)
 after_task P set s t due (Ok bytes) p done torn had has = subst (λ (l : List ℕ). IsHadOrSet P set (slice_index l p)) (sym done) has
 after_task P set s t due (Err e) p done torn had has = either_of P set s.bytes due t.bytes p had has (torn p)
 
 lasting_after : (P : ℕ → Type 0) (set : Option ℕ) (s t : Contents) (due : List ℕ) (p : ℕ) → P (slice_index s.bytes p) → P (slice_index s.durable p) → IsHadOrSet P set (slice_index due p)
-    → (slice_index t.durable p ≡ slice_index s.durable p) ⊎ IsEither s.bytes due t.durable p → IsHadOrSet P set (slice_index t.durable p)
+    → (slice_index t.durable p ≡ slice_index s.durable p) ⊎ IsOldOrDue s.bytes due t.durable p → IsHadOrSet P set (slice_index t.durable p)
 lasting_after P set s t due p had had' has (inl is) = inl (subst P (sym is) had')
 lasting_after P set s t due p had had' has (inr is) = either_of P set s.bytes due t.durable p had has is
 
-pub after_answer : (P : ℕ → Type 0) (e : Export) (s t : Contents) (x : Exchange) (k : Result Task RequestError) (p : ℕ) → task_of e x.request ≡ k → length s.bytes ≡ e.size → IsRequest x.request → AnswersBy k s x t
+pub after_answer : (P : ℕ → Type 0) (e : Export) (s t : Contents) (x : NbdExchange) (k : Result Task RequestError) (p : ℕ) → task_of e x.request ≡ k → length s.bytes ≡ e.size → IsNbdRequest x.request → AnswersBy k s x t
     → P (slice_index s.bytes p) → P (slice_index s.durable p) → IsHadOrSet P (value_by k x.request.body p) (slice_index t.bytes p) × IsHadOrSet P (value_by k x.request.body p) (slice_index t.durable p)
 after_answer P e s t x (Err error) p asked size is (answer, same) had had' =
     (inl (subst (λ (c : Contents). P (slice_index c.bytes p)) (sym same) had), inl (subst (λ (c : Contents). P (slice_index c.durable p)) (sym same) had'))
@@ -50,30 +50,30 @@ after_answer P e s t x (Ok task) p asked size is (sized, steps) had had' =
       lasting_after P set s t due p had had' has (steps.stays p),
     )
 
-sized_answer : (k : Result Task RequestError) (s t : Contents) (x : Exchange) → AnswersBy k s x t → length t.bytes ≡ length s.bytes
+sized_answer : (k : Result Task RequestError) (s t : Contents) (x : NbdExchange) → AnswersBy k s x t → length t.bytes ≡ length s.bytes
 sized_answer (Err error) s t x (answer, same) = ap (λ (c : Contents). length c.bytes) same
 sized_answer (Ok task) s t x (sized, steps) = sized
 
 -- ---- nothing that lasts is lost
 
-regroup : (P : ℕ → Type 0) (e : Export) (x : Exchange) (xs : List Exchange) (p value : ℕ) → IsHadOrSet P (value_of e x.request p) value ⊎ IsSet e xs p value → P value ⊎ IsSet e (x ∷ xs) p value
+regroup : (P : ℕ → Type 0) (e : Export) (x : NbdExchange) (xs : List NbdExchange) (p value : ℕ) → IsHadOrSet P (value_set_by e x.request p) value ⊎ IsSet e xs p value → P value ⊎ IsSet e (x ∷ xs) p value
 regroup P e x xs p value (inl (inl had)) = inl had
 regroup P e x xs p value (inl (inr set)) = inr (inl set)
 regroup P e x xs p value (inr set) = inr (inr set)
 
 -- what holds of the values that a byte has, or would have if the power went, holds at the end, but for those that it is set to
-kept_from : (P : ℕ → Type 0) (e : Export) (xs : List Exchange) (s t : Contents) (p : ℕ) → AreFor e s xs → Runs e s xs t → P (slice_index s.bytes p) → P (slice_index s.durable p)
+kept_from : (P : ℕ → Type 0) (e : Export) (xs : List NbdExchange) (s t : Contents) (p : ℕ) → AreForExport e s xs → Runs e s xs t → P (slice_index s.bytes p) → P (slice_index s.durable p)
     → (P (slice_index t.bytes p) ⊎ IsSet e xs p (slice_index t.bytes p)) × (P (slice_index t.durable p) ⊎ IsSet e xs p (slice_index t.durable p))
 kept_from P e [] s t p are same had had' =
     (inl (subst (λ (c : Contents). P (slice_index c.bytes p)) (sym same) had), inl (subst (λ (c : Contents). P (slice_index c.durable p)) (sym same) had'))
 kept_from P e (x ∷ xs) s t p are (mid, one, more) had had' =
     let k : Result Task RequestError = task_of e x.request in
     let first = after_answer P e s mid x k p refl are.sized are.whole.0 one had had' in
-    let later : AreFor e mid xs = record { sized = sized_answer k s mid x one ∙ are.sized; whole = are.whole.1 } in
-    let rest = kept_from (IsHadOrSet P (value_of e x.request p)) e xs mid t p later more first.0 first.1 in
+    let later : AreForExport e mid xs = record { sized = sized_answer k s mid x one ∙ are.sized; whole = are.whole.1 } in
+    let rest = kept_from (IsHadOrSet P (value_set_by e x.request p)) e xs mid t p later more first.0 first.1 in
     (regroup P e x xs p (slice_index t.bytes p) rest.0, regroup P e x xs p (slice_index t.durable p) rest.1)
 
-pub kept_law : KeptLaw
+pub kept_law : KeptOrSetLaw
 kept_law e s t xs p are runs lasts = kept_from (λ (value : ℕ). value ≡ slice_index s.bytes p) e xs s t p are runs refl lasts
 
 -- ---- what is done
@@ -91,7 +91,7 @@ last_by task p (inr (o, n, from, to, inl is)) = ap (λ (k : Task). makes_last k 
 last_by task p (inr (o, n, from, to, inr (inl is))) = ap (λ (k : Task). makes_last k p) is ∙ in_range o n p from to
 last_by task p (inr (o, n, from, to, inr (inr is))) = ap (λ (k : Task). makes_last k p) is ∙ in_range o n p from to
 
-task_answers : (k : Result Task RequestError) (task : Task) (s t : Contents) (x : Exchange) → k ≡ Ok task → AnswersBy k s x t → AnswersBy (Ok task) s x t
+task_answers : (k : Result Task RequestError) (task : Task) (s t : Contents) (x : NbdExchange) → k ≡ Ok task → AnswersBy k s x t → AnswersBy (Ok task) s x t
 task_answers k task s t x is answers = subst (λ (r : Result Task RequestError). AnswersBy r s x t) is answers
 
 pub lasts_law : LastsLaw
@@ -101,11 +101,11 @@ lasts_law e s t x task p is last answers ok =
 
 pub nothing_lost_law : NothingLostLaw
 nothing_lost_law e s m t x xs task p is last are one ok runs =
-    let later : AreFor e m xs = record { sized = sized_answer (task_of e x.request) s m x one ∙ are.sized; whole = are.whole.1 } in
+    let later : AreForExport e m xs = record { sized = sized_answer (task_of e x.request) s m x one ∙ are.sized; whole = are.whole.1 } in
     let kept = kept_law e m t xs p later runs (lasts_law e s m x task p is last one ok) in
     kept.1
 
-set_by : (k : Result Task RequestError) (e : Export) (s t : Contents) (x : Exchange) (p value : ℕ) → task_of e x.request ≡ k → length s.bytes ≡ e.size → IsRequest x.request → AnswersBy k s x t → IsOk x.answer → value_by k x.request.body p ≡ Some value
+set_by : (k : Result Task RequestError) (e : Export) (s t : Contents) (x : NbdExchange) (p value : ℕ) → task_of e x.request ≡ k → length s.bytes ≡ e.size → IsNbdRequest x.request → AnswersBy k s x t → IsOk x.answer → value_by k x.request.body p ≡ Some value
     → slice_index t.bytes p ≡ value
 set_by (Err error) e s t x p value asked size is answers ok sets = (let no : ⊥ = cc in absurd no)
 set_by (Ok task) e s t x p value asked size is (sized, steps) ok sets =
@@ -122,11 +122,11 @@ gave_so : (answer : Result (List ℕ) RequestError) (bytes : List ℕ) → IsOk 
 gave_so (Ok l) bytes ok is = ap (λ (k : List ℕ). Ok k) is
 gave_so (Err e) bytes ok is = (let no : ⊥ = cc in absurd no)
 
-done_one : (k : Result Task RequestError) (s t : Contents) (x : Exchange) → AnswersBy k s x t → ((task : Task) → k ≡ Ok task → IsOk x.answer) → (x.answer ≡ answer_by k s.bytes) × (t.bytes ≡ left_by k x.request.body s.bytes)
+done_one : (k : Result Task RequestError) (s t : Contents) (x : NbdExchange) → AnswersBy k s x t → ((task : Task) → k ≡ Ok task → IsOk x.answer) → (x.answer ≡ answer_by k s.bytes) × (t.bytes ≡ bytes_left_by k x.request.body s.bytes)
 done_one (Err error) s t x (answer, same) done = (answer, ap (λ (c : Contents). c.bytes) same)
 done_one (Ok task) s t x (sized, steps) done = (gave_so x.answer (bytes_given task s.bytes) (done task refl) steps.gave, on_ok x.answer (done task refl) steps.done)
 
-exchange : Request → Result (List ℕ) RequestError → Exchange
+exchange : NbdRequest → Result (List ℕ) RequestError → NbdExchange
 exchange r answer = record { request = r; answer = answer }
 
 pub done_law : DoneLaw
@@ -137,6 +137,6 @@ done_law e s t (x ∷ xs) (mid, one, more) all =
     let first = done_one k s mid x one all.0 in
     let rest = done_law e mid t xs more all.1 in (
       ap (λ (a : Result (List ℕ) RequestError). exchange x.request a ∷ xs) first.0
-          ∙ ap (λ (l : List Exchange). exchange x.request (answer_by k s.bytes) ∷ l) (rest.0 ∙ ap (λ (b : List ℕ). exchanges_of e b (requests_in xs)) first.1),
+          ∙ ap (λ (l : List NbdExchange). exchange x.request (answer_by k s.bytes) ∷ l) (rest.0 ∙ ap (λ (b : List ℕ). array_exchanges e b (requests_in xs)) first.1),
       rest.1 ∙ ap (λ (b : List ℕ). bytes_left e b (requests_in xs)) first.1,
     )

@@ -8,7 +8,7 @@ use Rattle.nbd_stream.specs.declared.negotiation.Negotiated.TheVariants.{Transmi
 use Rattle.nbd_stream.specs.Negotiation.{Negotiates}
 use Rattle.nbd_stream.specs.Options.{AskedOption, option_bytes}
 use Rattle.nbd_stream.specs.Streams.{HasStopped}
-use Rattle.nbd_stream.specs.Frames.{Request, header_bytes, request_bytes}
+use Rattle.nbd_stream.specs.Frames.{NbdRequest, nbd_header_bytes, nbd_request_bytes}
 use Rattle.std.proofs.KnownBytes.{Consumes-nil, Consumes-trans}
 
 pub on_ok : {T E P Q : Type 0} (result : Result T E) → (P → Q) → OnOk result P → OnOk result Q
@@ -31,8 +31,8 @@ pub more_read : (count : ℕ) (unread middle left : Option (List ℕ)) (bytes : 
 more_read count unread middle left bytes (before, many, first) long second =
     (before ++ bytes, omega (arith, length-append before bytes, many, long), Consumes-trans unread middle left before bytes first second)
 
-pub long_request : (r : Request) → 16 ≤ length (request_bytes r)
-long_request r = omega (arith, length-append (header_bytes r) r.body)
+pub long_request : (r : NbdRequest) → 16 ≤ length (nbd_request_bytes r)
+long_request r = omega (arith, length-append (nbd_header_bytes r) r.body)
 
 pub long_option : (o : AskedOption) → 16 ≤ length (option_bytes o)
 long_option o = omega arith

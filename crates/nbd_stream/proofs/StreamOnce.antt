@@ -5,11 +5,11 @@ use Rattle.std.specs.Int.{from_be_bytes, to_be_bytes, w16, w32, w64}
 use Rattle.std.specs.List.{flat_map, AllByRecursion}
 use Rattle.std.proofs.lemmas.List.{take_at, drop_at}
 use Rattle.std.proofs.lemmas.Nat.{from_be_bytes-to_be_bytes_2, from_be_bytes-to_be_bytes_4, from_be_bytes-to_be_bytes_8}
-use Rattle.nbd_stream.specs.Frames.{Request, IsHeader, IsRequest, is_header, is_end, request_bytes, body_length, IsBeginning, IsRest, OneWayLaw}
+use Rattle.nbd_stream.specs.Frames.{NbdRequest, IsHeader, IsNbdRequest, begins_with_magic, is_end, nbd_request_bytes, counted_body_length, IsNbdRequestBeginning, IsTransmissionRest, TransmissionOneWayLaw}
 use Rattle.nbd_stream.specs.declared.request.StreamEnd.{StreamEnd}
 use Rattle.nbd_stream.specs.declared.request.StreamEnd.TheVariants.{Boundary, Unfinished, BadFrame, Disconnected}
 
-request : ℕ → ℕ → ℕ → ℕ → ℕ → List ℕ → Request
+request : ℕ → ℕ → ℕ → ℕ → ℕ → List ℕ → NbdRequest
 request flags code cookie offset count body = record { flags = flags; code = code; cookie = cookie; offset = offset; count = count; body = body }
 
 abbrev code_in : List ℕ → ℕ
@@ -19,18 +19,18 @@ abbrev count_in : List ℕ → ℕ
 count_in l = from_be_bytes w32 (take 4 (drop 24 l))
 
 -- the header's bytes say what its command and its count are
-code_same : (f g : Request) (x y : List ℕ) → f.code < 2 ^ 16 → g.code < 2 ^ 16 → request_bytes f ++ x ≡ request_bytes g ++ y → f.code ≡ g.code
+code_same : (f g : NbdRequest) (x y : List ℕ) → f.code < 2 ^ 16 → g.code < 2 ^ 16 → nbd_request_bytes f ++ x ≡ nbd_request_bytes g ++ y → f.code ≡ g.code
 code_same f g x y wf wg e = sym (from_be_bytes-to_be_bytes_2 f.code wf) ∙ ap code_in e ∙ from_be_bytes-to_be_bytes_2 g.code wg
 
-count_same : (f g : Request) (x y : List ℕ) → f.count < 2 ^ 32 → g.count < 2 ^ 32 → request_bytes f ++ x ≡ request_bytes g ++ y → f.count ≡ g.count
+count_same : (f g : NbdRequest) (x y : List ℕ) → f.count < 2 ^ 32 → g.count < 2 ^ 32 → nbd_request_bytes f ++ x ≡ nbd_request_bytes g ++ y → f.count ≡ g.count
 count_same f g x y wf wg e = sym (from_be_bytes-to_be_bytes_4 f.count wf) ∙ ap count_in e ∙ from_be_bytes-to_be_bytes_4 g.count wg
 
-body_same : (f g : Request) (x y : List ℕ) → IsHeader f → IsHeader g → request_bytes f ++ x ≡ request_bytes g ++ y → body_length f.code f.count ≡ body_length g.code g.count
+body_same : (f g : NbdRequest) (x y : List ℕ) → IsHeader f → IsHeader g → nbd_request_bytes f ++ x ≡ nbd_request_bytes g ++ y → counted_body_length f.code f.count ≡ counted_body_length g.code g.count
 body_same f g x y wf wg e =
-    ap (λ n. body_length n f.count) (code_same f g x y wf.code wg.code e) ∙ ap (body_length g.code) (count_same f g x y wf.count wg.count e)
+    ap (λ n. counted_body_length n f.count) (code_same f g x y wf.code wg.code e) ∙ ap (counted_body_length g.code) (count_same f g x y wf.count wg.count e)
 
 -- the bytes say which request it is
-request_same : (f g : Request) (x y : List ℕ) → IsRequest f → IsRequest g → request_bytes f ++ x ≡ request_bytes g ++ y → (f ≡ g) × (x ≡ y)
+request_same : (f g : NbdRequest) (x y : List ℕ) → IsNbdRequest f → IsNbdRequest g → nbd_request_bytes f ++ x ≡ nbd_request_bytes g ++ y → (f ≡ g) × (x ≡ y)
 unfolding request
 request_same f g x y wf wg e =
     let flags : f.flags ≡ g.flags = sym (from_be_bytes-to_be_bytes_2 f.flags wf.header.flags) ∙ ap (λ (l : List ℕ). from_be_bytes w16 (take 2 (drop 4 l))) e ∙ from_be_bytes-to_be_bytes_2 g.flags wg.header.flags in
@@ -57,9 +57,9 @@ request_same f g x y wf wg e =
 end_cells : (a b : ℕ) → (a == 0 && b == 2) ≡ true → (a ≡ 0) × (b ≡ 2)
 end_cells a b e = search rules
 
-end_code : (r : Request) (more : List ℕ) → IsHeader r → is_end (take 28 (request_bytes r ++ more)) ≡ true → ⊥
+end_code : (r : NbdRequest) (more : List ℕ) → IsHeader r → is_end (take 28 (nbd_request_bytes r ++ more)) ≡ true → ⊥
 end_code r more w ends =
-    let front : List ℕ = take 28 (request_bytes r ++ more) in
+    let front : List ℕ = take 28 (nbd_request_bytes r ++ more) in
     let cells = end_cells (slice_index front 6) (slice_index front 7) ends in
     let pair : to_be_bytes w16 r.code ≡ (0 ∷ 2 ∷ []) = ap (λ (a : ℕ). a ∷ slice_index front 7 ∷ []) cells.0 ∙ ap (λ (b : ℕ). 0 ∷ b ∷ []) cells.1 in
     let two : r.code ≡ 2 = sym (from_be_bytes-to_be_bytes_2 r.code w.code) ∙ ap (from_be_bytes w16) pair in
@@ -67,20 +67,20 @@ end_code r more w ends =
     let yes : (r.code == 2) ≡ true = ap (λ (n : ℕ). n == 2) two in
     cc
 
-not_beginning : (f : Request) (more : List ℕ) → IsRequest f → IsBeginning (request_bytes f ++ more) → ⊥
+not_beginning : (f : NbdRequest) (more : List ℕ) → IsNbdRequest f → IsNbdRequestBeginning (nbd_request_bytes f ++ more) → ⊥
 not_beginning f more w (inl short) = absurd (omega arith)
 not_beginning f more w (inr (h, wh, short, e)) =
-    let e' : request_bytes f ++ more ≡ request_bytes h ++ [] = e ∙ sym (append-nil (request_bytes h)) in
+    let e' : nbd_request_bytes f ++ more ≡ nbd_request_bytes h ++ [] = e ∙ sym (append-nil (nbd_request_bytes h)) in
     let rest : f.body ++ more ≡ h.body = ap (drop 28) e in
-    let long : body_length f.code f.count ≡ body_length h.code h.count = body_same f h more [] w.header wh e' in
-    let body : length f.body ≡ body_length f.code f.count = w.body in
+    let long : counted_body_length f.code f.count ≡ counted_body_length h.code h.count = body_same f h more [] w.header wh e' in
+    let body : length f.body ≡ counted_body_length f.code f.count = w.body in
     absurd (omega (arith, ap length rest, length-append f.body more, short, long, body))
 
-not_rest : (f : Request) (more : List ℕ) (end : StreamEnd) → IsRequest f → IsRest end (request_bytes f ++ more) → ⊥
+not_rest : (f : NbdRequest) (more : List ℕ) (end : StreamEnd) → IsNbdRequest f → IsTransmissionRest end (nbd_request_bytes f ++ more) → ⊥
 not_rest f more Boundary w e = cc
 not_rest f more Unfinished w h = not_beginning f more w h.1
 not_rest f more BadFrame w h =
-    let good : is_header (take 28 (request_bytes f ++ more)) ≡ true = refl in
+    let good : begins_with_magic (take 28 (nbd_request_bytes f ++ more)) ≡ true = refl in
     let bad = h.1 in
     cc
 not_rest f more Disconnected w h = end_code f more w.header h.2
@@ -88,18 +88,18 @@ not_rest f more Disconnected w h = end_code f more w.header h.2
 -- ---- one rest has one kind
 
 -- the beginning of a request is no header with another magic, and none that ends the transmission
-not_bad : (bytes : List ℕ) → IsBeginning bytes → 28 ≤ length bytes → is_header (take 28 bytes) ≡ false → ⊥
+not_bad : (bytes : List ℕ) → IsNbdRequestBeginning bytes → 28 ≤ length bytes → begins_with_magic (take 28 bytes) ≡ false → ⊥
 not_bad bytes (inl short) long bad = absurd (omega (arith, short, long))
 not_bad bytes (inr (h, wh, short, e)) long bad =
-    let is : is_header (take 28 bytes) ≡ true = ap (λ l. is_header (take 28 l)) e in
+    let is : begins_with_magic (take 28 bytes) ≡ true = ap (λ l. begins_with_magic (take 28 l)) e in
     cc
 
-not_end : (bytes : List ℕ) → IsBeginning bytes → 28 ≤ length bytes → is_end (take 28 bytes) ≡ true → ⊥
+not_end : (bytes : List ℕ) → IsNbdRequestBeginning bytes → 28 ≤ length bytes → is_end (take 28 bytes) ≡ true → ⊥
 not_end bytes (inl short) long ends = absurd (omega (arith, short, long))
 not_end bytes (inr (h, wh, short, e)) long ends =
-    end_code h [] wh (ap (λ l. is_end (take 28 l)) (append-nil (request_bytes h) ∙ sym e) ∙ ends)
+    end_code h [] wh (ap (λ l. is_end (take 28 l)) (append-nil (nbd_request_bytes h) ∙ sym e) ∙ ends)
 
-same_kind : (bytes : List ℕ) (d e : StreamEnd) → IsRest d bytes → IsRest e bytes → d ≡ e
+same_kind : (bytes : List ℕ) (d e : StreamEnd) → IsTransmissionRest d bytes → IsTransmissionRest e bytes → d ≡ e
 same_kind bytes Boundary Boundary h k = refl
 same_kind bytes Boundary Unfinished h k = absurd (omega (arith, ap length h, k.0))
 same_kind bytes Boundary BadFrame h k = absurd (omega (arith, ap length h, k.0))
@@ -119,20 +119,20 @@ same_kind bytes Disconnected Disconnected h k = refl
 
 -- ---- whole streams
 
-same_split : (fs gs : List Request) (d e : StreamEnd) (t u : List ℕ) → AllByRecursion IsRequest fs → AllByRecursion IsRequest gs → IsRest d t → IsRest e u
-    → flat_map request_bytes fs ++ t ≡ flat_map request_bytes gs ++ u → (fs ≡ gs) × (t ≡ u)
+same_split : (fs gs : List NbdRequest) (d e : StreamEnd) (t u : List ℕ) → AllByRecursion IsNbdRequest fs → AllByRecursion IsNbdRequest gs → IsTransmissionRest d t → IsTransmissionRest e u
+    → flat_map nbd_request_bytes fs ++ t ≡ flat_map nbd_request_bytes gs ++ u → (fs ≡ gs) × (t ≡ u)
 same_split [] [] d e t u af ag rt ru eq = (refl, eq)
 same_split [] (g ∷ gs) d e t u af ag rt ru eq =
-    absurd (not_rest g (flat_map request_bytes gs ++ u) d ag.0 (subst (IsRest d) (eq ∙ append_assoc (request_bytes g) (flat_map request_bytes gs) u) rt))
+    absurd (not_rest g (flat_map nbd_request_bytes gs ++ u) d ag.0 (subst (IsTransmissionRest d) (eq ∙ append_assoc (nbd_request_bytes g) (flat_map nbd_request_bytes gs) u) rt))
 same_split (f ∷ fs) [] d e t u af ag rt ru eq =
-    absurd (not_rest f (flat_map request_bytes fs ++ t) e af.0 (subst (IsRest e) (sym eq ∙ append_assoc (request_bytes f) (flat_map request_bytes fs) t) ru))
+    absurd (not_rest f (flat_map nbd_request_bytes fs ++ t) e af.0 (subst (IsTransmissionRest e) (sym eq ∙ append_assoc (nbd_request_bytes f) (flat_map nbd_request_bytes fs) t) ru))
 same_split (f ∷ fs) (g ∷ gs) d e t u af ag rt ru eq =
-    let regrouped = sym (append_assoc (request_bytes f) (flat_map request_bytes fs) t) ∙ eq ∙ append_assoc (request_bytes g) (flat_map request_bytes gs) u in
-    let same = request_same f g (flat_map request_bytes fs ++ t) (flat_map request_bytes gs ++ u) af.0 ag.0 regrouped in
+    let regrouped = sym (append_assoc (nbd_request_bytes f) (flat_map nbd_request_bytes fs) t) ∙ eq ∙ append_assoc (nbd_request_bytes g) (flat_map nbd_request_bytes gs) u in
+    let same = request_same f g (flat_map nbd_request_bytes fs ++ t) (flat_map nbd_request_bytes gs ++ u) af.0 ag.0 regrouped in
     let later = same_split fs gs d e t u af.1 ag.1 rt ru same.1 in
-    (ap (λ (k : Request). k ∷ fs) same.0 ∙ ap (λ (l : List Request). g ∷ l) later.0, later.1)
+    (ap (λ (k : NbdRequest). k ∷ fs) same.0 ∙ ap (λ (l : List NbdRequest). g ∷ l) later.0, later.1)
 
-pub one_way : OneWayLaw
+pub one_way : TransmissionOneWayLaw
 one_way stream fs gs d e t u p q =
     let same = same_split fs gs d e t u p.each q.each p.ends q.ends (sym p.whole ∙ q.whole) in
-    (same.0, same_kind u d e (subst (IsRest d) same.1 p.ends) q.ends, same.1)
+    (same.0, same_kind u d e (subst (IsTransmissionRest d) same.1 p.ends) q.ends, same.1)

@@ -7,9 +7,9 @@ use Rattle.nbd_stream.specs.declared.fault.DiskFault.TheVariants.{Failed}
 use Rattle.nbd_stream.specs.declared.reply.RequestError.{RequestError}
 use Rattle.nbd_stream.specs.declared.task.Task.{Task}
 use Rattle.nbd_stream.specs.Disk.{Contents}
-use Rattle.nbd_stream.specs.Exchanges.{Exchange, Round, RestsBy, TellsBy, TellsRound, ToldEachRound, exchanges_in, task_of}
+use Rattle.nbd_stream.specs.Exchanges.{NbdExchange, Round, RestsBy, TellsBy, TellsRound, ToldEachRound, exchanges_in, task_of}
 use Rattle.nbd_stream.specs.Runs.{AnswersExchange, Runs}
-use Rattle.nbd_stream.specs.Until.{BackLaw, BreaksBy, IsFailed, IsFirstFailed, IsFirstOfRun, IsHonestUntil, StaysLaw, UntilLaw}
+use Rattle.nbd_stream.specs.Until.{NeverHonestAgainLaw, BreaksBy, IsFailed, IsFirstFailed, IsFirstOfRun, IsHonestUntil, StaysHonestLaw, UntilLaw}
 use Rattle.nbd_stream.proofs.RoundLemmas.{back_of, one_answers, round_answers}
 use Rattle.nbd_stream.proofs.RunLemmas.{done_law, on_ok}
 
@@ -28,7 +28,7 @@ runs_more e s m t [] x same one = (t, subst (λ (c : Contents). AnswersExchange 
 runs_more e s m t (y ∷ ys) x (n, first, more) one = (n, first, runs_more e n m t ys x more one)
 
 module _ {D : Type 0} (contents : D → Contents) (honest calm : D → Bool) (does : D → Task → Result (Unit {0}) DiskFault → D → Type 0) (rests : D → Result (Unit {0}) DiskFault → D → Type 0) where
-  pub back_law : BackLaw contents honest calm does rests
+  pub back_law : NeverHonestAgainLaw contents honest calm does rests
   back_law e old new xs told lost = lost_by (honest new) (honest old) (back_of contents honest calm does rests e old new xs told) lost
 
   module _ (e : Export) where
@@ -98,7 +98,7 @@ module _ {D : Type 0} (contents : D → Contents) (honest calm : D → Bool) (do
 
     -- ---- where no task and no rest fails
 
-    one_stays : (k : Result Task RequestError) (old new : D) (x : Exchange) → TellsBy contents honest calm does k old x new → ((task : Task) → k ≡ Ok task → IsOk x.answer) → honest new ≡ honest old
+    one_stays : (k : Result Task RequestError) (old new : D) (x : NbdExchange) → TellsBy contents honest calm does k old x new → ((task : Task) → k ≡ Ok task → IsOk x.answer) → honest new ≡ honest old
     one_stays (Err error) old new x (is, same) done = ap honest same
     one_stays (Ok task) old new x (performs, does_so) done = on_ok x.answer (done task refl) performs.kept
 
@@ -124,7 +124,7 @@ module _ {D : Type 0} (contents : D → Contents) (honest calm : D → Bool) (do
         done_law e (contents old) (contents until.mid) (exchanges_in until.before) until.runs,
       )
 
-  pub stays_law : StaysLaw contents honest calm does rests
+  pub stays_law : StaysHonestLaw contents honest calm does rests
   stays_law e old new [] same done rested = ap honest same
   stays_law e old new (x ∷ xs) (next, one, more) done rested =
       stays_law e next new xs more done.1 rested.1

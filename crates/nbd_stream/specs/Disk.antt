@@ -106,18 +106,18 @@ abbrev pub IsOfChange : RequestError → Type 0
 IsOfChange e = (e ≡ InputOutput) ⊎ (e ≡ NotPermitted) ⊎ (e ≡ NoSpace)
 
 -- THE ERRORS THAT A DISK ANSWERS: a read and a flush only that they failed
-abbrev pub MayAnswer : Task → RequestError → Type 0
-MayAnswer (Read offset count) e = e ≡ InputOutput
-MayAnswer (Write offset count durable) e = IsOfChange e
-MayAnswer Flush e = e ≡ InputOutput
-MayAnswer (Trim offset count durable) e = IsOfChange e
-MayAnswer (WriteZeroes offset count durable) e = IsOfChange e
+abbrev pub MayFailWith : Task → RequestError → Type 0
+MayFailWith (Read offset count) e = e ≡ InputOutput
+MayFailWith (Write offset count durable) e = IsOfChange e
+MayFailWith Flush e = e ≡ InputOutput
+MayFailWith (Trim offset count durable) e = IsOfChange e
+MayFailWith (WriteZeroes offset count durable) e = IsOfChange e
 
 -- ---- one task
 
 -- A byte is as it was, or as the task is to leave it.
-abbrev pub IsEither : (old due new : List ℕ) → (place : ℕ) → Type 0
-IsEither old due new place = (slice_index new place ≡ slice_index old place) ⊎ (slice_index new place ≡ slice_index due place)
+abbrev pub IsOldOrDue : (old due new : List ℕ) → (place : ℕ) → Type 0
+IsOldOrDue old due new place = (slice_index new place ≡ slice_index old place) ⊎ (slice_index new place ≡ slice_index due place)
 
 -- ONE TASK OF A DISK, BY ITS BYTES. Where it is done the bytes are those that the task leaves, and a read gave those of its range; where it
 -- failed, each byte is as it was or as the task was to leave it. If the power goes now, each byte is as it would have been before, as it was,
@@ -125,8 +125,8 @@ IsEither old due new place = (slice_index new place ≡ slice_index old place) �
 pub record TaskSteps (task : Task) (body : List ℕ) (s : Contents) (answer : Result (List ℕ) RequestError) (t : Contents) : Type 0 where
   pub done : OnOk answer (t.bytes ≡ bytes_after task body s.bytes)
   pub gave : IfOk answer (λ bytes. bytes ≡ bytes_given task s.bytes)
-  pub torn : OnErr answer ((place : ℕ) → IsEither s.bytes (bytes_after task body s.bytes) t.bytes place)
-  pub stays : (place : ℕ) → (slice_index t.durable place ≡ slice_index s.durable place) ⊎ IsEither s.bytes (bytes_after task body s.bytes) t.durable place
+  pub torn : OnErr answer ((place : ℕ) → IsOldOrDue s.bytes (bytes_after task body s.bytes) t.bytes place)
+  pub stays : (place : ℕ) → (slice_index t.durable place ≡ slice_index s.durable place) ⊎ IsOldOrDue s.bytes (bytes_after task body s.bytes) t.durable place
   pub lasts : OnOk answer ((place : ℕ) → makes_last task place ≡ true → slice_index t.durable place ≡ slice_index t.bytes place)
 
 -- ONE CALL OF A DISK, whatever it does. A disk holds what it is given until a call of it fails; from then on it may be honest no more, and is never
@@ -138,7 +138,7 @@ pub record PerformsTask {D : Type 0} (contents : D → Contents) (honest calm : 
   pub kept : OnOk answer (honest new ≡ honest old)
   pub back : honest new ≡ true → honest old ≡ true
   pub calm_is : calm new ≡ calm old
-  pub fault : IfErr answer (MayAnswer task)
+  pub fault : IfErr answer (MayFailWith task)
   pub given : IfOk answer (λ bytes. length bytes ≡ count_given task)
   pub calmly : calm old ≡ true → IsOk answer
   pub steps : honest new ≡ true → TaskSteps task body (contents old) answer (contents new)

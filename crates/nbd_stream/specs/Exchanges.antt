@@ -6,17 +6,17 @@ use Rattle.nbd_stream.specs.declared.fault.DiskFault.{DiskFault}
 use Rattle.nbd_stream.specs.declared.reply.RequestError.{RequestError}
 use Rattle.nbd_stream.specs.declared.request.NbdHeader.{NbdHeader}
 use Rattle.nbd_stream.specs.declared.task.Task.{Task}
-use Rattle.nbd_stream.specs.Frames.{Request, reply_bytes}
+use Rattle.nbd_stream.specs.Frames.{NbdRequest, simple_reply_bytes}
 use Rattle.nbd_stream.specs.Tasks.{admitted, asks_change}
 use Rattle.nbd_stream.specs.Disk.{Contents, Idles, PerformsTask, answer_from, asked_as}
 
 -- AN EXCHANGE: a request, and the bytes that answer it, or an error
-pub record Exchange : Type 0 where
-  pub request : Request
+pub record NbdExchange : Type 0 where
+  pub request : NbdRequest
   pub answer : Result (List ℕ) RequestError
 
-abbrev pub requests_in : List Exchange → List Request
-requests_in xs = map (λ (x : Exchange). x.request) xs
+abbrev pub requests_in : List NbdExchange → List NbdRequest
+requests_in xs = map (λ (x : NbdExchange). x.request) xs
 
 -- the bytes of an answer
 abbrev pub bytes_in : Result (List ℕ) RequestError → List ℕ
@@ -24,15 +24,15 @@ bytes_in (Ok bytes) = bytes
 bytes_in (Err e) = []
 
 -- THE REPLY: the request's cookie, and the answer
-abbrev pub reply_in : Exchange → List ℕ
-reply_in x = reply_bytes x.request.cookie x.answer (bytes_in x.answer)
+abbrev pub reply_bytes_in : NbdExchange → List ℕ
+reply_bytes_in x = simple_reply_bytes x.request.cookie x.answer (bytes_in x.answer)
 
 -- its header
-abbrev pub header_of : Request → NbdHeader
+abbrev pub header_of : NbdRequest → NbdHeader
 header_of r = record { flags = r.flags; code = r.code; cookie = r.cookie; offset = r.offset; count = r.count }
 
 -- what it asks of a disk
-abbrev pub task_of : Export → Request → Result Task RequestError
+abbrev pub task_of : Export → NbdRequest → Result Task RequestError
 task_of e r = admitted e (header_of r)
 
 -- THE CALL THAT ANSWERED: the disk was asked the task itself, the answer is made of the one that it gave, and the call is what the disk says of such a one
@@ -44,23 +44,23 @@ pub record HasDone {D : Type 0} (does : D → Task → Result (Unit {0}) DiskFau
 
 -- ONE EXCHANGE, by what was asked: a request that is refused is answered its error, and the disk is as it was; else the disk was asked
 abbrev pub TellsBy : {D : Type 0} → (D → Contents) → (honest calm : D → Bool) → (does : D → Task → Result (Unit {0}) DiskFault → D → Type 0)
-    → Result Task RequestError → D → Exchange → D → Type 0
+    → Result Task RequestError → D → NbdExchange → D → Type 0
 TellsBy contents honest calm does (Err e) old x new = (x.answer ≡ Err e) × (new ≡ old)
 TellsBy contents honest calm does (Ok task) old x new =
     PerformsTask contents honest calm task x.request.body old x.answer new × HasDone does task old x.answer new
 
-abbrev pub Tells : {D : Type 0} → (D → Contents) → (honest calm : D → Bool) → (does : D → Task → Result (Unit {0}) DiskFault → D → Type 0)
-    → Export → D → Exchange → D → Type 0
-Tells contents honest calm does e old x new = TellsBy contents honest calm does (task_of e x.request) old x new
+abbrev pub TellsRequest : {D : Type 0} → (D → Contents) → (honest calm : D → Bool) → (does : D → Task → Result (Unit {0}) DiskFault → D → Type 0)
+    → Export → D → NbdExchange → D → Type 0
+TellsRequest contents honest calm does e old x new = TellsBy contents honest calm does (task_of e x.request) old x new
 
 -- ---- rests
 
 -- A ROUND: an exchange, and what the disk answered to the rest after it, if there was one
 pub record Round : Type 0 where
-  pub exchange : Exchange
+  pub exchange : NbdExchange
   pub rested : Option (Result (Unit {0}) DiskFault)
 
-abbrev pub exchanges_in : List Round → List Exchange
+abbrev pub exchanges_in : List Round → List NbdExchange
 exchanges_in rounds = map (λ (x : Round). x.exchange) rounds
 
 -- THE REST AFTER AN EXCHANGE: none, and the disk is as it was; or, after a change alone, one that leaves the bytes and is what the disk says of a rest
@@ -83,7 +83,7 @@ pub record TellsRound {D : Type 0} (contents : D → Contents) (honest calm : D 
     (does : D → Task → Result (Unit {0}) DiskFault → D → Type 0) (rests : D → Result (Unit {0}) DiskFault → D → Type 0)
     (e : Export) (old : D) (x : Round) (new : D) : Type 0 where
   pub mid : D
-  pub tells : Tells contents honest calm does e old x.exchange mid
+  pub tells : TellsRequest contents honest calm does e old x.exchange mid
   pub rest : RestsBy contents honest calm rests (task_of e x.exchange.request) mid x.rested new
 
 -- EACH ROUND, from a disk to the next: a chain of disks, from the one to the other

@@ -17,7 +17,7 @@ use Rattle.nbd_stream.specs.declared.negotiation.ClientFlags.TheVariants.{NoZero
 use Rattle.nbd_stream.specs.declared.negotiation.ClientFlags.TheVariants as client
 
 -- an option was read, which this step follows, and its answer was written as this says
-pub record HasAnswered (e : Export) (no_zeroes : Bool) (limit : ℕ) (unread left : Option (List ℕ)) (writes : List ℕ → Type 0) (step : AnswerStep) : Type 0 where
+pub record HasAnsweredOption (e : Export) (no_zeroes : Bool) (limit : ℕ) (unread left : Option (List ℕ)) (writes : List ℕ → Type 0) (step : AnswerStep) : Type 0 where
   pub option : AskedOption
   pub is : IsOption option
   pub read : Consumes unread left (option_bytes option)
@@ -25,14 +25,14 @@ pub record HasAnswered (e : Export) (no_zeroes : Bool) (limit : ℕ) (unread lef
   pub written : writes (reply_to e no_zeroes limit option)
 
 -- an option was read, and of its answer a beginning was written
-pub record HasBegun (e : Export) (no_zeroes : Bool) (limit : ℕ) (unread left before after : Option (List ℕ)) : Type 0 where
+pub record HasBegunAnswer (e : Export) (no_zeroes : Bool) (limit : ℕ) (unread left before after : Option (List ℕ)) : Type 0 where
   pub option : AskedOption
   pub is : IsOption option
   pub read : Consumes unread left (option_bytes option)
   pub written : AppendsFront before after (reply_to e no_zeroes limit option)
 
 -- no option was read whole, and nothing was written
-pub record HasNone (unread left before after : Option (List ℕ)) (P : List ℕ → Type 0) : Type 0 where
+pub record HasReadNoOption (unread left before after : Option (List ℕ)) (P : List ℕ → Type 0) : Type 0 where
   pub tail : List ℕ
   pub is : P tail
   pub read : Consumes unread left tail
@@ -40,12 +40,12 @@ pub record HasNone (unread left before after : Option (List ℕ)) (P : List ℕ 
 
 -- THE NEXT OPTION was answered, by the result: another one follows, or requests, or the client goes or was refused; or there was none
 abbrev pub AnswersNext : Export → (no_zeroes : Bool) → (limit : ℕ) → (unread left before after : Option (List ℕ)) → Result (Option Negotiated) ServeFault → Type 0
-AnswersNext e no_zeroes limit unread left before after (Ok None) = HasAnswered e no_zeroes limit unread left (Appends before after) More
-AnswersNext e no_zeroes limit unread left before after (Ok (Some Transmission)) = HasAnswered e no_zeroes limit unread left (Appends before after) Transmit
+AnswersNext e no_zeroes limit unread left before after (Ok None) = HasAnsweredOption e no_zeroes limit unread left (Appends before after) More
+AnswersNext e no_zeroes limit unread left before after (Ok (Some Transmission)) = HasAnsweredOption e no_zeroes limit unread left (Appends before after) Transmit
 AnswersNext e no_zeroes limit unread left before after (Ok (Some (Ended end))) =
-    ((end ≡ Disconnected) × HasAnswered e no_zeroes limit unread left (Appends before after) Close) ⊎ HasNone unread left before after (λ tail. OptionRests end tail left)
-AnswersNext e no_zeroes limit unread left before after (Err fault.Read) = HasNone unread left before after IsOptionBeginning
-AnswersNext e no_zeroes limit unread left before after (Err fault.Write) = HasBegun e no_zeroes limit unread left before after
+    ((end ≡ Disconnected) × HasAnsweredOption e no_zeroes limit unread left (Appends before after) Close) ⊎ HasReadNoOption unread left before after (λ tail. OptionRests end tail left)
+AnswersNext e no_zeroes limit unread left before after (Err fault.Read) = HasReadNoOption unread left before after IsOptionBeginning
+AnswersNext e no_zeroes limit unread left before after (Err fault.Write) = HasBegunAnswer e no_zeroes limit unread left before after
 AnswersNext e no_zeroes limit unread left before after (Err fault.OutOfMemory) = ⊥
 
 -- these options were read, and after each another one follows; and what was written is their answers

@@ -142,8 +142,8 @@ answer_by (Some Info) limit body = question_answer limit body
 answer_by (Some Go) limit body = question_answer limit body
 
 -- THE ANSWER to an option
-abbrev pub answer_of : ℕ → AskedOption → Answer
-answer_of limit o = answer_by (option_from o.code) limit o.body
+abbrev pub answer_to_option : ℕ → AskedOption → Answer
+answer_to_option limit o = answer_by (option_from o.code) limit o.body
 
 -- what follows: requests after NBD_OPT_EXPORT_NAME and after NBD_OPT_GO where these were granted, nothing after NBD_OPT_ABORT or a refusal of
 -- the former, which has no words; else another option
@@ -178,16 +178,16 @@ abbrev pub block_info : Export → List ℕ
 block_info e = 0 ∷ 3 ∷ 0 ∷ 0 ∷ 0 ∷ 1 ∷ (to_be_bytes w32 e.preferred ++ to_be_bytes w32 e.maximum)
 
 -- the bytes of an answer, of an export; after NBD_OPT_EXPORT_NAME with 124 zeros, which the client may have asked to leave out
-abbrev pub answer_bytes : Export → (no_zeroes : Bool) → (code : ℕ) → Answer → List ℕ
-answer_bytes e no_zeroes code (Short kind) = option_reply_bytes code kind []
-answer_bytes e no_zeroes code Listed = option_reply_bytes code 2 (0 ∷ 0 ∷ 0 ∷ 0 ∷ []) ++ option_reply_bytes code 1 []
-answer_bytes e no_zeroes code Told = option_reply_bytes code 3 (export_info e) ++ (option_reply_bytes code 3 (block_info e) ++ option_reply_bytes code 1 [])
-answer_bytes e no_zeroes code Chosen = export_bytes e ++ (if no_zeroes then [] else replicate 124 0)
-answer_bytes e no_zeroes code Silent = []
+abbrev pub option_answer_bytes : Export → (no_zeroes : Bool) → (code : ℕ) → Answer → List ℕ
+option_answer_bytes e no_zeroes code (Short kind) = option_reply_bytes code kind []
+option_answer_bytes e no_zeroes code Listed = option_reply_bytes code 2 (0 ∷ 0 ∷ 0 ∷ 0 ∷ []) ++ option_reply_bytes code 1 []
+option_answer_bytes e no_zeroes code Told = option_reply_bytes code 3 (export_info e) ++ (option_reply_bytes code 3 (block_info e) ++ option_reply_bytes code 1 [])
+option_answer_bytes e no_zeroes code Chosen = export_bytes e ++ (if no_zeroes then [] else replicate 124 0)
+option_answer_bytes e no_zeroes code Silent = []
 
 -- of an option
 abbrev pub reply_to : Export → Bool → ℕ → AskedOption → List ℕ
-reply_to e no_zeroes limit o = answer_bytes e no_zeroes o.code (answer_of limit o)
+reply_to e no_zeroes limit o = option_answer_bytes e no_zeroes o.code (answer_to_option limit o)
 
 abbrev pub step_of : ℕ → AskedOption → AnswerStep
-step_of limit o = step_after o.code (answer_of limit o)
+step_of limit o = step_after o.code (answer_to_option limit o)

@@ -48,17 +48,17 @@ admitted e h = admitted_by (command_from h.code) e h
 -- ---- changes
 
 -- A CHANGE: what sets bytes
-abbrev pub is_change : Task → Bool
-is_change (Read offset count) = false
-is_change (Write offset count durable) = true
-is_change Flush = false
-is_change (Trim offset count durable) = true
-is_change (WriteZeroes offset count durable) = true
+abbrev pub sets_bytes : Task → Bool
+sets_bytes (Read offset count) = false
+sets_bytes (Write offset count durable) = true
+sets_bytes Flush = false
+sets_bytes (Trim offset count durable) = true
+sets_bytes (WriteZeroes offset count durable) = true
 
 -- a change was asked of the disk
 abbrev pub asks_change : Result Task RequestError → Bool
 asks_change (Err e) = false
-asks_change (Ok task) = is_change task
+asks_change (Ok task) = sets_bytes task
 
 -- ---- a law
 

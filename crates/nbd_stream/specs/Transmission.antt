@@ -2,7 +2,7 @@
 use Rattle.std.specs.Prelude.{◌≡◌, ◌⊎◌, ℕ, Bool, true, List, [], ◌∷◌, ◌++◌, length, Option, Some, None, IfSome, Result, Ok, Err}
 use Rattle.std.specs.List.{flat_map, AllByRecursion}
 use Rattle.std.specs.Io.KnownBytes.{Appends, Consumes}
-use Rattle.request_stream.specs.Frames.{AppendsFront, SendsBytes}
+use Rattle.request_stream.specs.Frames.{AppendsFront, known_bytes_left, SendsBytes}
 use Rattle.request_stream.specs.declared.reply.ServeFault.{ServeFault}
 use Rattle.request_stream.specs.declared.reply.ServeFault.TheVariants as fault
 use Rattle.nbd_stream.specs.declared.export.Export.{Export}
@@ -11,36 +11,31 @@ use Rattle.nbd_stream.specs.declared.request.StreamEnd.{StreamEnd}
 use Rattle.nbd_stream.specs.declared.negotiation.Negotiated.{Negotiated}
 use Rattle.nbd_stream.specs.declared.negotiation.Negotiated.TheVariants.{Transmission, Ended}
 use Rattle.nbd_stream.specs.declared.task.Task.{Task}
-use Rattle.nbd_stream.specs.Frames.{Request, IsRequest, IsBeginning, Rests, SplitsTransmission, request_bytes}
+use Rattle.nbd_stream.specs.Frames.{NbdRequest, IsNbdRequest, IsNbdRequestBeginning, TransmissionRests, SplitsTransmission, nbd_request_bytes}
 use Rattle.nbd_stream.specs.Negotiation.{Negotiates}
 use Rattle.nbd_stream.specs.Disk.{Contents}
-use Rattle.nbd_stream.specs.Exchanges.{Exchange, Round, Tells, TellsRound, ToldEachRound, IsRested, AreRested, AreRestsDone, exchanges_in, reply_in, requests_in}
+use Rattle.nbd_stream.specs.Exchanges.{NbdExchange, Round, TellsRequest, TellsRound, ToldEachRound, IsRested, AreRested, AreRestsDone, exchanges_in, reply_bytes_in, requests_in}
 use Rattle.nbd_stream.specs.Runs.{Runs, AreDone}
 use Rattle.nbd_stream.specs.Until.{IsHonestUntil}
 
 -- ---- the streams
 
 -- these requests were read, and then these bytes
-pub record ReadsNbdRequests (unread left : Option (List ℕ)) (requests : List Request) (tail : List ℕ) : Type 0 where
-  pub each : AllByRecursion IsRequest requests
-  pub bytes : Consumes unread left (flat_map request_bytes requests ++ tail)
-
--- the known bytes that a reader has left
-abbrev pub left_of : Option (List ℕ) → List ℕ
-left_of None = []
-left_of (Some bytes) = bytes
+pub record ReadsNbdRequests (unread left : Option (List ℕ)) (requests : List NbdRequest) (tail : List ℕ) : Type 0 where
+  pub each : AllByRecursion IsNbdRequest requests
+  pub bytes : Consumes unread left (flat_map nbd_request_bytes requests ++ tail)
 
 -- WHAT WAS READ AND WRITTEN, by the result. Where the stream ended, its bytes are the requests and the rest that `end` names, and what was
 -- written is their replies, one each, in order. After `Read` what was written answers the requests that were read whole. After `Write` it is a
 -- beginning of the replies.
-abbrev pub Carries : (unread left before after : Option (List ℕ)) → List Exchange → Result StreamEnd ServeFault → Type 0
+abbrev pub Carries : (unread left before after : Option (List ℕ)) → List NbdExchange → Result StreamEnd ServeFault → Type 0
 Carries unread left before after xs (Ok end) =
-    (tail : List ℕ) × ReadsNbdRequests unread left (requests_in xs) tail × Rests end tail left
-    × Appends before after (flat_map reply_in xs)
-    × IfSome unread (λ input. SplitsTransmission input (requests_in xs) end (tail ++ left_of left))
+    (tail : List ℕ) × ReadsNbdRequests unread left (requests_in xs) tail × TransmissionRests end tail left
+    × Appends before after (flat_map reply_bytes_in xs)
+    × IfSome unread (λ input. SplitsTransmission input (requests_in xs) end (tail ++ known_bytes_left left))
 Carries unread left before after xs (Err fault.Read) =
-    (tail : List ℕ) × ReadsNbdRequests unread left (requests_in xs) tail × IsBeginning tail × Appends before after (flat_map reply_in xs)
-Carries unread left before after xs (Err fault.Write) = ReadsNbdRequests unread left (requests_in xs) [] × AppendsFront before after (flat_map reply_in xs)
+    (tail : List ℕ) × ReadsNbdRequests unread left (requests_in xs) tail × IsNbdRequestBeginning tail × Appends before after (flat_map reply_bytes_in xs)
+Carries unread left before after xs (Err fault.Write) = ReadsNbdRequests unread left (requests_in xs) [] × AppendsFront before after (flat_map reply_bytes_in xs)
 Carries unread left before after xs (Err fault.OutOfMemory) = ⊥
 
 -- WHEN THE DISK RESTED, by the result: after each change that it was asked, done or failed, once the reply was handed on. After `Write` the last reply was
@@ -73,26 +68,26 @@ pub record Transmits {D : Type 0} (contents : D → Contents) (honest calm : D �
 
 -- the disk was asked a request, and the reply was written, or a beginning of it
 pub record Replies {D : Type 0} (contents : D → Contents) (honest calm : D → Bool) (does : D → Task → Result (Unit {0}) DiskFault → D → Type 0)
-    (e : Export) (old : D) (r : Request) (new : D)
+    (e : Export) (old : D) (r : NbdRequest) (new : D)
     (before after : Option (List ℕ)) (result : Result (Unit {0}) ServeFault) : Type 0 where
-  pub exchange : Exchange
+  pub exchange : NbdExchange
   pub request_is : exchange.request ≡ r
-  pub tells : Tells contents honest calm does e old exchange new
-  pub sends : SendsBytes before after (reply_in exchange) result
+  pub tells : TellsRequest contents honest calm does e old exchange new
+  pub sends : SendsBytes before after (reply_bytes_in exchange) result
 
 -- a request was read, the disk was asked it, its reply was written as this says, and the disk rested as that says
-pub record HasServed {D : Type 0} (contents : D → Contents) (honest calm : D → Bool)
+pub record HasServedRound {D : Type 0} (contents : D → Contents) (honest calm : D → Bool)
     (does : D → Task → Result (Unit {0}) DiskFault → D → Type 0) (rests : D → Result (Unit {0}) DiskFault → D → Type 0)
     (e : Export) (old new : D) (unread left : Option (List ℕ)) (writes : List ℕ → Type 0) (rested : Round → Type 0) : Type 0 where
   pub round : Round
-  pub whole : IsRequest round.exchange.request
-  pub read : Consumes unread left (request_bytes round.exchange.request)
+  pub whole : IsNbdRequest round.exchange.request
+  pub read : Consumes unread left (nbd_request_bytes round.exchange.request)
   pub tells : TellsRound contents honest calm does rests e old round new
-  pub written : writes (reply_in round.exchange)
+  pub written : writes (reply_bytes_in round.exchange)
   pub has_rested : rested round
 
 -- no request was read whole, the disk is as it was, and nothing was written
-pub record HasEnded {D : Type 0} (old new : D) (unread left before after : Option (List ℕ)) (P : List ℕ → Type 0) : Type 0 where
+pub record HasReadNoRequest {D : Type 0} (old new : D) (unread left before after : Option (List ℕ)) (P : List ℕ → Type 0) : Type 0 where
   pub tail : List ℕ
   pub is : P tail
   pub read : Consumes unread left tail
@@ -103,12 +98,12 @@ abbrev pub ServesNext : {D : Type 0} → (D → Contents) → (honest calm : D �
     → (does : D → Task → Result (Unit {0}) DiskFault → D → Type 0) → (rests : D → Result (Unit {0}) DiskFault → D → Type 0) → Export
     → (old new : D) → (unread left before after : Option (List ℕ)) → Result (Option StreamEnd) ServeFault → Type 0
 ServesNext contents honest calm does rests e old new unread left before after (Ok None) =
-    HasServed contents honest calm does rests e old new unread left (Appends before after) (IsRested e)
+    HasServedRound contents honest calm does rests e old new unread left (Appends before after) (IsRested e)
 ServesNext contents honest calm does rests e old new unread left before after (Ok (Some end)) =
-    HasEnded old new unread left before after (λ tail. Rests end tail left)
-ServesNext contents honest calm does rests e old new unread left before after (Err fault.Read) = HasEnded old new unread left before after IsBeginning
+    HasReadNoRequest old new unread left before after (λ tail. TransmissionRests end tail left)
+ServesNext contents honest calm does rests e old new unread left before after (Err fault.Read) = HasReadNoRequest old new unread left before after IsNbdRequestBeginning
 ServesNext contents honest calm does rests e old new unread left before after (Err fault.Write) =
-    HasServed contents honest calm does rests e old new unread left (AppendsFront before after) (λ round. round.rested ≡ None)
+    HasServedRound contents honest calm does rests e old new unread left (AppendsFront before after) (λ round. round.rested ≡ None)
 ServesNext contents honest calm does rests e old new unread left before after (Err fault.OutOfMemory) = ⊥
 
 -- ---- a whole session

@@ -6,7 +6,7 @@ use Rattle.nbd_stream.specs.declared.fault.DiskFault.TheVariants.{Failed}
 use Rattle.nbd_stream.specs.declared.task.Task.{Task}
 use Rattle.nbd_stream.specs.Disk.{Contents}
 use Rattle.nbd_stream.specs.Exchanges.{Round, TellsRound, ToldEachRound, AreRestsDone, exchanges_in, requests_in, task_of}
-use Rattle.nbd_stream.specs.Runs.{Runs, AreDone, bytes_left, exchanges_of}
+use Rattle.nbd_stream.specs.Runs.{Runs, AreDone, bytes_left, array_exchanges}
 
 -- nothing more was asked; or the next round left a disk that is not honest, and of that one the others were asked
 abbrev pub BreaksBy : {D : Type 0} → (D → Contents) → (honest calm : D → Bool)
@@ -33,9 +33,9 @@ pub record IsHonestUntil {D : Type 0} (contents : D → Contents) (honest calm :
 -- ---- laws
 
 -- A DISK THAT IS HONEST NO MORE is never again, whatever it is asked
-abbrev pub BackLaw : {D : Type 0} → (D → Contents) → (honest calm : D → Bool)
+abbrev pub NeverHonestAgainLaw : {D : Type 0} → (D → Contents) → (honest calm : D → Bool)
     → (does : D → Task → Result (Unit {0}) DiskFault → D → Type 0) → (rests : D → Result (Unit {0}) DiskFault → D → Type 0) → Type 0
-BackLaw {D} contents honest calm does rests =
+NeverHonestAgainLaw {D} contents honest calm does rests =
     (e : Export) (old new : D) (xs : List Round) → ToldEachRound contents honest calm does rests e old xs new → honest old ≡ false → honest new ≡ false
 
 -- a round that was asked of the disk and failed, or whose rest failed
@@ -61,12 +61,12 @@ UntilLaw {D} contents honest calm does rests =
     × IsFirstFailed e until.after
     × IsFirstOfRun e (contents old) until.before until.after
     × (AreDone e (exchanges_in until.before)
-    → (exchanges_in until.before ≡ exchanges_of e (contents old).bytes (requests_in (exchanges_in until.before)))
+    → (exchanges_in until.before ≡ array_exchanges e (contents old).bytes (requests_in (exchanges_in until.before)))
     × ((contents until.mid).bytes ≡ bytes_left e (contents old).bytes (requests_in (exchanges_in until.before))))
 
 -- where no task and no rest fails, an honest disk stays so
-abbrev pub StaysLaw : {D : Type 0} → (D → Contents) → (honest calm : D → Bool)
+abbrev pub StaysHonestLaw : {D : Type 0} → (D → Contents) → (honest calm : D → Bool)
     → (does : D → Task → Result (Unit {0}) DiskFault → D → Type 0) → (rests : D → Result (Unit {0}) DiskFault → D → Type 0) → Type 0
-StaysLaw {D} contents honest calm does rests =
+StaysHonestLaw {D} contents honest calm does rests =
     (e : Export) (old new : D) (xs : List Round) → ToldEachRound contents honest calm does rests e old xs new
     → AreDone e (exchanges_in xs) → AreRestsDone xs → honest new ≡ honest old

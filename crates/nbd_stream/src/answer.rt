@@ -2,7 +2,7 @@
 ghost use Rattle.nbd_stream.specs.Streams.{EndsBy};
 ghost use Rattle.std.specs.Prelude.{◌≡◌, ◌≢◌, OnErr, OnOk, ◌≤◌, ℕ, Bool, List, length, take, false, true, IfSome, IsNone};
 ghost use Rattle.request_stream.specs.Frames.{SendsBytes};
-ghost use Rattle.nbd_stream.specs.Options.{IsData, option_from, answer_of, question_answer, is_question, name_length, step_after, answer_bytes, asked_option, option_reply_header, transmission_flags, export_bytes, export_info, block_info};
+ghost use Rattle.nbd_stream.specs.Options.{IsData, option_from, answer_to_option, question_answer, is_question, name_length, step_after, option_answer_bytes, asked_option, option_reply_header, transmission_flags, export_bytes, export_info, block_info};
 
 use crate::export::Export;
 use crate::option::OptionHeader;
@@ -126,7 +126,7 @@ fn answer_question(count: u32, body: &[u8]) -> Answer
 
 // The answer to an option, with its data at the front of the buffer where it has room there.
 pub(crate) fn answer_to(header: &OptionHeader, body: &[u8]) -> Answer
-    ensures { (given : List ℕ) → IsData header.now body.now given → result ≡ answer_of (length body.now) (asked_option header.now.code given) }
+    ensures { (given : List ℕ) → IsData header.now body.now given → result ≡ answer_to_option (length body.now) (asked_option header.now.code given) }
 {
     match option_from(header.code) {
         None => Answer::Short(UNSUPPORTED),
@@ -202,7 +202,7 @@ fn block_info(export: &Export) -> [u8; 14]
 
 // Writes what the export is.
 fn send_told<W: Outgoing>(writer: &mut W, export: &Export, code: u32) -> Result<(), ServeFault>
-    ensures sends { (no_zeroes : Bool) → SendsBytes (W.contents writer.old) (W.contents writer.new) (answer_bytes export.now no_zeroes code Answer.Told) result }
+    ensures sends { (no_zeroes : Bool) → SendsBytes (W.contents writer.old) (W.contents writer.new) (option_answer_bytes export.now no_zeroes code Answer.Told) result }
     ensures fails { OnErr result (EndsBy W.fails writer.new) }
     ensures hands { OnOk result (EndsBy W.hands writer.new) }
 {
@@ -231,7 +231,7 @@ pub(crate) fn send_answer<W: Outgoing>(
     code: u32,
     answer: Answer,
 ) -> Result<(), ServeFault>
-    ensures sends { SendsBytes (W.contents writer.old) (W.contents writer.new) (answer_bytes export.now no_zeroes code answer) result }
+    ensures sends { SendsBytes (W.contents writer.old) (W.contents writer.new) (option_answer_bytes export.now no_zeroes code answer) result }
     ensures fails { OnErr result (EndsBy W.fails writer.new) }
     ensures hands { OnOk result (answer ≢ Answer.Silent → EndsBy W.hands writer.new) }
 {

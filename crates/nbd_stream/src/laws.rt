@@ -1,15 +1,15 @@
 //! What a reader would ask of the definitions first. Each function does nothing: its contract is the law.
-ghost use Rattle.nbd_stream.specs.Frames.{OneWayLaw, SomeWayLaw};
-ghost use Rattle.nbd_stream.specs.Runs.{ByteLaw, DoneLaw, KeptLaw, LastsLaw, NothingLostLaw, ReadBackLaw, SetLaw};
+ghost use Rattle.nbd_stream.specs.Frames.{TransmissionOneWayLaw, TransmissionSomeWayLaw};
+ghost use Rattle.nbd_stream.specs.Runs.{ByteLaw, DoneLaw, KeptOrSetLaw, LastsLaw, NothingLostLaw, ReadAfterChangeLaw, SetLaw};
 ghost use Rattle.nbd_stream.specs.Tasks.{AdmittedLaw};
-ghost use Rattle.nbd_stream.specs.Until.{BackLaw, StaysLaw, UntilLaw};
+ghost use Rattle.nbd_stream.specs.Until.{NeverHonestAgainLaw, StaysHonestLaw, UntilLaw};
 
 use crate::disk::Disk;
 
 /// Every list of bytes is, in just one way, whole requests and a rest. (This project's.)
 pub fn stream_laws()
-    ensures one_way { OneWayLaw }
-    ensures some_way { SomeWayLaw }
+    ensures one_way { TransmissionOneWayLaw }
+    ensures some_way { TransmissionSomeWayLaw }
 {}
 
 /// What is asked of a disk is for it, whatever the request: bytes that it has, no more than it takes, and no change where it is
@@ -23,10 +23,10 @@ pub fn task_laws()
 /// whatever fails between, but for what later requests set. Where no task fails, the answers are those of the array. (This project's.)
 pub fn disk_laws()
     ensures byte { ByteLaw }
-    ensures read_back { ReadBackLaw }
+    ensures read_back { ReadAfterChangeLaw }
     ensures set { SetLaw }
     ensures lasts { LastsLaw }
-    ensures kept { KeptLaw }
+    ensures kept { KeptOrSetLaw }
     ensures nothing_lost { NothingLostLaw }
     ensures done { DoneLaw }
 {}
@@ -35,7 +35,7 @@ pub fn disk_laws()
 /// ends with an exchange that was asked of the disk and failed, or whose rest failed, and not before: up to that one the answers are the array's, one
 /// before such a rest too, and where none of them failed they are what it gives. (This project's.)
 pub fn honesty_laws<D: Disk>()
-    ensures back { BackLaw D.contents D.honest D.calm D.does D.rests }
-    ensures stays { StaysLaw D.contents D.honest D.calm D.does D.rests }
+    ensures back { NeverHonestAgainLaw D.contents D.honest D.calm D.does D.rests }
+    ensures stays { StaysHonestLaw D.contents D.honest D.calm D.does D.rests }
     ensures until { UntilLaw D.contents D.honest D.calm D.does D.rests }
 {}

@@ -61,7 +61,7 @@ impl MemoryDisk {
 
 impl Disk for MemoryDisk {
     ghost use Rattle.std.specs.Prelude.{◌≡◌, false, true, Ok};
-    ghost use Rattle.nbd_stream.specs.Tasks.{is_change};
+    ghost use Rattle.nbd_stream.specs.Tasks.{sets_bytes};
 
     ghost contents = { λ disk. record { bytes = disk.bytes.items; durable = disk.bytes.items } };
 
@@ -69,7 +69,7 @@ impl Disk for MemoryDisk {
 
     ghost calm = { λ disk. true };
 
-    ghost does = { λ old task result new. (result ≡ Ok tt) × (is_change task ≡ false → new ≡ old) };
+    ghost does = { λ old task result new. (result ≡ Ok tt) × (sets_bytes task ≡ false → new ≡ old) };
 
     ghost rests = { λ old result new. (result ≡ Ok tt) × (new ≡ old) };
 

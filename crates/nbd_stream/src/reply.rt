@@ -3,7 +3,7 @@ ghost use Rattle.nbd_stream.specs.Streams.{EndsBy};
 ghost use Rattle.std.specs.Prelude.{◌≡◌, OnErr, OnOk};
 ghost use Rattle.std.specs.List.{flat_map};
 ghost use Rattle.request_stream.specs.Frames.{SendsBytes};
-ghost use Rattle.nbd_stream.specs.Frames.{reply_bytes, reply_header_bytes, error_number_of};
+ghost use Rattle.nbd_stream.specs.Frames.{simple_reply_bytes, reply_header_bytes, error_number_of};
 
 use crate::streams::Outgoing;
 use request_stream::ServeFault;
@@ -80,7 +80,7 @@ pub fn send_reply<W: Outgoing>(
     done: Result<(), RequestError>,
     bytes: &[u8],
 ) -> Result<(), ServeFault>
-    ensures sends { SendsBytes (W.contents writer.old) (W.contents writer.new) (reply_bytes cookie done bytes.now) result }
+    ensures sends { SendsBytes (W.contents writer.old) (W.contents writer.new) (simple_reply_bytes cookie done bytes.now) result }
     ensures fails { OnErr result (EndsBy W.fails writer.new) }
     ensures hands { OnOk result (EndsBy W.hands writer.new) }
 {

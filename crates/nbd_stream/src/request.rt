@@ -21,13 +21,13 @@ pub struct NbdHeader {
 
 impl NbdHeader {
     ghost use Rattle.std.specs.Prelude.{◌≡◌, false, IfSome, IsNone};
-    ghost use Rattle.nbd_stream.specs.Frames.{Spells, is_header, body_length};
+    ghost use Rattle.nbd_stream.specs.Frames.{SpellsHeader, begins_with_magic, counted_body_length};
 
     /// The header that 28 bytes spell: the magic 25609513h, and the five numbers in their order, each most significant byte first.
     /// Else `None`. (The NBD protocol, "Request message".)
     pub fn parse(bytes: &[u8; 28]) -> Option<NbdHeader>
-        ensures spelled { IfSome result (λ header. Spells bytes.now header) }
-        ensures bad { IsNone result → is_header bytes.now ≡ false }
+        ensures spelled { IfSome result (λ header. SpellsHeader bytes.now header) }
+        ensures bad { IsNone result → begins_with_magic bytes.now ≡ false }
     {
         let [0x25, 0x60, 0x95, 0x13, ..] = *bytes else {
             return None;
@@ -43,7 +43,7 @@ impl NbdHeader {
 
     // How many bytes follow the header.
     fn body_count(&self) -> u32
-        ensures { result ≡ body_length self.now.code self.now.count }
+        ensures { result ≡ counted_body_length self.now.code self.now.count }
     {
         if self.code == WRITE { self.count } else { 0 }
     }

@@ -1,6 +1,6 @@
 //! What a request asks of a disk, or the error that it has before the disk is asked.
 ghost use Rattle.std.specs.Prelude.{◌≡◌, IsTrue};
-ghost use Rattle.nbd_stream.specs.Tasks.{admitted, change_of, command_from, is_change, is_within, is_durable};
+ghost use Rattle.nbd_stream.specs.Tasks.{admitted, change_of, command_from, sets_bytes, is_within, is_durable};
 
 use crate::export::Export;
 use crate::reply::RequestError;
@@ -56,7 +56,7 @@ pub enum Task {
 impl Task {
     // Whether it sets bytes.
     pub(crate) fn is_change(self) -> bool
-        ensures { result ≡ is_change self }
+        ensures { result ≡ sets_bytes self }
     {
         match self {
             Task::Write { .. } | Task::Trim { .. } | Task::WriteZeroes { .. } => true,

@@ -3,8 +3,8 @@ ghost use Rattle.std.specs.Prelude.{◌≡◌, ◌≤◌, ◌+◌, ℕ, List, No
 ghost use Rattle.nbd_stream.specs.Streams.{EndsBy, HasStopped, HasStreamFailed};
 ghost use Rattle.nbd_stream.specs.Disk.{IsInside, PerformsTask, answer_from, asked_as, count_given, count_taken};
 ghost use Rattle.nbd_stream.specs.Exchanges.{RestsAfter};
-ghost use Rattle.nbd_stream.specs.Frames.{IsRequest, request_at};
-ghost use Rattle.nbd_stream.specs.Tasks.{admitted, asks_change, is_change};
+ghost use Rattle.nbd_stream.specs.Frames.{IsNbdRequest, request_with_body};
+ghost use Rattle.nbd_stream.specs.Tasks.{admitted, asks_change, sets_bytes};
 ghost use Rattle.nbd_stream.specs.Through.{Through};
 ghost use Rattle.nbd_stream.specs.Transmission.{Replies, Serves, ServesNext, Transmits};
 
@@ -25,7 +25,7 @@ fn perform<D: Disk>(disk: &mut D, task: Task, buffer: &mut [u8]) -> Result<(), D
     ensures performs { PerformsTask D.contents D.honest D.calm task (take (count_taken task) buffer.old) disk.old
         (answer_from result (take (count_given task) buffer.new)) disk.new }
     ensures does { D.does disk.old (asked_as task) result disk.new }
-    ensures leaves { is_change task ≡ false → D.leaves disk.old disk.new }
+    ensures leaves { sets_bytes task ≡ false → D.leaves disk.old disk.new }
 {
     match task {
         Task::Read { offset, count } => disk.read(offset, &mut buffer[..count as usize]),
@@ -71,9 +71,9 @@ fn answer<W: Outgoing, D: Disk>(
     requires asked { asked ≡ admitted export.now header.now }
     requires size { length (D.contents disk.old).bytes ≡ export.now.size }
     requires room { export.now.maximum ≤ length buffer.old }
-    ensures replies { (body : List ℕ) → IsRequest (request_at header.now body) →
+    ensures replies { (body : List ℕ) → IsNbdRequest (request_with_body header.now body) →
         (length body ≤ length buffer.old → body ≡ take (length body) buffer.old) →
-        Replies D.contents D.honest D.calm D.does export.now disk.old (request_at header.now body) disk.new
+        Replies D.contents D.honest D.calm D.does export.now disk.old (request_with_body header.now body) disk.new
         (W.contents writer.old) (W.contents writer.new) result }
     ensures leaves { asks_change asked ≡ false → Through D.leaves disk.old disk.new }
     ensures fails { OnErr result (EndsBy W.fails writer.new) }

@@ -2,7 +2,7 @@
 use Rattle.std.proofs.Common.{◌≡◌, ℕ, ◌/◌, Bool, true, false, List, [], ◌∷◌, refl, sym, ap, ◌∙◌, subst, arith}
 use Rattle.page_layout.specs.Flash.{Flash}
 use Rattle.noisy_bus.specs.declared.stage.Stage.TheVariants as stage
-use Rattle.noisy_bus.specs.Bus.{BusState, moved, is_beginning, HasRead, HasProgrammed, HasErased, TakesCommand}
+use Rattle.noisy_bus.specs.Bus.{BusState, moved, is_beginning, HasReadPage, HasDoneProgram, HasDoneErase, TakesCommand}
 
 -- no code that begins is one of the others
 not_both : (code other : ℕ) {A : Type 0} → is_beginning code ≡ true → code ≡ other → is_beginning other ≡ false → A
@@ -35,7 +35,7 @@ takes_resets flash honest code old new is = record {
   erases = λ c. absurd (omega (arith, is, c));
 }
 
-pub takes_reads : {N : Type 0} (flash : N → Flash) (honest : N → Bool) (code : ℕ) (old new : BusState N) → code ≡ 0x30 → (row : ℕ) × (old.stage ≡ stage.Address 0x00 5 row) × HasRead flash honest row old new → TakesCommand flash honest code old new
+pub takes_reads : {N : Type 0} (flash : N → Flash) (honest : N → Bool) (code : ℕ) (old new : BusState N) → code ≡ 0x30 → (row : ℕ) × (old.stage ≡ stage.Address 0x00 5 row) × HasReadPage flash honest row old new → TakesCommand flash honest code old new
 takes_reads flash honest code old new is e = record {
   begins = λ b. not_both code 0x30 b is refl;
   shows = λ c. absurd (omega (arith, is, c));
@@ -44,7 +44,7 @@ takes_reads flash honest code old new is e = record {
   erases = λ c. absurd (omega (arith, is, c));
 }
 
-pub takes_programs : {N : Type 0} (flash : N → Flash) (honest : N → Bool) (code : ℕ) (old new : BusState N) → code ≡ 0x10 → (row : ℕ) × (old.stage ≡ stage.Loading row) × HasProgrammed flash honest row old new → TakesCommand flash honest code old new
+pub takes_programs : {N : Type 0} (flash : N → Flash) (honest : N → Bool) (code : ℕ) (old new : BusState N) → code ≡ 0x10 → (row : ℕ) × (old.stage ≡ stage.Loading row) × HasDoneProgram flash honest row old new → TakesCommand flash honest code old new
 takes_programs flash honest code old new is e = record {
   begins = λ b. not_both code 0x10 b is refl;
   shows = λ c. absurd (omega (arith, is, c));
@@ -53,7 +53,7 @@ takes_programs flash honest code old new is e = record {
   erases = λ c. absurd (omega (arith, is, c));
 }
 
-pub takes_erases : {N : Type 0} (flash : N → Flash) (honest : N → Bool) (code : ℕ) (old new : BusState N) → code ≡ 0xD0 → (row : ℕ) × (old.stage ≡ stage.Address 0x60 3 row) × HasErased flash honest (row / old.geometry.pages) old new → TakesCommand flash honest code old new
+pub takes_erases : {N : Type 0} (flash : N → Flash) (honest : N → Bool) (code : ℕ) (old new : BusState N) → code ≡ 0xD0 → (row : ℕ) × (old.stage ≡ stage.Address 0x60 3 row) × HasDoneErase flash honest (row / old.geometry.pages) old new → TakesCommand flash honest code old new
 takes_erases flash honest code old new is e = record {
   begins = λ b. not_both code 0xD0 b is refl;
   shows = λ c. absurd (omega (arith, is, c));

@@ -50,14 +50,14 @@ loading_at stage.Putting = stage.Putting
 -- ---- what a command does
 
 -- these bytes are a page that was read of the row
-pub record HasPut {N : Type 0} (flash : N → Flash) (honest : N → Bool) (g : Geometry) (row : ℕ) (old new : N) (bytes : List ℕ) : Type 0 where
+pub record HasPutOutPage {N : Type 0} (flash : N → Flash) (honest : N → Bool) (g : Geometry) (row : ℕ) (old new : N) (bytes : List ℕ) : Type 0 where
   pub put : Page
   pub sized : HasChipSizes g put
   pub is : bytes ≡ put.body ++ put.spare
   pub puts : honest old ≡ true → PutsOut (flash old) (flash new) row put
 
 -- the page of a row was read, and is to be put out
-pub record HasRead {N : Type 0} (flash : N → Flash) (honest : N → Bool) (row : ℕ) (old new : BusState N) : Type 0 where
+pub record HasReadPage {N : Type 0} (flash : N → Flash) (honest : N → Bool) (row : ℕ) (old new : BusState N) : Type 0 where
   pub put : Page
   pub sized : HasChipSizes old.geometry put
   pub is : new ≡ record { nand = new.nand; geometry = old.geometry; stage = stage.Putting; held = put.body ++ put.spare; status = old.status }
@@ -68,15 +68,15 @@ pub record HasDoneOperation {N : Type 0} (old new : BusState N) (outcome : Outco
   pub is : new ≡ record { nand = new.nand; geometry = old.geometry; stage = stage.Idle; held = []; status = status_of (is_passed outcome) }
 
 -- the page that came in, without its codes
-abbrev pub page_in : Geometry → List ℕ → Page
-page_in g held = page (take g.data_bytes held) (take g.spare_bytes (drop g.data_bytes held))
+abbrev pub page_without_codes : Geometry → List ℕ → Page
+page_without_codes g held = page (take g.data_bytes held) (take g.spare_bytes (drop g.data_bytes held))
 
-pub record HasProgrammed {N : Type 0} (flash : N → Flash) (honest : N → Bool) (row : ℕ) (old new : BusState N) : Type 0 where
+pub record HasDoneProgram {N : Type 0} (flash : N → Flash) (honest : N → Bool) (row : ℕ) (old new : BusState N) : Type 0 where
   pub outcome : Outcome
   pub done : HasDoneOperation old new outcome
-  pub did : honest old.nand ≡ true → Did (λ passed s. Program row (page_in old.geometry old.held) passed (page_at s row)) (flash old.nand) (flash new.nand) outcome
+  pub did : honest old.nand ≡ true → Did (λ passed s. Program row (page_without_codes old.geometry old.held) passed (page_at s row)) (flash old.nand) (flash new.nand) outcome
 
-pub record HasErased {N : Type 0} (flash : N → Flash) (honest : N → Bool) (block : ℕ) (old new : BusState N) : Type 0 where
+pub record HasDoneErase {N : Type 0} (flash : N → Flash) (honest : N → Bool) (block : ℕ) (old new : BusState N) : Type 0 where
   pub outcome : Outcome
   pub done : HasDoneOperation old new outcome
   pub did : honest old.nand ≡ true → Did (λ passed s. Erase block passed (block_at s block)) (flash old.nand) (flash new.nand) outcome
@@ -89,25 +89,25 @@ is_beginning code = (code == 0x00) || ((code == 0x60) || (code == 0x80))
 pub record TakesCommand {N : Type 0} (flash : N → Flash) (honest : N → Bool) (code : ℕ) (old new : BusState N) : Type 0 where
   pub begins : is_beginning code ≡ true → new ≡ moved (stage.Address code 0 0) [] old
   pub shows : code ≡ 0x70 → new ≡ moved stage.Putting (old.status ∷ []) old
-  pub reads : code ≡ 0x30 → (row : ℕ) × (old.stage ≡ stage.Address 0x00 5 row) × HasRead flash honest row old new
-  pub programs : code ≡ 0x10 → (row : ℕ) × (old.stage ≡ stage.Loading row) × HasProgrammed flash honest row old new
-  pub erases : code ≡ 0xD0 → (row : ℕ) × (old.stage ≡ stage.Address 0x60 3 row) × HasErased flash honest (row / old.geometry.pages) old new
+  pub reads : code ≡ 0x30 → (row : ℕ) × (old.stage ≡ stage.Address 0x00 5 row) × HasReadPage flash honest row old new
+  pub programs : code ≡ 0x10 → (row : ℕ) × (old.stage ≡ stage.Loading row) × HasDoneProgram flash honest row old new
+  pub erases : code ≡ 0xD0 → (row : ℕ) × (old.stage ≡ stage.Address 0x60 3 row) × HasDoneErase flash honest (row / old.geometry.pages) old new
 
 -- ---- a cycle
 
 -- a cycle that was taken, with what it put out
-abbrev pub Takes : {N : Type 0} → (N → Flash) → (N → Bool) → BusState N → Cycle → List ℕ → BusState N → Type 0
-Takes flash honest old (Command code) out new = (out ≡ []) × TakesCommand flash honest code old new
-Takes flash honest old (Address byte) out new = (out ≡ []) × (new ≡ moved (loading_at (address_after old.stage byte)) [] old)
-Takes flash honest old (DataIn bytes) out new = (out ≡ []) × (new ≡ moved old.stage (old.held ++ bytes) old)
-Takes flash honest old (DataOut count) out new = (count ≤ length old.held) × (out ≡ take count old.held) × (new ≡ moved old.stage (drop count old.held) old)
+abbrev pub TakesCycle : {N : Type 0} → (N → Flash) → (N → Bool) → BusState N → Cycle → List ℕ → BusState N → Type 0
+TakesCycle flash honest old (Command code) out new = (out ≡ []) × TakesCommand flash honest code old new
+TakesCycle flash honest old (Address byte) out new = (out ≡ []) × (new ≡ moved (loading_at (address_after old.stage byte)) [] old)
+TakesCycle flash honest old (DataIn bytes) out new = (out ≡ []) × (new ≡ moved old.stage (old.held ++ bytes) old)
+TakesCycle flash honest old (DataOut count) out new = (count ≤ length old.held) × (out ≡ take count old.held) × (new ≡ moved old.stage (drop count old.held) old)
 
 abbrev pub AnswersCycle : {N : Type 0} → (N → Flash) → (N → Bool) → BusState N → Cycle → Result (Unit {0}) BusFault → List ℕ → BusState N → Type 0
-AnswersCycle flash honest old cycle (Ok x) out new = Takes flash honest old cycle out new
+AnswersCycle flash honest old cycle (Ok x) out new = TakesCycle flash honest old cycle out new
 AnswersCycle flash honest old cycle (Err fault) out new = Unit {0}
 
 -- whether the chip keeps its law stays, and its geometry; its faults do not fall
-pub record Stays {N : Type 0} (flash : N → Flash) (honest : N → Bool) (failed : N → ℕ) (old new : BusState N) : Type 0 where
+pub record KeepsLawAndGeometry {N : Type 0} (flash : N → Flash) (honest : N → Bool) (failed : N → ℕ) (old new : BusState N) : Type 0 where
   pub keeps : honest new.nand ≡ honest old.nand
   pub geometry : (flash new.nand).geometry ≡ (flash old.nand).geometry
   pub same : new.geometry ≡ old.geometry
@@ -117,4 +117,4 @@ pub record Stays {N : Type 0} (flash : N → Flash) (honest : N → Bool) (faile
 -- whatever it answers
 pub record IsCalled {N : Type 0} (flash : N → Flash) (honest : N → Bool) (failed : N → ℕ) (old : BusState N) (cycle : Cycle) (answer : Result (Unit {0}) BusFault) (out : List ℕ) (new : BusState N) : Type 0 where
   pub answers : AnswersCycle flash honest old cycle answer out new
-  pub stays : Stays flash honest failed old new
+  pub stays : KeepsLawAndGeometry flash honest failed old new

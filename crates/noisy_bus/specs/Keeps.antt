@@ -16,10 +16,10 @@ use Rattle.onfi_cycles.specs.Spelling.{read_cycles, program_cycles, erase_cycles
 use Rattle.onfi_cycles.specs.Sent.{Sent}
 use Rattle.page_code.specs.Layout.{outer_bytes, coded}
 use Rattle.page_code.specs.Near.{HasChipSizes}
-use Rattle.corrected_nand.specs.ChipBus.{SteadyLaw, ReadLaw, ProgramLaw, EraseLaw, PutsOut, Did}
+use Rattle.corrected_nand.specs.ChipBus.{SteadyLaw, ReadLaw, CodedProgramLaw, ChipEraseLaw, PutsOut, Did}
 use Rattle.noisy_bus.specs.declared.stage.Stage.{Stage}
 use Rattle.noisy_bus.specs.declared.stage.Stage.TheVariants as stage
-use Rattle.noisy_bus.specs.Bus.{BusState, moved, address_after, loading_at, page_in, TakesCommand, HasRead, HasProgrammed, HasErased, Takes, IsCalled}
+use Rattle.noisy_bus.specs.Bus.{BusState, moved, address_after, loading_at, page_without_codes, TakesCommand, HasReadPage, HasDoneProgram, HasDoneErase, TakesCycle, IsCalled}
 
 pub keeps_steady : {N : Type 0} (flash : N → Flash) (honest : N → Bool) (failed : N → ℕ) → SteadyLaw (BusState N) (λ b. flash b.nand) (λ b. honest b.nand) (IsCalled flash honest failed)
 keeps_steady flash honest failed old new cycle answer out c = (c.stays.keeps, λ kept. c.stays.geometry)
@@ -134,7 +134,7 @@ keeps_read {N} flash honest failed old new row put kept within sized s =
     let addressed = read_addressed flash honest failed row old begun.mid new (Command 0x30 ∷ fetch) out few (begun.is.begins refl) begun.sent in
     let confirmed = after_command flash honest failed 0x30 addressed.mid (moved (stage.Address 0x00 5 row) [] old) new fetch out addressed.is addressed.sent in
     let reads = confirmed.is.reads refl in
-    let has : HasRead flash honest reads.0 (moved (stage.Address 0x00 5 row) [] old) confirmed.mid = reads.2 in
+    let has : HasReadPage flash honest reads.0 (moved (stage.Address 0x00 5 row) [] old) confirmed.mid = reads.2 in
     let same_row : row ≡ reads.0 = ap row_of reads.1 in
     let held : BusState N = record { nand = confirmed.mid.nand; geometry = old.geometry; stage = stage.Putting; held = has.put.body ++ has.put.spare; status = old.status } in
     let body = after_out flash honest failed g.data_bytes confirmed.mid held new (DataOut (outer_bytes g) ∷ []) out has.is confirmed.sent in
@@ -185,7 +185,7 @@ told {N} flash honest failed old x new status e s =
     first_or d [] = d
     first_or d (y ∷ ys) = y
 
-pub keeps_programmed : {N : Type 0} (flash : N → Flash) (honest : N → Bool) (failed : N → ℕ) → ProgramLaw (BusState N) (λ b. flash b.nand) (λ b. honest b.nand) (IsCalled flash honest failed)
+pub keeps_programmed : {N : Type 0} (flash : N → Flash) (honest : N → Bool) (failed : N → ℕ) → CodedProgramLaw (BusState N) (λ b. flash b.nand) (λ b. honest b.nand) (IsCalled flash honest failed)
 unfolding program_cycles
 keeps_programmed {N} flash honest failed old new row p status outcome kept within body_size spare_size says s =
     let g : Geometry = (flash old.nand).geometry in
@@ -198,12 +198,12 @@ keeps_programmed {N} flash honest failed old new row p status outcome kept withi
     let spare = after_in flash honest failed codes body.mid (moved (stage.Loading row) p.body old) new confirm out body.is body.sent in
     let confirmed = after_command flash honest failed 0x10 spare.mid (moved (stage.Loading row) (p.body ++ codes) old) new (Command 0x70 ∷ (DataOut 1 ∷ [])) out spare.is spare.sent in
     let programs = confirmed.is.programs refl in
-    let has : HasProgrammed flash honest programs.0 (moved (stage.Loading row) (p.body ++ codes) old) confirmed.mid = programs.2 in
+    let has : HasDoneProgram flash honest programs.0 (moved (stage.Loading row) (p.body ++ codes) old) confirmed.mid = programs.2 in
     let same_row : row ≡ programs.0 = ap row_of programs.1 in
     let end = told flash honest failed confirmed.mid _ new status has.done.is confirmed.sent in
     let of : g ≡ old.geometry = s.4.stays.of in
-    let plain : page_in old.geometry (p.body ++ codes) ≡ p =
-    ap (λ (z : Geometry). page_in z (p.body ++ codes)) (sym of)
+    let plain : page_without_codes old.geometry (p.body ++ codes) ≡ p =
+    ap (λ (z : Geometry). page_without_codes z (p.body ++ codes)) (sym of)
     ∙ (ap (λ b. page b (take g.spare_bytes (drop g.data_bytes (p.body ++ codes)))) (take_at p.body codes g.data_bytes body_size)
     ∙ ap (page p.body) (ap (take g.spare_bytes) (drop_at p.body codes g.data_bytes body_size) ∙ take_at p.spare _ g.spare_bytes spare_size)) in
     let ended : has.outcome ≡ outcome = outcome_is has.outcome outcome status end.status_is says in
@@ -211,7 +211,7 @@ keeps_programmed {N} flash honest failed old new row p status outcome kept withi
     subst (λ (f : Flash). Did (op row p) (flash old.nand) f outcome) (sym (ap flash end.nand_is))
     (subst (λ (o : Outcome). Did (op row p) (flash old.nand) (flash confirmed.mid.nand) o) ended
     (subst (λ (q : Page). Did (op row q) (flash old.nand) (flash confirmed.mid.nand) has.outcome) plain
-    (subst (λ r. Did (op r (page_in old.geometry (p.body ++ codes))) (flash old.nand) (flash confirmed.mid.nand) has.outcome) (sym same_row) (has.did kept))))
+    (subst (λ r. Did (op r (page_without_codes old.geometry (p.body ++ codes))) (flash old.nand) (flash confirmed.mid.nand) has.outcome) (sym same_row) (has.did kept))))
 
 -- the block of its first row
 block_of : (g : Geometry) (block : ℕ) → block * g.pages / g.pages ≡ block
@@ -222,7 +222,7 @@ first_row g block l =
     let most : block * g.pages ≤ 4096 * 256 = mul-le-mul (let b : block ≤ 4096 = omega (arith, g.limits.block_count.most) in b) g.limits.page_count.most in
     omega arith
 
-pub keeps_erased : {N : Type 0} (flash : N → Flash) (honest : N → Bool) (failed : N → ℕ) → EraseLaw (BusState N) (λ b. flash b.nand) (λ b. honest b.nand) (IsCalled flash honest failed)
+pub keeps_erased : {N : Type 0} (flash : N → Flash) (honest : N → Bool) (failed : N → ℕ) → ChipEraseLaw (BusState N) (λ b. flash b.nand) (λ b. honest b.nand) (IsCalled flash honest failed)
 unfolding erase_cycles
 keeps_erased {N} flash honest failed old new block status outcome kept within says s =
     let g : Geometry = (flash old.nand).geometry in
@@ -233,7 +233,7 @@ keeps_erased {N} flash honest failed old new block status outcome kept within sa
     let addressed = erase_addressed flash honest failed row old begun.mid new confirm out (first_row g block within) (begun.is.begins refl) begun.sent in
     let confirmed = after_command flash honest failed 0xD0 addressed.mid (moved (stage.Address 0x60 3 row) [] old) new (Command 0x70 ∷ (DataOut 1 ∷ [])) out addressed.is addressed.sent in
     let erases = confirmed.is.erases refl in
-    let has : HasErased flash honest (erases.0 / old.geometry.pages) (moved (stage.Address 0x60 3 row) [] old) confirmed.mid = erases.2 in
+    let has : HasDoneErase flash honest (erases.0 / old.geometry.pages) (moved (stage.Address 0x60 3 row) [] old) confirmed.mid = erases.2 in
     let same_row : row ≡ erases.0 = ap row_of erases.1 in
     let end = told flash honest failed confirmed.mid _ new status has.done.is confirmed.sent in
     let of : g ≡ old.geometry = s.4.stays.of in

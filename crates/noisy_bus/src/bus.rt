@@ -7,7 +7,7 @@ ghost use Rattle.onfi_cycles.specs.Cycles.{IsCounted, status_of};
 ghost use Rattle.page_code.specs.Layout.{outer_bytes, coded};
 ghost use Rattle.onfi_cycles.specs.Outcomes.{is_passed};
 ghost use Rattle.onfi_cycles.specs.Spelling.{done};
-ghost use Rattle.noisy_bus.specs.Bus.{moved, is_beginning, Stays, HasDoneOperation, HasPut, HasRead, HasProgrammed, HasErased};
+ghost use Rattle.noisy_bus.specs.Bus.{moved, is_beginning, KeepsLawAndGeometry, HasDoneOperation, HasPutOutPage, HasReadPage, HasDoneProgram, HasDoneErase};
 ghost use Rattle.noisy_bus.specs.declared.stage.Stage.TheVariants as at;
 
 use crate::stage::Stage;
@@ -76,7 +76,7 @@ fn fill<N: NoisyNand>(
     requires geometry { (N.flash nand.old).geometry ≡ geometry.now }
     requires row_in { row < row_count geometry.now }
     requires whole { length register.old ≡ geometry.now.data_bytes + outer_bytes geometry.now }
-    ensures put { OnOk result (HasPut N.flash N.honest geometry.now row nand.old nand.new register.new) }
+    ensures put { OnOk result (HasPutOutPage N.flash N.honest geometry.now row nand.old nand.new register.new) }
     ensures geometry { (N.flash nand.new).geometry ≡ (N.flash nand.old).geometry }
     ensures honest { N.honest nand.new ≡ N.honest nand.old }
     ensures failed { N.failed nand.old ≤ N.failed nand.new }
@@ -119,7 +119,7 @@ impl<N: NoisyNand> NoisyBus<N> {
     // Holds nothing, and stands here.
     fn stand(&mut self, stage: Stage)
         ensures is { self.new ≡ moved stage [] self.old }
-        ensures stays { Stays N.flash N.honest N.failed self.old self.new }
+        ensures stays { KeepsLawAndGeometry N.flash N.honest N.failed self.old self.new }
     {
         self.stage = stage;
         self.first = 0;
@@ -129,7 +129,7 @@ impl<N: NoisyNand> NoisyBus<N> {
     // Puts out the status.
     fn show_status(&mut self)
         ensures is { self.new ≡ moved at.Putting (self.old.status ∷ []) self.old }
-        ensures stays { Stays N.flash N.honest N.failed self.old self.new }
+        ensures stays { KeepsLawAndGeometry N.flash N.honest N.failed self.old self.new }
     {
         self.register[0] = self.status;
         self.stage = Stage::Putting;
@@ -140,7 +140,7 @@ impl<N: NoisyNand> NoisyBus<N> {
     // Takes no such command.
     fn refuse(&mut self) -> Result<(), BusFault>
         ensures refused { result ≡ Err BusFault.UnknownCommand }
-        ensures stays { Stays N.flash N.honest N.failed self.old self.new }
+        ensures stays { KeepsLawAndGeometry N.flash N.honest N.failed self.old self.new }
     {
         self.stand(Stage::Idle);
         Err(BusFault::UnknownCommand)
@@ -149,8 +149,8 @@ impl<N: NoisyNand> NoisyBus<N> {
     // Reads the page of a row, which is put out then.
     fn read(&mut self, row: u32) -> Result<(), BusFault>
         requires { row < row_count self.old.geometry }
-        ensures read { OnOk result (HasRead N.flash N.honest row self.old self.new) }
-        ensures stays { Stays N.flash N.honest N.failed self.old self.new }
+        ensures read { OnOk result (HasReadPage N.flash N.honest row self.old self.new) }
+        ensures stays { KeepsLawAndGeometry N.flash N.honest N.failed self.old self.new }
         ensures rose { OnErr result (HasRisen (N.failed self.old.nand) (N.failed self.new.nand)) }
     {
         let answer = fill(&mut self.nand, &self.geometry, row, &mut self.register);
@@ -171,8 +171,8 @@ impl<N: NoisyNand> NoisyBus<N> {
 
     // 30h: the read of the row that was addressed.
     fn confirm_read(&mut self) -> Result<(), BusFault>
-        ensures read { OnOk result ((row : ℕ) × (self.old.stage ≡ at.Address 0 5 row) × HasRead N.flash N.honest row self.old self.new) }
-        ensures stays { Stays N.flash N.honest N.failed self.old self.new }
+        ensures read { OnOk result ((row : ℕ) × (self.old.stage ≡ at.Address 0 5 row) × HasReadPage N.flash N.honest row self.old self.new) }
+        ensures stays { KeepsLawAndGeometry N.flash N.honest N.failed self.old self.new }
         ensures rose { IfErr result (IsCounted (N.failed self.old.nand) (N.failed self.new.nand)) }
     {
         match self.stage {
@@ -203,8 +203,8 @@ impl<N: NoisyNand> NoisyBus<N> {
     // Programs the page of a row with what is held, where that is a whole page with its right codes.
     fn program(&mut self, row: u32) -> Result<(), BusFault>
         requires { row < row_count self.old.geometry }
-        ensures programmed { OnOk result (HasProgrammed N.flash N.honest row self.old self.new) }
-        ensures stays { Stays N.flash N.honest N.failed self.old self.new }
+        ensures programmed { OnOk result (HasDoneProgram N.flash N.honest row self.old self.new) }
+        ensures stays { KeepsLawAndGeometry N.flash N.honest N.failed self.old self.new }
         ensures rose { IfErr result (IsCounted (N.failed self.old.nand) (N.failed self.new.nand)) }
     {
         if self.first != 0 || self.end != self.register.len() {
@@ -220,8 +220,8 @@ impl<N: NoisyNand> NoisyBus<N> {
 
     // 10h: the program of the row that was addressed.
     fn confirm_program(&mut self) -> Result<(), BusFault>
-        ensures programmed { OnOk result ((row : ℕ) × (self.old.stage ≡ at.Loading row) × HasProgrammed N.flash N.honest row self.old self.new) }
-        ensures stays { Stays N.flash N.honest N.failed self.old self.new }
+        ensures programmed { OnOk result ((row : ℕ) × (self.old.stage ≡ at.Loading row) × HasDoneProgram N.flash N.honest row self.old self.new) }
+        ensures stays { KeepsLawAndGeometry N.flash N.honest N.failed self.old self.new }
         ensures rose { IfErr result (IsCounted (N.failed self.old.nand) (N.failed self.new.nand)) }
     {
         match self.stage {
@@ -233,8 +233,8 @@ impl<N: NoisyNand> NoisyBus<N> {
     // Erases a block.
     fn erase(&mut self, block: u32) -> Result<(), BusFault>
         requires { block < self.old.geometry.blocks }
-        ensures erased { OnOk result (HasErased N.flash N.honest block self.old self.new) }
-        ensures stays { Stays N.flash N.honest N.failed self.old self.new }
+        ensures erased { OnOk result (HasDoneErase N.flash N.honest block self.old self.new) }
+        ensures stays { KeepsLawAndGeometry N.flash N.honest N.failed self.old self.new }
         ensures rose { IfErr result (IsCounted (N.failed self.old.nand) (N.failed self.new.nand)) }
     {
         let answer = self.nand.erase(block);
@@ -243,8 +243,8 @@ impl<N: NoisyNand> NoisyBus<N> {
 
     // D0h: the erase of the block of the row that was addressed.
     fn confirm_erase(&mut self) -> Result<(), BusFault>
-        ensures erased { OnOk result ((row : ℕ) × (self.old.stage ≡ at.Address 0x60 3 row) × HasErased N.flash N.honest (row / self.old.geometry.pages) self.old self.new) }
-        ensures stays { Stays N.flash N.honest N.failed self.old self.new }
+        ensures erased { OnOk result ((row : ℕ) × (self.old.stage ≡ at.Address 0x60 3 row) × HasDoneErase N.flash N.honest (row / self.old.geometry.pages) self.old self.new) }
+        ensures stays { KeepsLawAndGeometry N.flash N.honest N.failed self.old self.new }
         ensures rose { IfErr result (IsCounted (N.failed self.old.nand) (N.failed self.new.nand)) }
     {
         match self.stage {

@@ -39,7 +39,7 @@ IsReady phase = (out : Output) × (phase ≡ Ready out)
 
 -- the flash behind a driver, which knows its geometry itself
 abbrev pub seen : Geometry → Flash → Flash
-seen g s = record { geometry = g; image = s.image; turns = s.turns; abuse = s.abuse }
+seen g s = record { geometry = g; image = s.image; next_pages = s.next_pages; abuse = s.abuse }
 
 -- the same of a driver over a bus with this die
 abbrev pub flash_by : {B : Type 0} → (B → DieState) → DriverState B → Flash

@@ -26,10 +26,10 @@ abbrev pub outcome_of : ℕ → Result Outcome BusFault
 outcome_of byte = if has_bits byte 0xE0 then (if has_bits byte 0x01 then Ok Failed else Ok Passed) else Err Device
 
 -- the number of a fault
-abbrev pub number_of : BusFault → ℕ
-number_of NoReset = 1
-number_of UnknownCommand = 2
-number_of OutOfTurn = 3
-number_of AddressRange = 4
-number_of ColumnRange = 5
-number_of Device = 6
+abbrev pub bus_fault_number : BusFault → ℕ
+bus_fault_number NoReset = 1
+bus_fault_number UnknownCommand = 2
+bus_fault_number OutOfTurn = 3
+bus_fault_number AddressRange = 4
+bus_fault_number ColumnRange = 5
+bus_fault_number Device = 6

@@ -4,7 +4,7 @@ use Rattle.std.specs.Prelude.{◌≡◌, ◌⊎◌, ℕ, List, [], ◌∷◌, �
 use Rattle.onfi_cycles.specs.declared.nand.BusFault.{BusFault}
 use Rattle.onfi_cycles.specs.declared.nand.Outcome.{Outcome}
 use Rattle.page_layout.specs.declared.source.SourceFault.{SourceFault}
-use Rattle.onfi_cycles.specs.Outcomes.{number_of, outcome_of}
+use Rattle.onfi_cycles.specs.Outcomes.{bus_fault_number, outcome_of}
 use Rattle.onfi_cycles.specs.Cycles.{Cycle}
 use Rattle.onfi_cycles.specs.Spelling.{done, refused}
 
@@ -34,4 +34,4 @@ Operates called old cycles answer new =
 -- a page read's, whose fault is the number of the bus's fault
 abbrev pub SendsRead : {A B : Type 0} → (B → Cycle → Result (Unit {0}) BusFault → List ℕ → B → Type 0) → B → List Cycle → List ℕ → Result A SourceFault → B → Type 0
 SendsRead called old cycles out (Ok x) new = Sent called old cycles out new
-SendsRead called old cycles out (Err e) new = (fault : BusFault) × (e.0 ≡ number_of fault) × SentUntil called old cycles fault new
+SendsRead called old cycles out (Err e) new = (fault : BusFault) × (e.0 ≡ bus_fault_number fault) × SentUntil called old cycles fault new

@@ -3,7 +3,7 @@ use Rattle.std.specs.Prelude.{◌≡◌, ◌⊎◌, ℕ, ◌*◌, ◌/◌, ◌%�
 use Rattle.page_layout.specs.declared.geometry.Geometry.{Geometry}
 use Rattle.onfi_cycles.specs.declared.nand.BusFault.{BusFault}
 use Rattle.page_layout.specs.declared.source.SourceFault.{SourceFault}
-use Rattle.onfi_cycles.specs.Outcomes.{number_of}
+use Rattle.onfi_cycles.specs.Outcomes.{bus_fault_number}
 use Rattle.onfi_cycles.specs.Cycles.{Cycle, Command, Address, DataIn, DataOut, CycleStep, DieState}
 
 -- the row, least significant byte first
@@ -64,4 +64,4 @@ Spells old cycles (Err fault) new = FailsIn old cycles fault new
 -- the same of a page read, whose fault is the number of the bus's fault
 abbrev pub SpellsRead : {A : Type 0} → DieState → List Cycle → Result A SourceFault → DieState → Type 0
 SpellsRead old cycles (Ok x) new = Taken old cycles new
-SpellsRead old cycles (Err e) new = (fault : BusFault) × (e.0 ≡ number_of fault) × FailsIn old cycles fault new
+SpellsRead old cycles (Err e) new = (fault : BusFault) × (e.0 ≡ bus_fault_number fault) × FailsIn old cycles fault new

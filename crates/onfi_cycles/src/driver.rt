@@ -8,7 +8,7 @@ ghost use Rattle.page_layout.specs.Flash.{Program, Erase, Steps, page_at, block_
 ghost use Rattle.onfi_cycles.specs.Cycles.{CycleStep, Command, IsCounted};
 ghost use Rattle.onfi_cycles.specs.Spelling.{Taken, Spells, SpellsRead, program_cycles, erase_cycles, read_cycles, done, refused};
 ghost use Rattle.onfi_cycles.specs.Sent.{Operates, SendsRead};
-ghost use Rattle.onfi_cycles.specs.Outcomes.{is_passed, number_of, passed_in};
+ghost use Rattle.onfi_cycles.specs.Outcomes.{is_passed, bus_fault_number, passed_in};
 ghost use Rattle.onfi_cycles.specs.Called.{driver_called};
 ghost use Rattle.page_layout.specs.DieCalls.{ReadCall, ProgramCall, EraseCall};
 ghost use Rattle.onfi_cycles.specs.Driver.{flash_by, gained, cut_in, untouched};
@@ -98,7 +98,7 @@ impl<B: Bus> Driver<B> {
         }
     }
 
-    /// Gives the bus back. Behind an honest one stands the driver's die: its geometry, its pages, the turns of its blocks and its
+    /// Gives the bus back. Behind an honest one stands the driver's die: its geometry, its pages, the next pages of its blocks and its
     /// count of abuse. It has counted at least as many failures as the driver has answered faults. (This project.)
     pub fn into_bus(self) -> B
         ensures bus { result ≡ self.bus }
@@ -167,8 +167,8 @@ impl<B: Bus> PageSource for Driver<B> {
         ensures behind { OnOk result (B.honest self.old.bus ≡ true → B.recorded self.new.bus ≡ B.recorded self.old.bus) }
 
         // The number is that of the bus's fault. An honest bus fails only by its device, which it counts.
-        ensures number { IfErr result (λ e. (fault : BusFault) × (e.0 ≡ number_of fault) × IsCounted (B.failed self.old.bus) (B.failed self.new.bus) fault) }
-        ensures device { IfErr result (λ e. B.honest self.old.bus ≡ true → e.0 ≡ number_of BusFault.Device) }
+        ensures number { IfErr result (λ e. (fault : BusFault) × (e.0 ≡ bus_fault_number fault) × IsCounted (B.failed self.old.bus) (B.failed self.new.bus) fault) }
+        ensures device { IfErr result (λ e. B.honest self.old.bus ≡ true → e.0 ≡ bus_fault_number BusFault.Device) }
         ensures cause { OnErr result (B.honest self.old.bus ≡ true → HasRisen (B.failed self.old.bus) (B.failed self.new.bus)) }
     {
         self.reads = self.reads.saturating_add(1);

@@ -52,11 +52,11 @@ pub enum BusFault {
 
 impl BusFault {
     ghost use Rattle.std.specs.Prelude.{◌≡◌};
-    ghost use Rattle.onfi_cycles.specs.Outcomes.{number_of};
+    ghost use Rattle.onfi_cycles.specs.Outcomes.{bus_fault_number};
 
     /// The fault's number, 1 to 6 in the order above. (This project.)
     pub fn number(self) -> u8
-        ensures { result ≡ number_of self }
+        ensures { result ≡ bus_fault_number self }
     {
         self as u8
     }

@@ -13,7 +13,7 @@ pub mod RawLemmas
 pub mod BlockLemmas
 pub mod StepLemmas
 pub mod FlashLemmas
-pub mod TurnLemmas
+pub mod NextPageLemmas
 pub mod ErasedLemmas
 pub mod WordLemmas
 pub mod RecordingLemmas

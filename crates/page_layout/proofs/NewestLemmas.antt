@@ -7,7 +7,7 @@ use Rattle.page_layout.specs.declared.record.Record.{Record}
 use Rattle.page_layout.specs.declared.record.Key.{Key}
 use Rattle.page_layout.specs.Key.{key_of, key_eq}
 use Rattle.page_layout.specs.Greatest.{IsGreatest}
-use Rattle.page_layout.specs.Newest.{sequence_of, sequence_at, IsNewest, newest, latest_below, Tells}
+use Rattle.page_layout.specs.Newest.{sequence_of, sequence_at, IsNewest, newest, latest_below, TellsLatest}
 use Rattle.page_layout.specs.OneArray.{AreDistinct}
 use Rattle.page_layout.proofs.KeyLemmas.{key_eq-same, key_eq-other, cases_key}
 use Rattle.page_layout.proofs.GreatestLemmas.{NoneFrom, IsInjective, best_describes, some_greatest, greatest-is, greatest_from, greatest_same}
@@ -106,7 +106,7 @@ newest-within marks key row e =
     ]
 
 -- what a scan of all pages knows
-pub scan_tells : (marks : List (Option Record)) (key : Key) → Tells marks key (latest_below marks key (length marks))
+pub scan_tells : (marks : List (Option Record)) (key : Key) → TellsLatest marks key (latest_below marks key (length marks))
 unfolding latest_below
 scan_tells marks key = best_describes (sequence_at marks key) (length marks) (sequence_at_past marks key)
 

@@ -17,8 +17,8 @@ use Rattle.page_layout.specs.declared.record.Record.{Record}
 use Rattle.page_layout.specs.declared.record.Kind.{Kind}
 use Rattle.page_layout.specs.declared.record.Kind.TheVariants as kind
 use Rattle.page_layout.specs.Page.{page}
-use Rattle.page_layout.specs.Sound.{AreFill, Spells, IsSound, IsSoundV1, IsSoundV2, hash_of, seal_size, seal_end, is_erased_page, kind_from, code_of, is_filled}
-use Rattle.page_layout.specs.Sound.{has_version, has_form, has_seal, record_in, spelled, record_of, version_of, head_of, Fits, IsRoomFor}
+use Rattle.page_layout.specs.Sound.{AreFill, SpellsRecord, IsSound, IsSoundV1, IsSoundV2, hash_of, seal_size, seal_end, is_erased_page, kind_from, code_of_kind, is_filled}
+use Rattle.page_layout.specs.Sound.{has_version, has_form, has_seal, record_in, spelled, record_of, version_of, head_of, FitsWidths, IsRoomFor}
 use Rattle.page_layout.specs.declared.record.Key.{Key}
 use Rattle.page_layout.specs.Page.{Page}
 use Rattle.page_layout.specs.Newest.{sequence_of}
@@ -64,7 +64,7 @@ erased_no_record p erased =
 
 -- ---- records and their bytes
 
-kind_from-code_of : (k : Kind) → kind_from (code_of k) ≡ Some k
+kind_from-code_of : (k : Kind) → kind_from (code_of_kind k) ≡ Some k
 kind_from-code_of kind.Sector = refl
 kind_from-code_of kind.Trim = refl
 kind_from-code_of kind.Translation = refl
@@ -76,7 +76,7 @@ made k n s w = record { kind = k; number = n; sequence = s; wear = w }
 same_record : (k : Kind) (n n' s s' w w' : ℕ) → n ≡ n' → s ≡ s' → w ≡ w' → made k n s w ≡ made k n' s' w'
 same_record k n n' s s' w w' a b c = cc
 
-record_in-head_of : (v : ℕ) (r : Record) (rest : List ℕ) → Fits r → record_in (head_of v r ++ rest) r.kind ≡ r
+record_in-head_of : (v : ℕ) (r : Record) (rest : List ℕ) → FitsWidths r → record_in (head_of v r ++ rest) r.kind ≡ r
 unfolding made
 record_in-head_of v r rest fits =
     let n : little_number 4 (slice_range (head_of v r ++ rest) 4 8) ≡ r.number = little_number-reads_back 4 r.number [] fits.number in
@@ -120,7 +120,7 @@ has_seal-head_of v r body tail seal k is =
     rw (seal_of (head_of v r) seal tail (seal_size v) refl k, ← is) (bytes_eq-same seal)
 
 -- what `write_version` writes is a sound page with its record
-pub sound-head_of : (v : ℕ) (r : Record) (body seal : List ℕ) (n : ℕ) → Fits r → length seal ≡ seal_size v
+pub sound-head_of : (v : ℕ) (r : Record) (body seal : List ℕ) (n : ℕ) → FitsWidths r → length seal ≡ seal_size v
     → seal ≡ take (seal_size v) (sha256 (body ++ head_of v r)) → IsRoomFor v (length (head_of v r ++ (seal ++ replicate n 255)))
     → record_of (page body (head_of v r ++ (seal ++ replicate n 255))) ≡ Some r
 unfolding record_of
@@ -128,9 +128,9 @@ sound-head_of v r body seal n fits k is room =
     let spare : List ℕ = head_of v r ++ (seal ++ replicate n 255) in
     let form : has_form spare ≡ true = form_of v r seal n k room in
     let sealed : has_seal (page body spare) ≡ true = has_seal-head_of v r body (replicate n 255) seal k is in
-    let some : option_map (record_in spare) (kind_from (code_of r.kind)) ≡ Some r =
+    let some : option_map (record_in spare) (kind_from (code_of_kind r.kind)) ≡ Some r =
     rw (kind_from-code_of r.kind) (ap Some (record_in-head_of v r (seal ++ replicate n 255) fits)) in
-    cond-true (has_form spare && has_seal (page body spare)) (option_map (record_in spare) (kind_from (code_of r.kind))) None (and_from (has_form spare) (has_seal (page body spare)) form sealed) ∙ some
+    cond-true (has_form spare && has_seal (page body spare)) (option_map (record_in spare) (kind_from (code_of_kind r.kind))) None (and_from (has_form spare) (has_seal (page body spare)) form sealed) ∙ some
 
 -- the two as the code has them, step by step
 pub written_over : (head seal filled first second : List ℕ) (n size : ℕ) → length head ≡ 24 → length seal ≡ size → filled ≡ replicate n 255 → first ≡ head → second ≡ seal → put_mid 24 size (first ++ drop 24 filled) second ≡ head ++ (seal ++ replicate (n - (24 + size)) 255)
@@ -157,7 +157,7 @@ as_long : (head seal : List ℕ) (n size : ℕ) → length head ≡ 24 → lengt
 as_long head seal n size h k room =
     omega (arith, length-append head (seal ++ replicate (n - (24 + length seal)) 255), length-append seal (replicate (n - (24 + length seal)) 255), length-replicate {A = ℕ} (n - (24 + length seal)) 255)
 
-pub sound_written : (v : ℕ) (r : Record) (body head hash spare : List ℕ) (n size : ℕ) → Fits r → head ≡ head_of v r → hash ≡ sha256 (body ++ head) → length hash ≡ 32 → size ≡ seal_size v
+pub sound_written : (v : ℕ) (r : Record) (body head hash spare : List ℕ) (n size : ℕ) → FitsWidths r → head ≡ head_of v r → hash ≡ sha256 (body ++ head) → length hash ≡ 32 → size ≡ seal_size v
     → spare ≡ head ++ (take size hash ++ replicate (n - (24 + length (take size hash))) 255) → IsRoomFor v n → record_of (page body spare) ≡ Some r
 sound_written v r body head hash spare n size fits h is long s e room =
     let m : ℕ = n - (24 + length (take size hash)) in
@@ -229,15 +229,15 @@ unfolding is_filled
 all_filled xs h = list_all-from_AllPass (λ b. b == 255) xs (λ k d l. eq-eqb (get_or xs k d) 255 (h k d l))
 
 -- the code of a kind that a code gives is that code
-kind_from-is : (code : ℕ) (k : Kind) → kind_from code ≡ Some k → code ≡ code_of k
+kind_from-is : (code : ℕ) (k : Kind) → kind_from code ≡ Some k → code ≡ code_of_kind k
 kind_from-is code k e = elim (cases_eq code 1) [
-  | inl one ↦ let found : Some kind.Sector ≡ Some k = rw one at e in let same : kind.Sector ≡ k = cc in one ∙ ap code_of same
+  | inl one ↦ let found : Some kind.Sector ≡ Some k = rw one at e in let same : kind.Sector ≡ k = cc in one ∙ ap code_of_kind same
   | inr not_one ↦ elim (cases_eq code 2) [
-    | inl two ↦ let found : Some kind.Trim ≡ Some k = rw two at e in let same : kind.Trim ≡ k = cc in two ∙ ap code_of same
+    | inl two ↦ let found : Some kind.Trim ≡ Some k = rw two at e in let same : kind.Trim ≡ k = cc in two ∙ ap code_of_kind same
     | inr not_two ↦ elim (cases_eq code 3) [
-      | inl three ↦ let found : Some kind.Translation ≡ Some k = rw three at e in let same : kind.Translation ≡ k = cc in three ∙ ap code_of same
+      | inl three ↦ let found : Some kind.Translation ≡ Some k = rw three at e in let same : kind.Translation ≡ k = cc in three ∙ ap code_of_kind same
       | inr not_three ↦ elim (cases_eq code 4) [
-        | inl four ↦ let found : Some kind.Table ≡ Some k = rw four at e in let same : kind.Table ≡ k = cc in four ∙ ap code_of same
+        | inl four ↦ let found : Some kind.Table ≡ Some k = rw four at e in let same : kind.Table ≡ k = cc in four ∙ ap code_of_kind same
         | inr not_four ↦
             let none : None ≡ Some k = rw (ne_eqb code 1 not_one, ne_eqb code 2 not_two, ne_eqb code 3 not_three, ne_eqb code 4 not_four) at e in
             absurd (cc)
@@ -283,7 +283,7 @@ named_room v n e = elim (or_cases (v == 1) ((v == 2) && nat_le 40 n) e) [
 ]
 
 -- a page of the form, with a seal that agrees, is sound in the version that its byte 2 names
-by_version : (p : Page) (r : Record) → Spells p.spare r → HasForm p.spare → slice_range p.spare 24 (seal_end p.spare) ≡ take (seal_size (slice_index p.spare 2)) (hash_of p) → IsSound p r
+by_version : (p : Page) (r : Record) → SpellsRecord p.spare r → HasForm p.spare → slice_range p.spare 24 (seal_end p.spare) ≡ take (seal_size (slice_index p.spare 2)) (hash_of p) → IsSound p r
 by_version p r spells form sealed = elim (named_room (slice_index p.spare 2) (length p.spare) form.version) [
   | inl one ↦
       let Seal : ℕ → Type 0 = λ v. slice_range p.spare 24 (24 + seal_size v) ≡ take (seal_size v) (hash_of p) in
@@ -312,9 +312,9 @@ is_sound p r e = elim (cases_Bool (has_form p.spare && has_seal p)) [
     of_kind form sealed None code found = absurd (let none : None ≡ Some r = found in cc)
     of_kind form sealed (Some k) code found =
         let same : record_in p.spare k ≡ r = cc in
-        let spells : Spells p.spare r = record {
+        let spells : SpellsRecord p.spare r = record {
           before_version = form.before_version;
-          kind_code = kind_from-is (slice_index p.spare 3) k code ∙ ap (λ z. code_of z.kind) same;
+          kind_code = kind_from-is (slice_index p.spare 3) k code ∙ ap (λ z. code_of_kind z.kind) same;
           number = ap (λ z. z.number) same;
           sequence = ap (λ z. z.sequence) same;
           wear = ap (λ z. z.wear) same;
@@ -323,7 +323,7 @@ is_sound p r e = elim (cases_Bool (has_form p.spare && has_seal p)) [
         by_version p r spells form sealed
 
 -- a page that says a record, of the form and with a seal that agrees
-found_by : (p : Page) (r : Record) → Spells p.spare r → has_version p.spare ≡ true → AreFill (slice_range p.spare (seal_end p.spare) (length p.spare))
+found_by : (p : Page) (r : Record) → SpellsRecord p.spare r → has_version p.spare ≡ true → AreFill (slice_range p.spare (seal_end p.spare) (length p.spare))
     → slice_range p.spare 24 (seal_end p.spare) ≡ take (seal_size (slice_index p.spare 2)) (hash_of p) → record_of p ≡ Some r
 unfolding record_of made
 found_by p r s version after_seal agrees =

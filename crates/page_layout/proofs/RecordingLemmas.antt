@@ -14,13 +14,13 @@ use Rattle.page_layout.proofs.FlashLemmas.{geometry-Steps, image-program, image-
 
 -- ---- dies that stay whole
 
-turns-program : (s t : Flash) (row : ℕ) (page : Page) (passed : Bool) (left : Page) → Steps s (Program row page passed left) t → length t.turns ≡ length s.turns
+next_pages-program : (s t : Flash) (row : ℕ) (page : Page) (passed : Bool) (left : Page) → Steps s (Program row page passed left) t → length t.next_pages ≡ length s.next_pages
 unfolding after
-turns-program s t row page passed left steps = ap (λ (u : Flash). length u.turns) steps.left ∙ length-set s.turns _ _
+next_pages-program s t row page passed left steps = ap (λ (u : Flash). length u.next_pages) steps.left ∙ length-set s.next_pages _ _
 
-turns-erase : (s t : Flash) (block : ℕ) (passed : Bool) (left : List Page) → Steps s (Erase block passed left) t → length t.turns ≡ length s.turns
+next_pages-erase : (s t : Flash) (block : ℕ) (passed : Bool) (left : List Page) → Steps s (Erase block passed left) t → length t.next_pages ≡ length s.next_pages
 unfolding after
-turns-erase s t block passed left steps = ap (λ (u : Flash). length u.turns) steps.left ∙ length-set s.turns _ _
+next_pages-erase s t block passed left steps = ap (λ (u : Flash). length u.next_pages) steps.left ∙ length-set s.next_pages _ _
 
 whole_program : (s t : Flash) (row : ℕ) (p : Page) (passed : Bool) (left : Page) → Steps s (Program row p passed left) t → IsImage s.geometry s.image → IsImage s.geometry t.image
 whole_program s t row p passed left steps w =
@@ -57,15 +57,15 @@ pub image_stays : (s t : Flash) (op : Operation) → Steps s op t → IsImage s.
 image_stays s t (Program row p passed left) steps w = whole_program s t row p passed left steps w
 image_stays s t (Erase block passed left) steps w = whole_erase s t block passed left steps w
 
-whole_after : (s t : Flash) → t.geometry ≡ s.geometry → length t.turns ≡ length s.turns → IsImage s.geometry t.image → IsWhole s → IsWhole t
-whole_after s t same turns image w = record {
+whole_after : (s t : Flash) → t.geometry ≡ s.geometry → length t.next_pages ≡ length s.next_pages → IsImage s.geometry t.image → IsWhole s → IsWhole t
+whole_after s t same next_pages image w = record {
   image_whole = subst (λ g. IsImage g t.image) (sym same) image;
-  turns_whole = turns ∙ (w.turns_whole ∙ ap (λ (g : Geometry). g.blocks) (sym same));
+  next_pages_whole = next_pages ∙ (w.next_pages_whole ∙ ap (λ (g : Geometry). g.blocks) (sym same));
 }
 
 pub whole_steps : (s t : Flash) (op : Operation) → Steps s op t → IsWhole s → IsWhole t
-whole_steps s t (Program row p passed left) steps w = whole_after s t (geometry-Steps s t (Program row p passed left) steps) (turns-program s t row p passed left steps) (whole_program s t row p passed left steps w.image_whole) w
-whole_steps s t (Erase block passed left) steps w = whole_after s t (geometry-Steps s t (Erase block passed left) steps) (turns-erase s t block passed left steps) (whole_erase s t block passed left steps w.image_whole) w
+whole_steps s t (Program row p passed left) steps w = whole_after s t (geometry-Steps s t (Program row p passed left) steps) (next_pages-program s t row p passed left steps) (whole_program s t row p passed left steps w.image_whole) w
+whole_steps s t (Erase block passed left) steps w = whole_after s t (geometry-Steps s t (Erase block passed left) steps) (next_pages-erase s t block passed left steps) (whole_erase s t block passed left steps w.image_whole) w
 
 pub whole_leads : WholeStaysLaw
 whole_leads a b [] leads w = subst IsWhole (sym leads) w

@@ -1,5 +1,5 @@
 -- What a geometry and what each fault of five numbers says: the limit that it names is broken, and none before it.
-use Rattle.std.specs.Prelude.{◌≡◌, ℕ}
+use Rattle.std.specs.Prelude.{◌≡◌, ℕ, List, codes}
 use Rattle.page_layout.specs.declared.geometry.GeometryFault.{GeometryFault}
 use Rattle.page_layout.specs.declared.geometry.GeometryFault.TheVariants.{DataSize, SpareSize, PagesPerBlock, Blocks, Sectors}
 use Rattle.page_layout.specs.declared.geometry.Geometry.{Geometry}
@@ -20,3 +20,11 @@ pub record HasNumbers (d s p b l : ℕ) (g : Geometry) : Type 0 where
   pub pages_is : g.pages ≡ p
   pub blocks_is : g.blocks ≡ b
   pub sectors_is : g.sectors ≡ l
+
+-- the number and the name of a limit that is broken
+abbrev pub broken_limit_words : GeometryFault → List ℕ
+broken_limit_words DataSize = codes "1 DataSize"
+broken_limit_words SpareSize = codes "2 SpareSize"
+broken_limit_words PagesPerBlock = codes "3 PagesPerBlock"
+broken_limit_words Blocks = codes "4 Blocks"
+broken_limit_words Sectors = codes "5 Sectors"

@@ -9,7 +9,7 @@ use Rattle.page_layout.specs.Geometry.{entries, translation_pages, table_pages, 
 use Rattle.page_layout.specs.Page.{Page, Image, IsImage}
 use Rattle.page_layout.specs.Sound.{AreFill, IsSound, record_of, is_erased_page}
 use Rattle.page_layout.specs.Key.{key_of, key_eq}
-use Rattle.page_layout.specs.Newest.{newest, latest_below, IsNewest, Tells}
+use Rattle.page_layout.specs.Newest.{newest, latest_below, IsNewest, TellsLatest}
 use Rattle.page_layout.specs.Live.{IsKeyOf, keys, live}
 use Rattle.page_layout.specs.Array.{marks, sector_of, array_of, ReadsAs, IsArray, HasOneArray}
 use Rattle.page_layout.specs.Block.{HasGap, IsTopWear, has_gap, written, top_wear}
@@ -74,7 +74,7 @@ NewestLaw = (ms : List (Option Record)) (key : Key) (row : ℕ) → (newest ms k
 
 -- what a scan of all pages by rising row knows in the end
 abbrev pub ScanLaw : Type 0
-ScanLaw = (ms : List (Option Record)) (key : Key) → Tells ms key (latest_below ms key (length ms))
+ScanLaw = (ms : List (Option Record)) (key : Key) → TellsLatest ms key (latest_below ms key (length ms))
 
 -- in an image with one array each key of a sound page has a newest page
 abbrev pub HasNewestLaw : Type 0

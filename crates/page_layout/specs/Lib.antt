@@ -8,8 +8,9 @@ pub mod Faults
 pub mod Page
 pub mod Raw
 pub mod Bytes
--- the record of a page, and its key
+-- the record of a page, what the page is, and its key
 pub mod Sound
+pub mod PageLook
 pub mod Key
 pub mod Word
 -- the newest page of a key, the array of sectors, live pages

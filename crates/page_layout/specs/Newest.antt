@@ -33,5 +33,5 @@ unfoldable pub newest : List (Option Record) → Key → Option ℕ
 newest marks key = greatest (sequence_at marks key) (length marks)
 
 -- what stands in an image of whose pages this is known: no sound page of the key, its newest page, or two that share its greatest sequence
-abbrev pub Tells : List (Option Record) → Key → Latest → Type 0
-Tells marks key latest = Describes (sequence_at marks key) latest
+abbrev pub TellsLatest : List (Option Record) → Key → Latest → Type 0
+TellsLatest marks key latest = Describes (sequence_at marks key) latest

@@ -22,9 +22,9 @@ page_from g bytes at = page (slice_range bytes at (at + g.data_bytes)) (slice_ra
 unfoldable pub raw_image : Geometry → List ℕ → Image
 raw_image g bytes = map (λ row. page_from g bytes (row * page_bytes g)) (range_with_len 0 (row_count g))
 
--- an image alone, which is no die: it has no turns, and nothing was asked of it
+-- an image alone, which is no die: it has no next pages, and nothing was asked of it
 abbrev pub still : Geometry → Image → Flash
-still g image = record { geometry = g; image = image; turns = []; abuse = 0 }
+still g image = record { geometry = g; image = image; next_pages = []; abuse = 0 }
 
 -- what an image slice is seen as: what stands in it, and how many pages were read
 pub record Slice : Type 0 where

@@ -21,11 +21,11 @@ kind_from code =
     if code == 3 then Some kind.Translation else (if code == 4 then Some kind.Table else None)))
 
 -- the code of a kind, whose kind it is
-abbrev pub code_of : Kind → ℕ
-code_of kind.Sector = 1
-code_of kind.Trim = 2
-code_of kind.Translation = 3
-code_of kind.Table = 4
+abbrev pub code_of_kind : Kind → ℕ
+code_of_kind kind.Sector = 1
+code_of_kind kind.Trim = 2
+code_of_kind kind.Translation = 3
+code_of_kind kind.Table = 4
 
 -- all bytes are FFh
 abbrev pub AreFill : List ℕ → Type 0
@@ -72,9 +72,9 @@ unfoldable pub spelled : List ℕ → Option Record
 spelled spare = if has_form spare then option_map (record_in spare) (kind_from (slice_index spare 3)) else None
 
 -- these spare bytes say this record, in what is the same for both versions
-pub record Spells (spare : List ℕ) (r : Record) : Type 0 where
+pub record SpellsRecord (spare : List ℕ) (r : Record) : Type 0 where
   pub before_version : AreFill (take 2 spare)
-  pub kind_code : slice_index spare 3 ≡ code_of r.kind
+  pub kind_code : slice_index spare 3 ≡ code_of_kind r.kind
   pub number : little_number 4 (slice_range spare 4 8) ≡ r.number
   pub sequence : little_number 8 (slice_range spare 8 16) ≡ r.sequence
   pub wear : little_number 4 (slice_range spare 16 20) ≡ r.wear
@@ -82,7 +82,7 @@ pub record Spells (spare : List ℕ) (r : Record) : Type 0 where
 
 -- the page is sound and has this record, in version 1: its spare bytes say it, and the seal of 8 bytes agrees
 pub record IsSoundV1 (p : Page) (r : Record) : Type 0 where
-  pub spells : Spells p.spare r
+  pub spells : SpellsRecord p.spare r
   pub version : slice_index p.spare 2 ≡ 1
   pub sealed : slice_range p.spare 24 32 ≡ take 8 (hash_of p)
   pub after_seal : AreFill (slice_range p.spare 32 (length p.spare))
@@ -90,7 +90,7 @@ pub record IsSoundV1 (p : Page) (r : Record) : Type 0 where
 -- the same in version 2, with a seal of 16 bytes
 pub record IsSoundV2 (p : Page) (r : Record) : Type 0 where
   pub room : 40 ≤ length p.spare
-  pub spells : Spells p.spare r
+  pub spells : SpellsRecord p.spare r
   pub version : slice_index p.spare 2 ≡ 2
   pub sealed : slice_range p.spare 24 40 ≡ take 16 (hash_of p)
   pub after_seal : AreFill (slice_range p.spare 40 (length p.spare))
@@ -114,7 +114,7 @@ version_for g = if nat_le 40 g.spare_bytes then 2 else 1
 -- the first 24 spare bytes of a page with this record in this version: what stands before the seal
 abbrev pub head_of : ℕ → Record → List ℕ
 head_of version r =
-    255 ∷ 255 ∷ version ∷ code_of r.kind ∷ little_bytes 4 r.number ++ little_bytes 8 r.sequence
+    255 ∷ 255 ∷ version ∷ code_of_kind r.kind ∷ little_bytes 4 r.number ++ little_bytes 8 r.sequence
     ++ little_bytes 4 r.wear ++ replicate 4 255
 
 -- whether the page is as an erase leaves it: all its bytes are FFh
@@ -122,7 +122,7 @@ abbrev pub is_erased_page : Page → Bool
 is_erased_page p = is_filled p.body && is_filled p.spare
 
 -- the numbers of a record fit their widths
-pub record Fits (r : Record) : Type 0 where
+pub record FitsWidths (r : Record) : Type 0 where
   pub number : r.number < 2 ^ 32
   pub sequence : r.sequence < 2 ^ 64
   pub wear : r.wear < 2 ^ 32

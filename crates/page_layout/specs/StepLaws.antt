@@ -8,7 +8,7 @@ use Rattle.page_layout.specs.Key.{key_of}
 use Rattle.page_layout.specs.OneArray.{AreBelow}
 use Rattle.page_layout.specs.Live.{IsKeyOf}
 use Rattle.page_layout.specs.Array.{marks, HasOneArray}
-use Rattle.page_layout.specs.Flash.{Flash, Operation, Program, Erase, turn_at, may_program, may_erase, Steps, Leads, IsWhole}
+use Rattle.page_layout.specs.Flash.{Flash, Operation, Program, Erase, next_page_at, may_program, may_erase, Steps, Leads, IsWhole}
 use Rattle.page_layout.specs.Counter.{counted}
 use Rattle.page_layout.specs.Change.{IsUnsoundAt, IsErasedAt, FailsAt, LosesIn, ErasesIn, HoldsNone, Keeps, Writes, ProgramMeans}
 
@@ -63,36 +63,36 @@ ClearedStepLaw = (g : Geometry) (old new : Flash) (block : ℕ) (left : List Pag
 abbrev pub EraseBelowLaw : Type 0
 EraseBelowLaw = (old new : Flash) (block next : ℕ) (passed : Bool) (left : List Page) → Steps old (Erase block passed left) new → AreBelow (marks old.image) next → AreBelow (marks new.image) next
 
--- ---- turns
+-- ---- next pages
 
--- The turns after an operation that named this block, where `next` is the page to come if it passes. One that was due and passed leaves
+-- The next pages after an operation that named this block, where `next` is the page to come if it passes. One that was due and passed leaves
 -- that page next and the block as good as it was; one that was due and failed bars the block. One that was not due moves nothing, and
--- no operation moves the turn of another block.
+-- no operation moves the next page of another block.
 pub record MovesTurn (old new : Flash) (block next : ℕ) (due passed : Bool) : Type 0 where
-  pub passes_next : due ≡ true → passed ≡ true → (turn_at new block).next ≡ next
-  pub passes_good : due ≡ true → passed ≡ true → (turn_at new block).barred ≡ false
-  pub fails_next : due ≡ true → passed ≡ false → (turn_at new block).next ≡ (turn_at old block).next
-  pub fails_barred : due ≡ true → passed ≡ false → (turn_at new block).barred ≡ true
-  pub refused_next : due ≡ false → (turn_at new block).next ≡ (turn_at old block).next
-  pub refused_barred : due ≡ false → (turn_at new block).barred ≡ (turn_at old block).barred
-  pub others : (other : ℕ) → other ≢ block → turn_at new other ≡ turn_at old other
+  pub passes_next : due ≡ true → passed ≡ true → (next_page_at new block).next ≡ next
+  pub passes_good : due ≡ true → passed ≡ true → (next_page_at new block).barred ≡ false
+  pub fails_next : due ≡ true → passed ≡ false → (next_page_at new block).next ≡ (next_page_at old block).next
+  pub fails_barred : due ≡ true → passed ≡ false → (next_page_at new block).barred ≡ true
+  pub refused_next : due ≡ false → (next_page_at new block).next ≡ (next_page_at old block).next
+  pub refused_barred : due ≡ false → (next_page_at new block).barred ≡ (next_page_at old block).barred
+  pub others : (other : ℕ) → other ≢ block → next_page_at new other ≡ next_page_at old other
 
 -- the counts of a block after a program, or an erase, that was asked of it, due or not
 pub record CountsProgram (old new : Flash) (block : ℕ) : Type 0 where
-  pub programs : (turn_at new block).programs ≡ counted (turn_at old block).programs
-  pub erases : (turn_at new block).erases ≡ (turn_at old block).erases
+  pub programs : (next_page_at new block).programs ≡ counted (next_page_at old block).programs
+  pub erases : (next_page_at new block).erases ≡ (next_page_at old block).erases
 
 pub record CountsErase (old new : Flash) (block : ℕ) : Type 0 where
-  pub programs : (turn_at new block).programs ≡ (turn_at old block).programs
-  pub erases : (turn_at new block).erases ≡ counted (turn_at old block).erases
+  pub programs : (next_page_at new block).programs ≡ (next_page_at old block).programs
+  pub erases : (next_page_at new block).erases ≡ counted (next_page_at old block).erases
 
 -- after a program that passed the next page of the block comes next
-abbrev pub ProgramTurnLaw : Type 0
-ProgramTurnLaw = (old new : Flash) (row : ℕ) (p : Page) (passed : Bool) (left : Page) → Steps old (Program row p passed left) new
-    → MovesTurn old new (row / old.geometry.pages) ((turn_at old (row / old.geometry.pages)).next + 1) (may_program old row) passed
+abbrev pub ProgramNextLaw : Type 0
+ProgramNextLaw = (old new : Flash) (row : ℕ) (p : Page) (passed : Bool) (left : Page) → Steps old (Program row p passed left) new
+    → MovesTurn old new (row / old.geometry.pages) ((next_page_at old (row / old.geometry.pages)).next + 1) (may_program old row) passed
 
 abbrev pub ProgramCountLaw : Type 0
-ProgramCountLaw = (old new : Flash) (row : ℕ) (p : Page) (passed : Bool) (left : Page) → row / old.geometry.pages < length old.turns
+ProgramCountLaw = (old new : Flash) (row : ℕ) (p : Page) (passed : Bool) (left : Page) → row / old.geometry.pages < length old.next_pages
     → Steps old (Program row p passed left) new → CountsProgram old new (row / old.geometry.pages)
 
 -- one that was due is no abuse
@@ -100,8 +100,8 @@ abbrev pub FairProgramLaw : Type 0
 FairProgramLaw = (old new : Flash) (row : ℕ) (p : Page) (passed : Bool) (left : Page) → Steps old (Program row p passed left) new → may_program old row ≡ true → new.abuse ≡ old.abuse
 
 -- after an erase that passed page 0 of the block comes next
-abbrev pub EraseTurnLaw : Type 0
-EraseTurnLaw = (old new : Flash) (block : ℕ) (passed : Bool) (left : List Page) → Steps old (Erase block passed left) new → MovesTurn old new block 0 (may_erase old block) passed
+abbrev pub EraseNextLaw : Type 0
+EraseNextLaw = (old new : Flash) (block : ℕ) (passed : Bool) (left : List Page) → Steps old (Erase block passed left) new → MovesTurn old new block 0 (may_erase old block) passed
 
 abbrev pub EraseCountLaw : Type 0
 EraseCountLaw = (old new : Flash) (block : ℕ) (passed : Bool) (left : List Page) → Steps old (Erase block passed left) new → CountsErase old new block

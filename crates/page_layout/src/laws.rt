@@ -12,7 +12,7 @@ ghost use Rattle.page_layout.specs.ChangeLaws.{WritesThenKeepsLaw, ArrayKeptLaw,
 ghost use Rattle.page_layout.specs.StepLaws.{PassedStepLaw, FailedStepLaw, OutcomeStepLaw, FailsStepLaw, OtherRowsLaw, NextSequenceLaw, EraseStepLaw};
 ghost use Rattle.page_layout.specs.StepLaws.{LosesStepLaw, ClearedStepLaw, EraseBelowLaw, ErasedRowLaw, ErasedBlockLaw, LogsLaw, GeometryStaysLaw};
 ghost use Rattle.page_layout.specs.StepLaws.{WholeStaysLaw};
-ghost use Rattle.page_layout.specs.StepLaws.{ProgramTurnLaw, ProgramCountLaw, FairProgramLaw, EraseTurnLaw, EraseCountLaw, FairEraseLaw};
+ghost use Rattle.page_layout.specs.StepLaws.{ProgramNextLaw, ProgramCountLaw, FairProgramLaw, EraseNextLaw, EraseCountLaw, FairEraseLaw};
 ghost use Rattle.page_layout.specs.StepLaws.{RefusedProgramLaw, RefusedEraseLaw};
 ghost use Rattle.page_layout.specs.CounterLaws.{UnchangedLaw, FellLaw, OneMoreLaw, TopLaw};
 ghost use Rattle.page_layout.specs.Recording.{RecordStaysLaw, RecordsJoinLaw, EndsJoinLaw, ToldOnLaw, RanOnLaw, OneCutLaw};
@@ -141,12 +141,12 @@ pub fn record_told_laws()
     ensures one_cut { OneCutLaw }
 {}
 
-/// What an operation makes of the turns of the blocks, of what was counted, and of the count of abuse, by whether it was due.
-pub fn turn_laws()
-    ensures program { ProgramTurnLaw }
+/// What an operation makes of the next pages of the blocks, of what was counted, and of the count of abuse, by whether it was due.
+pub fn next_page_laws()
+    ensures program { ProgramNextLaw }
     ensures program_count { ProgramCountLaw }
     ensures fair_program { FairProgramLaw }
-    ensures erase { EraseTurnLaw }
+    ensures erase { EraseNextLaw }
     ensures erase_count { EraseCountLaw }
     ensures fair_erase { FairEraseLaw }
     ensures refused_program { RefusedProgramLaw }

@@ -3,6 +3,7 @@
 //!
 //! - `geometry`: the five numbers of a die, their limits, and what follows from them.
 //! - `record`: the record in a page's spare area and the seal that makes the page sound.
+//! - `look`: what one page is: sound, erased, or neither.
 //! - `newest`: what a scan knows of the newest page of a key.
 //! - `lanes`: bytes looked at in lanes, 32 at a time.
 //! - `source`: pages read one by one, from a die or from a raw image in memory.
@@ -15,6 +16,7 @@
 pub mod geometry;
 pub mod lanes;
 pub mod laws;
+pub mod look;
 pub mod newest;
 pub mod record;
 pub mod source;

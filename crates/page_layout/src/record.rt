@@ -21,8 +21,8 @@ ghost use Rattle.std.specs.Prelude.{◌≡◌, ◌∷◌, ◌++◌, ◌+◌, ◌
 ghost use Rattle.sha2.specs.Sha256.{sha256};
 ghost use Rattle.page_layout.specs.Page.{page};
 ghost use Rattle.page_layout.specs.Newest.{sequence_of};
-ghost use Rattle.page_layout.specs.Sound.{kind_from, code_of, is_filled, seal_size, seal_end, has_version, has_form, has_seal, spelled, record_of};
-ghost use Rattle.page_layout.specs.Sound.{version_of, version_for, head_of, is_erased_page, Fits, IsRoomFor};
+ghost use Rattle.page_layout.specs.Sound.{kind_from, code_of_kind, is_filled, seal_size, seal_end, has_version, has_form, has_seal, spelled, record_of};
+ghost use Rattle.page_layout.specs.Sound.{version_of, version_for, head_of, is_erased_page, FitsWidths, IsRoomFor};
 
 use crate::geometry::Geometry;
 use crate::lanes::is_filled;
@@ -67,7 +67,7 @@ impl Kind {
 
     // The code of a kind.
     fn code(self) -> u8
-        ensures { result ≡ code_of self }
+        ensures { result ≡ code_of_kind self }
     {
         match self {
             Kind::Sector => 1,
@@ -226,7 +226,7 @@ pub fn record_version(geometry: &Geometry, body: &[u8], spare: &[u8]) -> Option<
 // The spare bytes before the seal of a page with this record in this version.
 fn head_of(version: u8, written: Record) -> [u8; 24]
     ensures is { result ≡ head_of version written }
-    ensures fits { Fits written }
+    ensures fits { FitsWidths written }
 {
     let mut head = [FILL; 24];
     head[2] = version;

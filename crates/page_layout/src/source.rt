@@ -36,8 +36,8 @@ pub trait PageSource {
 
     /// What contracts say of it, each word by its name.
     ///
-    /// - `flash`, what stands in it: its geometry, its pages and, for a die, whose turn it is in each block. A source that is no die has
-    ///   no turns.
+    /// - `flash`, what stands in it: its geometry, its pages and, for a die, the next page of each block. A source that is no die has
+    ///   no next pages.
     /// - `recorded`, the record that it tells of its programs and erases, or none. None claims nothing.
     /// - `honest`: whether it is honest.
     /// - `calm`, a word that a source may give to a die that nothing can make fail. Of any source this only says that no call changes

@@ -21,14 +21,14 @@ pub enum PartFault {
 /// The names of files, and what was asked of them. A call that is not done changes none of them. (This project's.)
 pub trait Names {
     ghost use Rattle.std.specs.Prelude.{◌≡◌, List, Option, is_ok};
-    ghost use Rattle.part_files.specs.Names.{Asked, and_one};
-    ghost use Rattle.part_files.specs.Names.Call.{Make, Claim, Remove, Link, Rename, SyncFolder};
+    ghost use Rattle.part_files.specs.Names.{AskedOfNames, and_one};
+    ghost use Rattle.part_files.specs.Names.NameCall.{Make, Claim, Remove, Link, Rename, SyncFolder};
 
     /// A file that is open for reading and writing, and locked as long as it is.
     type File: Drop;
 
     /// What was asked so far, in order. Of the system's names it isn't known.
-    ghost asked: { Self → Option (List Asked) };
+    ghost asked: { Self → Option (List AskedOfNames) };
 
     /// A new file of a name that no file has, locked, and seen to have that name still.
     ///

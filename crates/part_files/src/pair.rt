@@ -1,6 +1,6 @@
 //! Two files that get their names together: one, and a second one beside it that tells of it.
 ghost use Rattle.std.specs.Prelude.{◌≡◌, OnErr, OnOk};
-ghost use Rattle.part_files.specs.Pairs.{Clears, NamesBeside, NamesBesideNot, PublishesPair, PublishesNoPair, TakesBack};
+ghost use Rattle.part_files.specs.Pairs.{MayRemove, NamesBeside, NamesBesideNot, PublishesPair, PublishesNoPair, TakesBack};
 
 use crate::names::{Names, PartFault};
 use crate::parts::{publish_new, take_name};
@@ -38,7 +38,7 @@ pub fn is_begun<N: Names>(names: &mut N, pair: &Pair<'_>) -> Result<bool, PartFa
 
 // Removes the name beside a path, where a run that was killed has given it.
 fn clear_beside<N: Names>(names: &mut N, pair: &Pair<'_>) -> Result<(), PartFault>
-    ensures { Clears pair.now.beside.now (N.asked names.old) (N.asked names.new) }
+    ensures { MayRemove pair.now.beside.now (N.asked names.old) (N.asked names.new) }
 {
     if is_begun(names, pair)? {
         names.remove(pair.beside)?;

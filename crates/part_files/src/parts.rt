@@ -1,8 +1,8 @@
 //! A file that is made beside its place.
 ghost use Rattle.std.specs.Prelude.{◌≡◌, ◌≢◌, false, IfErr, OnErr, OnOk};
 ghost use Rattle.part_files.specs.Names.{and_one};
-ghost use Rattle.part_files.specs.Names.Call.{Rename};
-ghost use Rattle.part_files.specs.Parts.{Drops, GivesBack, MakesNone, MakesPart, Publishes, PublishesNot, Remakes, RemakesNot, Replaces, Settles, Takes, TakesNot};
+ghost use Rattle.part_files.specs.Names.NameCall.{Rename};
+ghost use Rattle.part_files.specs.Parts.{Drops, GivesBack, MakesNone, MakesPart, Publishes, PublishesNot, Remakes, RemakesNot, Replaces, Settles, TakesName, TakesNot};
 
 use crate::names::{Names, PartFault};
 use std::alloc::{AllocError, Global};
@@ -88,7 +88,7 @@ fn replace_made<N: Names>(names: &mut N, part: &str, path: &str) -> Result<(), P
 
 // Takes a name with a new file, and replaces that one.
 pub(crate) fn take_name<N: Names>(names: &mut N, part: &str, path: &str) -> Result<(), PartFault>
-    ensures taken { OnOk result (Takes part.now path.now (N.asked names.old) (N.asked names.new)) }
+    ensures taken { OnOk result (TakesName part.now path.now (N.asked names.old) (N.asked names.new)) }
     ensures not_taken { OnErr result (TakesNot part.now path.now (N.asked names.old) (N.asked names.new)) }
 {
     let taken = names.make(path)?;

@@ -6,7 +6,7 @@ use Rattle.clap.specs.Walk.{Text}
 use Rattle.clap.specs.Words.{App, Rule, Shape, with_rule, with_subcommand}
 use Rattle.program_words.specs.declared.grammar.CommandRule.{CommandRule}
 use Rattle.program_words.specs.declared.grammar.WordRule.{WordRule}
-use Rattle.program_words.specs.Grammar.{alone, command_of, command_shape, program_of, word_rule}
+use Rattle.program_words.specs.Grammar.{alone, command_with_words, command_shape, program_of, word_rule}
 
 -- the first n, of which the last stands at k
 one_more : {X : Type 0} (xs : List X) (k n : ℕ) (x : X) → n ≡ suc k → k < length xs → take n xs ≡ take k xs ++ get_or xs k x ∷ []
@@ -16,11 +16,11 @@ rules_then : (words : List WordRule) (k n : ℕ) (d : WordRule) → n ≡ suc k 
 rules_then words k n d next within = ap (map word_rule) (one_more words k n d next within) ∙ map_push word_rule (take k words) (get_or words k d)
 
 pub one_word : (a b : App) (name : Text) (words : List WordRule) (k n : ℕ) (d : WordRule) (r : Rule) → n ≡ suc k → k < length words → r ≡ word_rule (get_or words k d)
-    → a ≡ alone (command_of name (map word_rule (take k words))) → b ≡ with_rule a r → b ≡ alone (command_of name (map word_rule (take n words)))
+    → a ≡ alone (command_with_words name (map word_rule (take k words))) → b ≡ with_rule a r → b ≡ alone (command_with_words name (map word_rule (take n words)))
 one_word a b name words k n d r next within is before longer =
     longer ∙ (ap (λ x. with_rule x r) before
-    ∙ (ap (λ x. alone (command_of name (map word_rule (take k words) ++ x ∷ []))) is
-    ∙ ap (λ rules. alone (command_of name rules)) (sym (rules_then words k n d next within))))
+    ∙ (ap (λ x. alone (command_with_words name (map word_rule (take k words) ++ x ∷ []))) is
+    ∙ ap (λ rules. alone (command_with_words name rules)) (sym (rules_then words k n d next within))))
 
 commands_then : (commands : List CommandRule) (k n : ℕ) (d : CommandRule) → n ≡ suc k → k < length commands → map command_shape (take n commands) ≡ map command_shape (take k commands) ++ command_shape (get_or commands k d) ∷ []
 commands_then commands k n d next within = ap (map command_shape) (one_more commands k n d next within) ∙ map_push command_shape (take k commands) (get_or commands k d)

@@ -11,7 +11,7 @@ use Rattle.program_words.specs.declared.met.CommandWords.{CommandWords}
 use Rattle.program_words.specs.declared.met.Met.TheVariants as met
 use Rattle.program_words.specs.declared.met.GrammarFault.{GrammarFault}
 use Rattle.program_words.specs.declared.met.GrammarFault.TheVariants as words_fault
-use Rattle.program_words.specs.Met.{HasFault, IsCommandOf, IsMet, IsNoCommand, IsOtherKind, IsTextFor, IsUnmet, Names, NamesCommand, entries_of}
+use Rattle.program_words.specs.Met.{HasFault, IsCommandOf, IsMet, IsNoCommand, IsOtherKind, IsTextFor, IsUnmet, Names, NamesCommand, command_entries}
 
 -- the text of help or of the version is what the words ask for
 pub text_asked : (e : Error) (ks : Kinds) → IsTextFor e → HasKind ks e → IsAmong DisplayHelp ks ⊎ IsAmong DisplayVersion ks
@@ -50,10 +50,10 @@ taken f g words matches result p ok =
 
 -- the command that the words name was met
 pub command_met : (f g : App) (words : List (List ℕ)) (name : Bor (List ℕ)) (given : CommandWords) (matches : ArgMatches) (result : Result ArgMatches Error) → Parses f g words result → result ≡ Ok matches
-    → Names (subcommand_rows_of matches) name.now (entries_of given) → IsMet g words (met.Command name given)
+    → Names (subcommand_rows_of matches) name.now (command_entries given) → IsMet g words (met.Command name given)
 command_met f g words name given matches result p ok names =
     let is = taken f g words matches result p ok in
-    (is.0, subst (λ m. Names m name.now (entries_of given)) is.1 names)
+    (is.0, subst (λ m. Names m name.now (command_entries given)) is.1 names)
 
 -- none was
 pub none_met : (f g : App) (words : List (List ℕ)) (matches : ArgMatches) (result : Result ArgMatches Error) → Parses f g words result → result ≡ Ok matches → subcommand_rows_of matches ≡ None → IsUnmet g words
@@ -74,10 +74,10 @@ unmet g words error result fault has err other same =
 
 -- a command that was met is what they ask for
 pub asked_by : {A : Type 0} (at : List ℕ → List Row → A → Type 0) (f g : App) (words : List (List ℕ)) (name : Bor (List ℕ)) (given : CommandWords) (found : A) → f ≡ g → IsMet f words (met.Command name given)
-    → at name.now (entries_of given) found → NamesCommand at g words found
+    → at name.now (command_entries given) found → NamesCommand at g words found
 asked_by at f g words name given found same is read =
     let met = subst (λ a. IsMet a words (met.Command name given)) same is in
-    (met.0, record { name = name.now; rows = entries_of given; names = met.1; read = read })
+    (met.0, record { name = name.now; rows = command_entries given; names = met.1; read = read })
 
 -- a command has one name and one list of entries
 same_some : {X : Type 0} (o : Option X) (x y : X) → o ≡ Some x → o ≡ Some y → x ≡ y
@@ -92,10 +92,10 @@ only at met name rows found names is =
 
 -- one that asks for nothing is no command
 pub none_by : {A : Type 0} (at : List ℕ → List Row → A → Type 0) (f g : App) (words : List (List ℕ)) (name : Bor (List ℕ)) (given : CommandWords) → f ≡ g → IsMet f words (met.Command name given)
-    → ((found : A) → ¬ at name.now (entries_of given) found) → IsNoCommand at g words
+    → ((found : A) → ¬ at name.now (command_entries given) found) → IsNoCommand at g words
 none_by at f g words name given same is none =
     let met = subst (λ a. IsMet a words (met.Command name given)) same is in
-    inr (record { taken = met.0; none = λ found command. none found (only at (subcommand_of g words) name.now (entries_of given) found met.1 command) })
+    inr (record { taken = met.0; none = λ found command. none found (only at (subcommand_of g words) name.now (command_entries given) found met.1 command) })
 
 nameless : {A : Type 0} (at : List ℕ → List Row → A → Type 0) (found : A) (met : Option (List ℕ × List Row)) → met ≡ None → ¬ IsCommandOf at met found
 nameless at found None is = λ command. let no : None ≡ Some command.name = command.names.named in cc

@@ -15,11 +15,11 @@ abbrev pub version_text : List ℕ
 version_text = codes "0.1.0"
 
 -- a word that a command wants, and what becomes of it
-abbrev pub place_of : ArgAction → List ℕ → Rule
-place_of action id = record (new_rule id) { action = Some action; required = true }
+abbrev pub wanted_word : ArgAction → List ℕ → Rule
+wanted_word action id = record (new_rule id) { action = Some action; required = true }
 
 abbrev pub place : List ℕ → Rule
-place id = place_of Set id
+place id = wanted_word Set id
 
 -- a word behind two dashes
 abbrev pub flag : List ℕ → Rule
@@ -30,8 +30,8 @@ abbrev pub option : List ℕ → Rule
 option id = record (new_rule id) { action = Some Set; long = Some id; value_names = 1 }
 
 -- a command of these words
-abbrev pub command_of : List ℕ → List Rule → Shape
-command_of name words = record (new_shape name) { rules = words }
+abbrev pub command_with_words : List ℕ → List Rule → Shape
+command_with_words name words = record (new_shape name) { rules = words }
 
 abbrev pub are_none : List Shape → Bool
 are_none [] = true
@@ -49,7 +49,7 @@ program_of name commands = record {
 -- a word of this name and kind
 abbrev pub rule_of_kind : List ℕ → WordKind → Rule
 rule_of_kind id kind.Place = place id
-rule_of_kind id kind.Places = place_of Append id
+rule_of_kind id kind.Places = wanted_word Append id
 rule_of_kind id kind.Flag = flag id
 rule_of_kind id (kind.Valued value) = option id
 
@@ -57,7 +57,7 @@ abbrev pub word_rule : WordRule → Rule
 word_rule word = rule_of_kind word.id.now word.kind
 
 abbrev pub command_shape : CommandRule → Shape
-command_shape rule = command_of rule.name.now (map word_rule rule.words.now)
+command_shape rule = command_with_words rule.name.now (map word_rule rule.words.now)
 
 abbrev pub program_app : Grammar → App
 program_app grammar = program_of grammar.name.now (map command_shape grammar.commands.now)

@@ -52,8 +52,8 @@ pub record HasFault (g : App) (words : List (List ℕ)) : Type 0 where
   pub other : IsOther kind
 
 -- the entries of the words of a command
-abbrev pub entries_of : CommandWords → List Row
-entries_of words = rows_of (found_of words.matches)
+abbrev pub command_entries : CommandWords → List Row
+command_entries words = rows_of (found_of words.matches)
 
 -- the command that was met has this name, and its words these entries
 pub record Names (met : Option (List ℕ × List Row)) (name : List ℕ) (rows : List Row) : Type 0 where
@@ -62,7 +62,7 @@ pub record Names (met : Option (List ℕ × List Row)) (name : List ℕ) (rows :
 
 -- WHAT THEY CAME TO: no fault is found in them, and they name this command with these words; or they ask for a text
 abbrev pub IsMet : App → List (List ℕ) → Met → Type 0
-IsMet g words (met.Command name given) = (fault_of g words ≡ []) × Names (subcommand_of g words) name.now (entries_of given)
+IsMet g words (met.Command name given) = (fault_of g words ≡ []) × Names (subcommand_of g words) name.now (command_entries given)
 IsMet g words (met.Text text) = AsksText g words
 
 -- a fault is found in them, or they name no command

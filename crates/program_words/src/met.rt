@@ -2,7 +2,7 @@
 ghost use Rattle.std.specs.Prelude.{◌≡◌, IfOk, IfSome, OnOk, Err, None, option_map, true};
 ghost use Rattle.clap.specs.Words.{all_of, count_of, first_of, is_simple_and_free, subcommand_rows_of};
 ghost use Rattle.program_words.specs.Grammar.{program_app};
-ghost use Rattle.program_words.specs.Met.{IsMet, IsOtherKind, IsTextFor, IsUnmet, Names, entries_of, texts};
+ghost use Rattle.program_words.specs.Met.{IsMet, IsOtherKind, IsTextFor, IsUnmet, Names, command_entries, texts};
 
 use crate::grammar::{Grammar, program_of};
 use clap::error::ErrorKind;
@@ -18,7 +18,7 @@ pub struct CommandWords<'a> {
 impl<'a> CommandWords<'a> {
     /// Whether a flag stands: not known where it stands twice or more.
     pub fn once(&self, id: &str) -> Option<bool>
-        ensures { result ≡ Rattle.program_words.specs.Met.once (count_of id.now (entries_of self.now)) }
+        ensures { result ≡ Rattle.program_words.specs.Met.once (count_of id.now (command_entries self.now)) }
     {
         match self.matches.get_count(id) {
             0 => Some(false),
@@ -29,21 +29,21 @@ impl<'a> CommandWords<'a> {
 
     /// Whether a flag stands, once or more.
     pub fn stands(&self, id: &str) -> bool
-        ensures { result ≡ Rattle.program_words.specs.Met.stood (count_of id.now (entries_of self.now)) }
+        ensures { result ≡ Rattle.program_words.specs.Met.stood (count_of id.now (command_entries self.now)) }
     {
         self.matches.get_count(id) > 0
     }
 
     /// The word in a place, or the one behind an option.
     pub fn word(&self, id: &str) -> Option<&'a str>
-        ensures { option_map (λ word. word.now) result ≡ first_of id.now (entries_of self.now) }
+        ensures { option_map (λ word. word.now) result ≡ first_of id.now (command_entries self.now) }
     {
         self.matches.get_str(id)
     }
 
     /// The words in a place that stands more than once.
     pub fn words(&self, id: &str) -> Option<&[&'a str]>
-        ensures { option_map (λ words. texts words.now) result ≡ all_of id.now (entries_of self.now) }
+        ensures { option_map (λ words. texts words.now) result ≡ all_of id.now (command_entries self.now) }
     {
         self.matches.get_strs(id)
     }
@@ -95,7 +95,7 @@ fn text_of(alloc: Global, error: &Error) -> Result<String, GrammarFault>
 
 // The name of the command that was met, and its words.
 fn command_of<'a>(mut matches: ArgMatches<'a>) -> Option<(&'a str, CommandWords<'a>)>
-    ensures some { IfSome result (λ named. Names (subcommand_rows_of matches.entry) named.0.now (entries_of named.1)) }
+    ensures some { IfSome result (λ named. Names (subcommand_rows_of matches.entry) named.0.now (command_entries named.1)) }
     ensures none { result ≡ None → subcommand_rows_of matches.entry ≡ None }
 {
     let (name, matches) = matches.remove_subcommand()?;

@@ -10,7 +10,7 @@ use std::alloc::{AllocError, Global};
 
 /// A word that a command wants, what becomes of it, and what it is for.
 pub(crate) fn place_of<'a>(alloc: Global, id: &'a str, action: ArgAction, help: &'a str) -> Arg<'a>
-    ensures rule { rule_of result ≡ told.place_of action id.now }
+    ensures rule { rule_of result ≡ told.wanted_word action id.now }
     ensures local { result.global ≡ false }
 {
     Arg::new(alloc, id).required(true).action(action).help(help)

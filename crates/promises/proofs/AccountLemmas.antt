@@ -7,7 +7,7 @@ use Rattle.page_layout.specs.Page.{Image}
 use Rattle.page_layout.specs.Block.{block_pages, past_last}
 use Rattle.page_layout.specs.Flash.{Operation, Program, Erase}
 use Rattle.promises.specs.Log.{block_of, has_passed}
-use Rattle.promises.specs.Legal.{Account, no_account, account_at, accounts_of, noted, accounted, accounted_all, IsDue}
+use Rattle.promises.specs.Legal.{Account, no_account, account_at, accounts_of, account_after, accounted, accounted_all, IsDue}
 
 -- ---- as an image gives it
 
@@ -30,7 +30,7 @@ due_good pages accounts (Erase block passed left) h = h.good
 
 pub length-accounted : (pages : ℕ) (accounts : List Account) (op : Operation) → length (accounted pages accounts op) ≡ length accounts
 unfolding accounted
-length-accounted pages accounts op = length-set accounts (block_of pages op) (noted (account_at accounts (block_of pages op)) op)
+length-accounted pages accounts op = length-set accounts (block_of pages op) (account_after (account_at accounts (block_of pages op)) op)
 
 pub length-accounted_all : (pages : ℕ) (accounts : List Account) (log : List Operation) → length (accounted_all pages accounts log) ≡ length accounts
 length-accounted_all pages accounts [] = refl
@@ -38,15 +38,15 @@ length-accounted_all pages accounts (op ∷ log) = length-accounted_all pages (a
 
 -- the account of the block that the operation named
 pub accounted-same : (pages : ℕ) (accounts : List Account) (op : Operation) (block : ℕ) → block_of pages op ≡ block → block < length accounts
-    → account_at (accounted pages accounts op) block ≡ noted (account_at accounts block) op
+    → account_at (accounted pages accounts op) block ≡ account_after (account_at accounts block) op
 unfolding accounted
-accounted-same pages accounts op block is within = rw is (get_or-set_same accounts block (noted (account_at accounts block) op) no_account within)
+accounted-same pages accounts op block is within = rw is (get_or-set_same accounts block (account_after (account_at accounts block) op) no_account within)
 
 -- and of any other
 pub accounted-other : (pages : ℕ) (accounts : List Account) (op : Operation) (block : ℕ) → block_of pages op ≢ block → account_at (accounted pages accounts op) block ≡ account_at accounts block
 unfolding accounted
-accounted-other pages accounts op block ne = get_or-set_other accounts (block_of pages op) block (noted (account_at accounts (block_of pages op)) op) no_account (λ e. ne (sym e))
+accounted-other pages accounts op block ne = get_or-set_other accounts (block_of pages op) block (account_after (account_at accounts (block_of pages op)) op) no_account (λ e. ne (sym e))
 
-pub noted-barred : (account : Account) (op : Operation) → (noted account op).barred ≡ not (has_passed op)
+pub noted-barred : (account : Account) (op : Operation) → (account_after account op).barred ≡ not (has_passed op)
 noted-barred account (Program row page passed left) = refl
 noted-barred account (Erase block passed left) = refl

@@ -14,7 +14,7 @@ use Rattle.page_layout.specs.Page.{Page, Image}
 use Rattle.page_layout.specs.Sound.{is_erased_page}
 use Rattle.page_layout.specs.Block.{block_pages}
 use Rattle.page_layout.specs.Change.{one_if}
-use Rattle.page_layout.specs.Flash.{Flash, Operation, Program, Erase, IsLawful, IsWhole, Leads, turn_at, no_page}
+use Rattle.page_layout.specs.Flash.{Flash, Operation, Program, Erase, IsLawful, IsWhole, Leads, next_page_at, no_page}
 use Rattle.page_layout.proofs.CountLemmas.{bit, count_by-cons, sum_by-add, sum_by-same, sum_by_zero, count_in_range_is}
 use Rattle.page_layout.proofs.FlashLemmas.{geometry-Steps}
 use Rattle.page_layout.proofs.RecordingLemmas.{whole_steps}
@@ -42,7 +42,7 @@ names_block : (s : Flash) (op : Operation) → IsWhole s → IsLawful s op → b
 names_block s (Program row page passed left) w lawful =
     let rows : row < s.geometry.blocks * s.geometry.pages = omega (arith, lawful.in_range, w.image_whole.rows) in
     div_below row s.geometry.pages s.geometry.blocks (omega (arith, s.geometry.limits.page_count.least)) rows
-names_block s (Erase block passed left) w lawful = omega (arith, lawful.in_range, w.turns_whole)
+names_block s (Erase block passed left) w lawful = omega (arith, lawful.in_range, w.next_pages_whole)
 
 sums_at : (g : Geometry) (old new : Flash) (log : List Operation) → old.geometry ≡ g → IsWhole old → Leads old log new → CountsEach g log
 sums_at g old new [] same w leads = record { programs = sym (sum_by_zero (range_with_len 0 g.blocks)); erases = sym (sum_by_zero (range_with_len 0 g.blocks)) }
@@ -77,16 +77,16 @@ pub since : SinceLaw
 since old new log w leads =
     let n : ℕ = old.geometry.blocks in
     let each = sums old new log w leads in
-    let all = λ (block : ℕ) (lt : block < n). complete old new log block (subst (λ m. block < m) (sym w.turns_whole) lt) leads in
+    let all = λ (block : ℕ) (lt : block < n). complete old new log block (subst (λ m. block < m) (sym w.next_pages_whole) lt) leads in
     record {
       programs = λ fits.
-          sum_in_range (λ b. (turn_at new b).programs) (λ b. (turn_at old b).programs + programs_of old.geometry.pages log b) 0 n (λ b lt. (all b (omega (arith, lt))).programs (fits b))
-          ∙ (sum_by-add (λ b. (turn_at old b).programs) (λ b. programs_of old.geometry.pages log b) (range_with_len 0 n)
-          ∙ ap (λ m. sum_by (λ b. (turn_at old b).programs) (range_with_len 0 n) + m) (sym each.programs));
+          sum_in_range (λ b. (next_page_at new b).programs) (λ b. (next_page_at old b).programs + programs_of old.geometry.pages log b) 0 n (λ b lt. (all b (omega (arith, lt))).programs (fits b))
+          ∙ (sum_by-add (λ b. (next_page_at old b).programs) (λ b. programs_of old.geometry.pages log b) (range_with_len 0 n)
+          ∙ ap (λ m. sum_by (λ b. (next_page_at old b).programs) (range_with_len 0 n) + m) (sym each.programs));
       erases = λ fits.
-          sum_in_range (λ b. (turn_at new b).erases) (λ b. (turn_at old b).erases + erases_of log b) 0 n (λ b lt. (all b (omega (arith, lt))).erases (fits b))
-          ∙ (sum_by-add (λ b. (turn_at old b).erases) (λ b. erases_of log b) (range_with_len 0 n)
-          ∙ ap (λ m. sum_by (λ b. (turn_at old b).erases) (range_with_len 0 n) + m) (sym each.erases));
+          sum_in_range (λ b. (next_page_at new b).erases) (λ b. (next_page_at old b).erases + erases_of log b) 0 n (λ b lt. (all b (omega (arith, lt))).erases (fits b))
+          ∙ (sum_by-add (λ b. (next_page_at old b).erases) (λ b. erases_of log b) (range_with_len 0 n)
+          ∙ ap (λ m. sum_by (λ b. (next_page_at old b).erases) (range_with_len 0 n) + m) (sym each.erases));
     }
 
 -- ---- blocks with a failure

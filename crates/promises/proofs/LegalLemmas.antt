@@ -16,8 +16,8 @@ use Rattle.page_layout.specs.Change.{one_if}
 use Rattle.page_layout.specs.Flash.{Operation, Program, Erase, no_page}
 use Rattle.page_layout.proofs.BlockLemmas.{none_programmed}
 use Rattle.promises.specs.Log.{block_of, has_passed, erases_of, failed_in}
-use Rattle.promises.specs.Legal.{Account, no_account, account_at, accounts_of, noted, accounted, accounted_all, IsDue, LegalFrom, EmptyLaw, JoinLaw}
-use Rattle.promises.specs.Legal.{AccountsLaw, OneMoreLaw, NoBadBlockLaw, NotTwiceLaw, OnErasedLaw, InOrderLaw}
+use Rattle.promises.specs.Legal.{Account, no_account, account_at, accounts_of, account_after, accounted, accounted_all, IsDue, LegalFrom, EmptyLaw, JoinLaw}
+use Rattle.promises.specs.Legal.{AccountsLaw, OneMoreIsDueLaw, NoBadBlockLaw, NotTwiceLaw, OnErasedLaw, InOrderLaw}
 use Rattle.promises.proofs.AccountLemmas.{account_of, length-accounts_of, due_good, accounted-same, accounted-other, noted-barred}
 
 -- ---- lists of operations in a row
@@ -40,7 +40,7 @@ legal_split pages accounts (op ∷ xs) ys h = let s = legal_split pages (account
 pub join : JoinLaw
 join pages accounts xs ys = (legal_split pages accounts xs ys, λ h. legal_append pages accounts xs ys h.0 h.1)
 
-pub one_more : OneMoreLaw
+pub one_more : OneMoreIsDueLaw
 one_more pages accounts log op = (
   λ h. let s = legal_split pages accounts log (op ∷ []) h in (s.0, s.1.0),
   λ h. legal_append pages accounts log (op ∷ []) h.0 (h.1, tt),
@@ -72,7 +72,7 @@ not_barred pages accounts (op ∷ log) block h good =
     let was : (account_at accounts (block_of pages op)).barred ≡ false = due_good pages accounts op h.0 in
     elim (eqb_tells (block_of pages op) block) [
       | inl e ↦
-          let noted_so : account_at (accounted pages accounts op) block ≡ noted (account_at accounts (block_of pages op)) op =
+          let noted_so : account_at (accounted pages accounts op) block ≡ account_after (account_at accounts (block_of pages op)) op =
           ap (λ n. account_at (accounted pages accounts op) n) (sym e.1) ∙ accounted-same pages accounts op (block_of pages op) refl (in_range accounts (block_of pages op) was) in
           let passed : has_passed op ≡ true = not-false (has_passed op) (sym (ap (λ (a : Account). a.barred) noted_so ∙ noted-barred (account_at accounts (block_of pages op)) op) ∙ later.0) in
           (ap (λ n. (account_at accounts n).barred) (sym e.1) ∙ was, or_from (not (has_passed op) && (block_of pages op == block)) (failed_in pages log block) (no_failure (has_passed op) (block_of pages op == block) (inl passed)) later.1)
@@ -109,7 +109,7 @@ next_after pages accounts row page left passed block due =
     let op : Operation = Program row page passed left in
     elim (eqb_tells (row / pages) block) [
       | inl e ↦
-          let here : account_at (accounted pages accounts op) block ≡ noted (account_at accounts (row / pages)) op =
+          let here : account_at (accounted pages accounts op) block ≡ account_after (account_at accounts (row / pages)) op =
           ap (λ n. account_at (accounted pages accounts op) n) (sym e.1) ∙ accounted-same pages accounts op (row / pages) refl (in_range accounts (row / pages) due.good) in
           omega (arith, ap (λ (a : Account). a.next) here, ap (λ n. (account_at accounts n).next) e.1)
       | inr e ↦ omega (arith, ap (λ (a : Account). a.next) (accounted-other pages accounts op block e.1))

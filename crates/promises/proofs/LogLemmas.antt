@@ -9,7 +9,7 @@ use Rattle.std.proofs.lemmas.Bool.Decides.{eqb_tells}
 use Rattle.page_layout.specs.Change.{one_if}
 use Rattle.page_layout.specs.Page.{Page}
 use Rattle.page_layout.specs.Counter.{counted}
-use Rattle.page_layout.specs.Flash.{Flash, Operation, Program, Erase, TurnState, no_turn, turn_at, after, after_program, after_erase, may_program}
+use Rattle.page_layout.specs.Flash.{Flash, Operation, Program, Erase, NextState, no_next_page, next_page_at, after, after_program, after_erase, may_program}
 use Rattle.page_layout.specs.Flash.{may_erase, Leads}
 use Rattle.promises.specs.Log.{block_of, has_passed, programs_in, erases_in, programs_of, erases_of, passed_erases_of, failed_in, CountsLaw, PassedErasesLaw}
 use Rattle.promises.specs.Log.{BadJoinLaw, BadStaysLaw, CompleteLaw}
@@ -100,70 +100,70 @@ after-geometry s (Erase block passed left) = refl
 
 -- ---- a log leaves nothing out
 
-after-length : (s : Flash) (op : Operation) → length (after s op).turns ≡ length s.turns
+after-length : (s : Flash) (op : Operation) → length (after s op).next_pages ≡ length s.next_pages
 unfolding after
-after-length s (Program row page passed left) = length-set s.turns _ _
-after-length s (Erase block passed left) = length-set s.turns _ _
+after-length s (Program row page passed left) = length-set s.next_pages _ _
+after-length s (Erase block passed left) = length-set s.next_pages _ _
 
 -- the count of a block after one operation
 counted_where : Bool → ℕ → ℕ
 counted_where b n = if b then counted n else n
 
-turn-same : (s : Flash) (block : ℕ) (turn : TurnState) → block < length s.turns → get_or (slice_set s.turns block turn) block no_turn ≡ turn
-turn-same s block turn lt = get_or-set_same s.turns block turn no_turn lt
+next_page-same : (s : Flash) (block : ℕ) (next_page : NextState) → block < length s.next_pages → get_or (slice_set s.next_pages block next_page) block no_next_page ≡ next_page
+next_page-same s block next_page lt = get_or-set_same s.next_pages block next_page no_next_page lt
 
-programs_after : (s : Flash) (row : ℕ) (page left : Page) (passed : Bool) (block : ℕ) → block < length s.turns
-    → (turn_at (after s (Program row page passed left)) block).programs ≡ counted_where (row / s.geometry.pages == block) (turn_at s block).programs
+programs_after : (s : Flash) (row : ℕ) (page left : Page) (passed : Bool) (block : ℕ) → block < length s.next_pages
+    → (next_page_at (after s (Program row page passed left)) block).programs ≡ counted_where (row / s.geometry.pages == block) (next_page_at s block).programs
 unfolding after counted_where
 programs_after s row page left passed block lt =
     let at : ℕ = row / s.geometry.pages in
-    let turn : TurnState = after_program (turn_at s at) (may_program s row) passed in
+    let next_page : NextState = after_program (next_page_at s at) (may_program s row) passed in
     elim (eqb_tells at block) [
       | inl e ↦
-          let here : get_or (slice_set s.turns at turn) block no_turn ≡ turn = ap (λ n. get_or (slice_set s.turns at turn) n no_turn) (sym e.1) ∙ turn-same s at turn (subst (λ n. n < length s.turns) (sym e.1) lt) in
-          ap (λ (t : TurnState). t.programs) here ∙ (ap (λ n. counted (turn_at s n).programs) e.1 ∙ ap (λ b. if b then counted (turn_at s block).programs else (turn_at s block).programs) (sym e.0))
+          let here : get_or (slice_set s.next_pages at next_page) block no_next_page ≡ next_page = ap (λ n. get_or (slice_set s.next_pages at next_page) n no_next_page) (sym e.1) ∙ next_page-same s at next_page (subst (λ n. n < length s.next_pages) (sym e.1) lt) in
+          ap (λ (t : NextState). t.programs) here ∙ (ap (λ n. counted (next_page_at s n).programs) e.1 ∙ ap (λ b. if b then counted (next_page_at s block).programs else (next_page_at s block).programs) (sym e.0))
       | inr e ↦
-          let other : get_or (slice_set s.turns at turn) block no_turn ≡ turn_at s block = get_or-set_other s.turns at block turn no_turn (λ x. e.1 (sym x)) in
-          ap (λ (t : TurnState). t.programs) other ∙ ap (λ b. if b then counted (turn_at s block).programs else (turn_at s block).programs) (sym e.0)
+          let other : get_or (slice_set s.next_pages at next_page) block no_next_page ≡ next_page_at s block = get_or-set_other s.next_pages at block next_page no_next_page (λ x. e.1 (sym x)) in
+          ap (λ (t : NextState). t.programs) other ∙ ap (λ b. if b then counted (next_page_at s block).programs else (next_page_at s block).programs) (sym e.0)
     ]
 
-programs_erased : (s : Flash) (other : ℕ) (left : List Page) (passed : Bool) (block : ℕ) → block < length s.turns
-    → (turn_at (after s (Erase other passed left)) block).programs ≡ (turn_at s block).programs
+programs_erased : (s : Flash) (other : ℕ) (left : List Page) (passed : Bool) (block : ℕ) → block < length s.next_pages
+    → (next_page_at (after s (Erase other passed left)) block).programs ≡ (next_page_at s block).programs
 unfolding after
 programs_erased s other left passed block lt =
-    let turn : TurnState = after_erase (turn_at s other) (may_erase s other) passed in
+    let next_page : NextState = after_erase (next_page_at s other) (may_erase s other) passed in
     elim (eqb_tells other block) [
       | inl e ↦
-          let here : get_or (slice_set s.turns other turn) block no_turn ≡ turn = ap (λ n. get_or (slice_set s.turns other turn) n no_turn) (sym e.1) ∙ turn-same s other turn (subst (λ n. n < length s.turns) (sym e.1) lt) in
-          ap (λ (t : TurnState). t.programs) here ∙ ap (λ n. (turn_at s n).programs) e.1
-      | inr e ↦ ap (λ (t : TurnState). t.programs) (get_or-set_other s.turns other block turn no_turn (λ x. e.1 (sym x)))
+          let here : get_or (slice_set s.next_pages other next_page) block no_next_page ≡ next_page = ap (λ n. get_or (slice_set s.next_pages other next_page) n no_next_page) (sym e.1) ∙ next_page-same s other next_page (subst (λ n. n < length s.next_pages) (sym e.1) lt) in
+          ap (λ (t : NextState). t.programs) here ∙ ap (λ n. (next_page_at s n).programs) e.1
+      | inr e ↦ ap (λ (t : NextState). t.programs) (get_or-set_other s.next_pages other block next_page no_next_page (λ x. e.1 (sym x)))
     ]
 
-erases_after : (s : Flash) (other : ℕ) (left : List Page) (passed : Bool) (block : ℕ) → block < length s.turns
-    → (turn_at (after s (Erase other passed left)) block).erases ≡ counted_where (other == block) (turn_at s block).erases
+erases_after : (s : Flash) (other : ℕ) (left : List Page) (passed : Bool) (block : ℕ) → block < length s.next_pages
+    → (next_page_at (after s (Erase other passed left)) block).erases ≡ counted_where (other == block) (next_page_at s block).erases
 unfolding after counted_where
 erases_after s other left passed block lt =
-    let turn : TurnState = after_erase (turn_at s other) (may_erase s other) passed in
+    let next_page : NextState = after_erase (next_page_at s other) (may_erase s other) passed in
     elim (eqb_tells other block) [
       | inl e ↦
-          let here : get_or (slice_set s.turns other turn) block no_turn ≡ turn = ap (λ n. get_or (slice_set s.turns other turn) n no_turn) (sym e.1) ∙ turn-same s other turn (subst (λ n. n < length s.turns) (sym e.1) lt) in
-          ap (λ (t : TurnState). t.erases) here ∙ (ap (λ n. counted (turn_at s n).erases) e.1 ∙ ap (λ b. if b then counted (turn_at s block).erases else (turn_at s block).erases) (sym e.0))
+          let here : get_or (slice_set s.next_pages other next_page) block no_next_page ≡ next_page = ap (λ n. get_or (slice_set s.next_pages other next_page) n no_next_page) (sym e.1) ∙ next_page-same s other next_page (subst (λ n. n < length s.next_pages) (sym e.1) lt) in
+          ap (λ (t : NextState). t.erases) here ∙ (ap (λ n. counted (next_page_at s n).erases) e.1 ∙ ap (λ b. if b then counted (next_page_at s block).erases else (next_page_at s block).erases) (sym e.0))
       | inr e ↦
-          let same : get_or (slice_set s.turns other turn) block no_turn ≡ turn_at s block = get_or-set_other s.turns other block turn no_turn (λ x. e.1 (sym x)) in
-          ap (λ (t : TurnState). t.erases) same ∙ ap (λ b. if b then counted (turn_at s block).erases else (turn_at s block).erases) (sym e.0)
+          let same : get_or (slice_set s.next_pages other next_page) block no_next_page ≡ next_page_at s block = get_or-set_other s.next_pages other block next_page no_next_page (λ x. e.1 (sym x)) in
+          ap (λ (t : NextState). t.erases) same ∙ ap (λ b. if b then counted (next_page_at s block).erases else (next_page_at s block).erases) (sym e.0)
     ]
 
-erases_programmed : (s : Flash) (row : ℕ) (page left : Page) (passed : Bool) (block : ℕ) → block < length s.turns
-    → (turn_at (after s (Program row page passed left)) block).erases ≡ (turn_at s block).erases
+erases_programmed : (s : Flash) (row : ℕ) (page left : Page) (passed : Bool) (block : ℕ) → block < length s.next_pages
+    → (next_page_at (after s (Program row page passed left)) block).erases ≡ (next_page_at s block).erases
 unfolding after
 erases_programmed s row page left passed block lt =
     let at : ℕ = row / s.geometry.pages in
-    let turn : TurnState = after_program (turn_at s at) (may_program s row) passed in
+    let next_page : NextState = after_program (next_page_at s at) (may_program s row) passed in
     elim (eqb_tells at block) [
       | inl e ↦
-          let here : get_or (slice_set s.turns at turn) block no_turn ≡ turn = ap (λ n. get_or (slice_set s.turns at turn) n no_turn) (sym e.1) ∙ turn-same s at turn (subst (λ n. n < length s.turns) (sym e.1) lt) in
-          ap (λ (t : TurnState). t.erases) here ∙ ap (λ n. (turn_at s n).erases) e.1
-      | inr e ↦ ap (λ (t : TurnState). t.erases) (get_or-set_other s.turns at block turn no_turn (λ x. e.1 (sym x)))
+          let here : get_or (slice_set s.next_pages at next_page) block no_next_page ≡ next_page = ap (λ n. get_or (slice_set s.next_pages at next_page) n no_next_page) (sym e.1) ∙ next_page-same s at next_page (subst (λ n. n < length s.next_pages) (sym e.1) lt) in
+          ap (λ (t : NextState). t.erases) here ∙ ap (λ n. (next_page_at s n).erases) e.1
+      | inr e ↦ ap (λ (t : NextState). t.erases) (get_or-set_other s.next_pages at block next_page no_next_page (λ x. e.1 (sym x)))
     ]
 
 -- one more, below the top
@@ -172,42 +172,42 @@ unfolding counted_where
 one_more true n m k rest is lt more = let at : m ≡ n + 1 = omega (arith, is, lt) in omega (arith, more (omega (arith, at, lt)), at)
 one_more false n m k rest is lt more = let at : m ≡ n = is in omega (arith, more (omega (arith, at, lt)), at)
 
-all_programs : (s : Flash) (log : List Operation) (pages block : ℕ) → s.geometry.pages ≡ pages → block < length s.turns → (turn_at s block).programs + programs_of pages log block < 2 ^ 64
-    → (turn_at (after_all s log) block).programs ≡ (turn_at s block).programs + programs_of pages log block
+all_programs : (s : Flash) (log : List Operation) (pages block : ℕ) → s.geometry.pages ≡ pages → block < length s.next_pages → (next_page_at s block).programs + programs_of pages log block < 2 ^ 64
+    → (next_page_at (after_all s log) block).programs ≡ (next_page_at s block).programs + programs_of pages log block
 unfolding after_all
 all_programs s [] pages block same lt fits = omega arith
 all_programs s (Program row page passed left ∷ log) pages block same lt fits =
     let op : Operation = Program row page passed left in
     let t : Flash = after s op in
-    let now : (turn_at t block).programs ≡ counted_where (row / pages == block) (turn_at s block).programs = programs_after s row page left passed block lt ∙ ap (λ p. counted_where (row / p == block) (turn_at s block).programs) same in
-    one_more (row / pages == block) (turn_at s block).programs (turn_at t block).programs (turn_at (after_all t log) block).programs (programs_of pages log block) now fits
+    let now : (next_page_at t block).programs ≡ counted_where (row / pages == block) (next_page_at s block).programs = programs_after s row page left passed block lt ∙ ap (λ p. counted_where (row / p == block) (next_page_at s block).programs) same in
+    one_more (row / pages == block) (next_page_at s block).programs (next_page_at t block).programs (next_page_at (after_all t log) block).programs (programs_of pages log block) now fits
     (λ small. all_programs t log pages block (ap (λ g. g.pages) (after-geometry s op) ∙ same) (subst (λ n. block < n) (sym (after-length s op)) lt) small)
 all_programs s (Erase other passed left ∷ log) pages block same lt fits =
     let op : Operation = Erase other passed left in
     let t : Flash = after s op in
-    let now : (turn_at t block).programs ≡ (turn_at s block).programs = programs_erased s other left passed block lt in
+    let now : (next_page_at t block).programs ≡ (next_page_at s block).programs = programs_erased s other left passed block lt in
     all_programs t log pages block (ap (λ g. g.pages) (after-geometry s op) ∙ same) (subst (λ n. block < n) (sym (after-length s op)) lt) (subst (λ n. n + programs_of pages log block < 2 ^ 64) (sym now) fits)
     ∙ ap (λ n. n + programs_of pages log block) now
 
-all_erases : (s : Flash) (log : List Operation) (block : ℕ) → block < length s.turns → (turn_at s block).erases + erases_of log block < 2 ^ 64
-    → (turn_at (after_all s log) block).erases ≡ (turn_at s block).erases + erases_of log block
+all_erases : (s : Flash) (log : List Operation) (block : ℕ) → block < length s.next_pages → (next_page_at s block).erases + erases_of log block < 2 ^ 64
+    → (next_page_at (after_all s log) block).erases ≡ (next_page_at s block).erases + erases_of log block
 unfolding after_all
 all_erases s [] block lt fits = omega arith
 all_erases s (Program row page passed left ∷ log) block lt fits =
     let op : Operation = Program row page passed left in
     let t : Flash = after s op in
-    let now : (turn_at t block).erases ≡ (turn_at s block).erases = erases_programmed s row page left passed block lt in
+    let now : (next_page_at t block).erases ≡ (next_page_at s block).erases = erases_programmed s row page left passed block lt in
     all_erases t log block (subst (λ n. block < n) (sym (after-length s op)) lt) (subst (λ n. n + erases_of log block < 2 ^ 64) (sym now) fits) ∙ ap (λ n. n + erases_of log block) now
 all_erases s (Erase other passed left ∷ log) block lt fits =
     let op : Operation = Erase other passed left in
     let t : Flash = after s op in
-    one_more (other == block) (turn_at s block).erases (turn_at t block).erases (turn_at (after_all t log) block).erases (erases_of log block) (erases_after s other left passed block lt) fits
+    one_more (other == block) (next_page_at s block).erases (next_page_at t block).erases (next_page_at (after_all t log) block).erases (erases_of log block) (erases_after s other left passed block lt) fits
     (λ small. all_erases t log block (subst (λ n. block < n) (sym (after-length s op)) lt) small)
 
 pub complete : CompleteLaw
 complete old new log block lt h =
     let end : new ≡ after_all old log = leads_after old new log h in
     record {
-      programs = λ fits. ap (λ (s : Flash). (turn_at s block).programs) end ∙ all_programs old log old.geometry.pages block refl lt fits;
-      erases = λ fits. ap (λ (s : Flash). (turn_at s block).erases) end ∙ all_erases old log block lt fits;
+      programs = λ fits. ap (λ (s : Flash). (next_page_at s block).programs) end ∙ all_programs old log old.geometry.pages block refl lt fits;
+      erases = λ fits. ap (λ (s : Flash). (next_page_at s block).erases) end ∙ all_erases old log block lt fits;
     }

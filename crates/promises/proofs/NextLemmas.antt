@@ -10,7 +10,7 @@ use Rattle.page_layout.specs.Sound.{is_erased_page}
 use Rattle.page_layout.specs.Block.{block_pages, is_programmed, past_last}
 use Rattle.page_layout.specs.Flash.{Operation, Program, Erase}
 use Rattle.promises.specs.Log.{programs_of, erases_of}
-use Rattle.promises.specs.Legal.{Account, account_at, accounts_of, accounted, accounted_all, LegalFrom, LeavesAlone, FirstPageLaw, AfterEraseLaw, NextPageLaw}
+use Rattle.promises.specs.Legal.{Account, account_at, accounts_of, accounted, accounted_all, LegalFrom, LeavesAlone, FirstPageLaw, AfterEraseLaw, NextProgramLaw}
 use Rattle.promises.proofs.AccountLemmas.{account_of, accounted-same, accounted-other}
 use Rattle.promises.proofs.LegalLemmas.{legal_split, in_range, not_barred, first_block, none_of, differs, past_erased, in_block}
 
@@ -43,7 +43,7 @@ after_erase g image bad before between after row erased p left passed passed' h 
     let here = accounted-same g.pages old op block refl (in_range old block s.1.0.good) in
     sym (due_next g.pages (accounted g.pages old op) between after row block p left passed' refl s.1.1 alone) ∙ ap (λ (a : Account). a.next) here
 
-pub next_page : NextPageLaw
+pub next_page : NextProgramLaw
 next_page g image bad before between after row later p q left left' passed passed' h same alone =
     let op : Operation = Program row p passed left in
     let block : ℕ = row / g.pages in

@@ -1,8 +1,8 @@
 -- Runs of a device.
 use Rattle.std.proofs.Common.{◌≡◌, [], ◌∷◌, ◌++◌, refl, sym, ◌∙◌, ap, subst, suc, append_assoc}
-use Rattle.promises.specs.Step.{State, ArrayRun}
+use Rattle.promises.specs.Step.{ArrayState, ArrayRun}
 use Rattle.promises.specs.Run.{DeviceView, state_of, Run, commands_of, replies_of, log_of, OneMoreEventLaw, RunJoinLaw, LastLaw, OneLogLaw}
-use Rattle.promises.specs.Run.{AnswersLaw, StaysReadOnlyLaw, EachLaw, LogsLaw}
+use Rattle.promises.specs.Run.{AnswersLaw, StaysReadOnlyLaw, EachLaw, LogOfRunsLaw}
 use Rattle.promises.proofs.StepLemmas.{read_only}
 use Rattle.page_layout.proofs.FlashLemmas.{Leads-append, geometry-Leads}
 
@@ -31,12 +31,12 @@ pub stays_read_only : StaysReadOnlyLaw
 stays_read_only old new [] h ro = ap (λ (d : DeviceView). d.ro) h ∙ ro
 stays_read_only old new (e ∷ events) h ro =
     let same : state_of e.left ≡ state_of old = read_only old.flash.geometry (state_of old) (state_of e.left) e.command e.reply ro h.0.step in
-    stays_read_only e.left new events h.1 (ap (λ (s : State). s.ro) same ∙ ro)
+    stays_read_only e.left new events h.1 (ap (λ (s : ArrayState). s.ro) same ∙ ro)
 
 pub each : EachLaw
 each [] = (refl, refl)
 each (e ∷ events) = let r = each events in (ap suc r.0, ap suc r.1)
 
-pub logs : LogsLaw
+pub logs : LogOfRunsLaw
 logs [] ys = refl
 logs (e ∷ xs) ys = ap (λ l. e.piece ++ l) (logs xs ys) ∙ sym (append_assoc e.piece (log_of xs) (log_of ys))

@@ -25,12 +25,12 @@ unfoldable pub accounts_of : Geometry → Image → (ℕ → Bool) → List Acco
 accounts_of g image bad = map (λ block. record { next = past_last (block_pages g image block); barred = bad block }) (range_with_len 0 g.blocks)
 
 -- a program takes the next page, an erase begins the block anew, and after a failure nothing more is done in it
-abbrev pub noted : Account → Operation → Account
-noted account (Program row page passed left) = record { next = account.next + 1; barred = not passed }
-noted account (Erase block passed left) = record { next = 0; barred = not passed }
+abbrev pub account_after : Account → Operation → Account
+account_after account (Program row page passed left) = record { next = account.next + 1; barred = not passed }
+account_after account (Erase block passed left) = record { next = 0; barred = not passed }
 
 unfoldable pub accounted : ℕ → List Account → Operation → List Account
-accounted pages accounts op = slice_set accounts (block_of pages op) (noted (account_at accounts (block_of pages op)) op)
+accounted pages accounts op = slice_set accounts (block_of pages op) (account_after (account_at accounts (block_of pages op)) op)
 
 abbrev pub accounted_all : ℕ → List Account → List Operation → List Account
 accounted_all pages accounts [] = accounts
@@ -74,8 +74,8 @@ abbrev pub AccountsLaw : Type 0
 AccountsLaw = (pages : ℕ) (accounts : List Account) (xs ys : List Operation) → accounted_all pages accounts (xs ++ ys) ≡ accounted_all pages (accounted_all pages accounts xs) ys
 
 -- one more operation has to be due
-abbrev pub OneMoreLaw : Type 0
-OneMoreLaw = (pages : ℕ) (accounts : List Account) (log : List Operation) (op : Operation) → LegalFrom pages accounts (log ++ op ∷ [])
+abbrev pub OneMoreIsDueLaw : Type 0
+OneMoreIsDueLaw = (pages : ℕ) (accounts : List Account) (log : List Operation) (op : Operation) → LegalFrom pages accounts (log ++ op ∷ [])
     ↔ (LegalFrom pages accounts log × IsDue pages (accounted_all pages accounts log) op)
 
 -- ---- what the check is for, without its account
@@ -124,7 +124,7 @@ AfterEraseLaw = (g : Geometry) (image : Image) (bad : ℕ → Bool) (before betw
     → IsLegal g image bad (before ++ Erase (row / g.pages) passed erased ∷ (between ++ Program row p passed' left ∷ after)) → LeavesAlone g.pages between (row / g.pages) → row % g.pages ≡ 0
 
 -- and its next program after a program is of the next page
-abbrev pub NextPageLaw : Type 0
-NextPageLaw = (g : Geometry) (image : Image) (bad : ℕ → Bool) (before between after : List Operation) (row later : ℕ) (p q left left' : Page) (passed passed' : Bool)
+abbrev pub NextProgramLaw : Type 0
+NextProgramLaw = (g : Geometry) (image : Image) (bad : ℕ → Bool) (before between after : List Operation) (row later : ℕ) (p q left left' : Page) (passed passed' : Bool)
     → IsLegal g image bad (before ++ Program row p passed left ∷ (between ++ Program later q passed' left' ∷ after)) → later / g.pages ≡ row / g.pages → LeavesAlone g.pages between (row / g.pages)
     → later % g.pages ≡ row % g.pages + 1

@@ -9,7 +9,7 @@ use Rattle.page_layout.specs.Sound.{is_erased_page}
 use Rattle.page_layout.specs.Block.{block_pages}
 use Rattle.page_layout.specs.Change.{one_if}
 use Rattle.page_layout.specs.Count.{blocks_that}
-use Rattle.page_layout.specs.Flash.{Operation, Program, Erase, Flash, Leads, IsWhole, turn_at}
+use Rattle.page_layout.specs.Flash.{Operation, Program, Erase, Flash, Leads, IsWhole, next_page_at}
 
 -- the block that an operation names
 abbrev pub block_of : ℕ → Operation → ℕ
@@ -70,11 +70,11 @@ abbrev pub free_of : Geometry → (ℕ → Bool) → List Operation → Image �
 free_of g bad log image block = good_of g.pages bad log block && list_all is_erased_page (block_pages g image block)
 
 -- how many there are
-abbrev pub good_count : Geometry → (ℕ → Bool) → List Operation → ℕ
-good_count g bad log = blocks_that g (good_of g.pages bad log)
+abbrev pub good_count_after : Geometry → (ℕ → Bool) → List Operation → ℕ
+good_count_after g bad log = blocks_that g (good_of g.pages bad log)
 
-abbrev pub free_count : Geometry → (ℕ → Bool) → List Operation → Image → ℕ
-free_count g bad log image = blocks_that g (free_of g bad log image)
+abbrev pub free_count_after : Geometry → (ℕ → Bool) → List Operation → Image → ℕ
+free_count_after g bad log image = blocks_that g (free_of g bad log image)
 
 abbrev pub failed_count : Geometry → List Operation → ℕ
 failed_count g log = blocks_that g (failed_in g.pages log)
@@ -82,7 +82,7 @@ failed_count g log = blocks_that g (failed_in g.pages log)
 -- A SHORTAGE. After the call fewer than `need_at` blocks are good, or more than two failed in the call, or the device was read-only
 -- before it. `before` is the log up to the call, `call` what the call added.
 abbrev pub IsShort : Geometry → (share : ℕ) → (ℕ → Bool) → (before call : List Operation) → Bool → Type 0
-IsShort g share bad before call ro = (good_count g bad (before ++ call) < need_at g share) ⊎ (2 < failed_count g call) ⊎ (ro ≡ true)
+IsShort g share bad before call ro = (good_count_after g bad (before ++ call) < need_at g share) ⊎ (2 < failed_count g call) ⊎ (ro ≡ true)
 
 -- ---- laws
 
@@ -118,12 +118,12 @@ BadStaysLaw = (pages block : ℕ) (bad : ℕ → Bool) (xs ys : List Operation) 
 
 -- a log leaves nothing out: the die counts for each block what was asked for, and the log has it all
 pub record CountsAll (old new : Flash) (log : List Operation) (block : ℕ) : Type 0 where
-  pub programs : (turn_at old block).programs + programs_of old.geometry.pages log block < 2 ^ 64
-      → (turn_at new block).programs ≡ (turn_at old block).programs + programs_of old.geometry.pages log block
-  pub erases : (turn_at old block).erases + erases_of log block < 2 ^ 64 → (turn_at new block).erases ≡ (turn_at old block).erases + erases_of log block
+  pub programs : (next_page_at old block).programs + programs_of old.geometry.pages log block < 2 ^ 64
+      → (next_page_at new block).programs ≡ (next_page_at old block).programs + programs_of old.geometry.pages log block
+  pub erases : (next_page_at old block).erases + erases_of log block < 2 ^ 64 → (next_page_at new block).erases ≡ (next_page_at old block).erases + erases_of log block
 
 abbrev pub CompleteLaw : Type 0
-CompleteLaw = (old new : Flash) (log : List Operation) (block : ℕ) → block < length old.turns → Leads old log new → CountsAll old new log block
+CompleteLaw = (old new : Flash) (log : List Operation) (block : ℕ) → block < length old.next_pages → Leads old log new → CountsAll old new log block
 
 -- ---- what the counts are
 
@@ -137,10 +137,10 @@ SumsLaw = (old new : Flash) (log : List Operation) → IsWhole old → Leads old
 
 -- and so it is what the blocks of the die have counted since, where none of them stands at its top
 pub record CountsSince (old new : Flash) (log : List Operation) : Type 0 where
-  pub programs : ((block : ℕ) → (turn_at old block).programs + programs_of old.geometry.pages log block < 2 ^ 64)
-      → sum_by (λ block. (turn_at new block).programs) (range_with_len 0 old.geometry.blocks) ≡ sum_by (λ block. (turn_at old block).programs) (range_with_len 0 old.geometry.blocks) + programs_in log
-  pub erases : ((block : ℕ) → (turn_at old block).erases + erases_of log block < 2 ^ 64)
-      → sum_by (λ block. (turn_at new block).erases) (range_with_len 0 old.geometry.blocks) ≡ sum_by (λ block. (turn_at old block).erases) (range_with_len 0 old.geometry.blocks) + erases_in log
+  pub programs : ((block : ℕ) → (next_page_at old block).programs + programs_of old.geometry.pages log block < 2 ^ 64)
+      → sum_by (λ block. (next_page_at new block).programs) (range_with_len 0 old.geometry.blocks) ≡ sum_by (λ block. (next_page_at old block).programs) (range_with_len 0 old.geometry.blocks) + programs_in log
+  pub erases : ((block : ℕ) → (next_page_at old block).erases + erases_of log block < 2 ^ 64)
+      → sum_by (λ block. (next_page_at new block).erases) (range_with_len 0 old.geometry.blocks) ≡ sum_by (λ block. (next_page_at old block).erases) (range_with_len 0 old.geometry.blocks) + erases_in log
 
 abbrev pub SinceLaw : Type 0
 SinceLaw = (old new : Flash) (log : List Operation) → IsWhole old → Leads old log new → CountsSince old new log
@@ -160,7 +160,7 @@ FailedLaw = (pages block : ℕ) (log : List Operation) → (failed_in pages log 
 
 -- each block is good or bad
 abbrev pub GoodLaw : Type 0
-GoodLaw = (g : Geometry) (bad : ℕ → Bool) (log : List Operation) → good_count g bad log + blocks_that g (bad_of g.pages bad log) ≡ g.blocks
+GoodLaw = (g : Geometry) (bad : ℕ → Bool) (log : List Operation) → good_count_after g bad log + blocks_that g (bad_of g.pages bad log) ≡ g.blocks
 
 -- the pages of the block are erased
 abbrev pub AreErased : Geometry → Image → ℕ → Type 0
@@ -173,7 +173,7 @@ FreeLaw = (g : Geometry) (bad : ℕ → Bool) (log : List Operation) (image : Im
 
 -- each block is free or isn't
 abbrev pub FreeCountLaw : Type 0
-FreeCountLaw = (g : Geometry) (bad : ℕ → Bool) (log : List Operation) (image : Image) → free_count g bad log image + blocks_that g (λ block. not (free_of g bad log image block)) ≡ g.blocks
+FreeCountLaw = (g : Geometry) (bad : ℕ → Bool) (log : List Operation) (image : Image) → free_count_after g bad log image + blocks_that g (λ block. not (free_of g bad log image block)) ≡ g.blocks
 
 -- ---- shortages worked out by hand, of a die of 24 blocks that needs 17
 

@@ -5,7 +5,7 @@ use Rattle.page_layout.specs.Page.{Image}
 use Rattle.page_layout.specs.Array.{array_of}
 use Rattle.page_layout.specs.Flash.{Flash, Operation, Leads}
 use Rattle.page_layout.specs.Recording.{Recording}
-use Rattle.promises.specs.Step.{State, Command, Reply, ArrayStep, ArrayRun}
+use Rattle.promises.specs.Step.{ArrayState, Command, Reply, ArrayStep, ArrayRun}
 
 -- a device between two commands: its die, whether it is read-only, and whether a block of it is being collected from turn to turn
 pub record DeviceView : Type 0 where
@@ -14,7 +14,7 @@ pub record DeviceView : Type 0 where
   pub pinned : Bool
 
 -- the array that the die's image holds
-abbrev pub state_of : DeviceView → State
+abbrev pub state_of : DeviceView → ArrayState
 state_of d = record { array = array_of d.flash.geometry d.flash.image; ro = d.ro }
 
 -- a command, its reply, the piece of the log that came in it, the device afterwards, and the record that its die tells then
@@ -84,5 +84,5 @@ abbrev pub EachLaw : Type 0
 EachLaw = (events : List Event) → (length (replies_of events) ≡ length (commands_of events)) × (length (images_of events) ≡ length (commands_of events))
 
 -- the log of two runs in a row
-abbrev pub LogsLaw : Type 0
-LogsLaw = (xs ys : List Event) → log_of (xs ++ ys) ≡ log_of xs ++ log_of ys
+abbrev pub LogOfRunsLaw : Type 0
+LogOfRunsLaw = (xs ys : List Event) → log_of (xs ++ ys) ≡ log_of xs ++ log_of ys

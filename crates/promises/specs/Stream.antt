@@ -86,15 +86,15 @@ pub record Splits (data_bytes : ℕ) (stream : List ℕ) (requests : List Reques
 
 -- ---- replies
 
-abbrev pub status_of : Reply → ℕ
-status_of Done = 0
-status_of (DoneWith bytes) = 0
-status_of OutOfRange = 1
-status_of ReadOnly = 2
-status_of SequenceSpent = 3
-status_of OutOfMemory = 4
-status_of Damaged = 5
-status_of BusFault = 6
+abbrev pub reply_status : Reply → ℕ
+reply_status Done = 0
+reply_status (DoneWith bytes) = 0
+reply_status OutOfRange = 1
+reply_status ReadOnly = 2
+reply_status SequenceSpent = 3
+reply_status OutOfMemory = 4
+reply_status Damaged = 5
+reply_status BusFault = 6
 
 -- after a read that was done its sector
 abbrev pub reply_body : Reply → List ℕ
@@ -103,7 +103,7 @@ reply_body _ = []
 
 -- "df", the op, the status, the tag
 abbrev pub reply_bytes : Request → Reply → List ℕ
-reply_bytes r reply = 100 ∷ 102 ∷ op_code r.op ∷ status_of reply ∷ (to_le_bytes w32 r.tag ++ reply_body reply)
+reply_bytes r reply = 100 ∷ 102 ∷ op_code r.op ∷ reply_status reply ∷ (to_le_bytes w32 r.tag ++ reply_body reply)
 
 -- the one answer to a bad header: status 7, op and tag 0
 abbrev pub last_bytes : End → List ℕ

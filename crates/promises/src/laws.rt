@@ -1,11 +1,11 @@
 //! What a reader would ask of the definitions first. Each function does nothing: its contract is the law.
-ghost use Rattle.promises.specs.Step.{OneReadLaw, ReadBackLaw, TrimmedLaw, QuietLaw, KeptLaw, ReadOnlyLaw, SectorCountLaw, NeverLaw, RepliesLaw, SixLaw, OtherBytesLaw};
+ghost use Rattle.promises.specs.Step.{OneReadLaw, ReadBackLaw, TrimmedLaw, FlushAndTurnLaw, KeptLaw, ReadOnlyLaw, SectorCountLaw, NeverLaw, RepliesLaw, SixLaw, OtherBytesLaw};
 ghost use Rattle.promises.specs.Log.{CountsLaw, PassedErasesLaw, BadJoinLaw, BadStaysLaw, CompleteLaw};
 ghost use Rattle.promises.specs.Step.{MayAnswerLaw, PastLaw, AfterReadOnlyLaw, RefusesLaw};
 ghost use Rattle.promises.specs.Log.{SumsLaw, SinceLaw, FailedLaw, GoodLaw, FreeLaw, FreeCountLaw, FewGoodLaw, ThreeFailedLaw, FewLeftLaw, FailedProgramLaw, ReadOnlyBeforeLaw, TwoFailedLaw};
-ghost use Rattle.promises.specs.Legal.{EmptyLaw, JoinLaw, AccountsLaw, OneMoreLaw, NoBadBlockLaw, NotTwiceLaw, OnErasedLaw, InOrderLaw};
-ghost use Rattle.promises.specs.Legal.{FirstPageLaw, AfterEraseLaw, NextPageLaw};
-ghost use Rattle.promises.specs.Run.{OneMoreEventLaw, RunJoinLaw, LastLaw, OneLogLaw, AnswersLaw, StaysReadOnlyLaw, EachLaw, LogsLaw};
+ghost use Rattle.promises.specs.Legal.{EmptyLaw, JoinLaw, AccountsLaw, OneMoreIsDueLaw, NoBadBlockLaw, NotTwiceLaw, OnErasedLaw, InOrderLaw};
+ghost use Rattle.promises.specs.Legal.{FirstPageLaw, AfterEraseLaw, NextProgramLaw};
+ghost use Rattle.promises.specs.Run.{OneMoreEventLaw, RunJoinLaw, LastLaw, OneLogLaw, AnswersLaw, StaysReadOnlyLaw, EachLaw, LogOfRunsLaw};
 ghost use Rattle.promises.specs.Stream.{OneWayLaw, SomeWayLaw, RepliesJoinLaw, BadHeaderLastLaw, OpLaw, CutShortLaw, CutShortOutLaw, BadHeaderLaw, ElevenLaw};
 ghost use Rattle.promises.specs.Stream.{FiveLaw, FiveCommandsLaw, FiveOutLaw, RefusalsLaw};
 ghost use Rattle.promises.specs.Stop.{NoOperationLaw, TornInOneLaw, BetweenLaw, StopsJoinLaw, ImageLaw};
@@ -18,7 +18,7 @@ pub fn step_laws()
     ensures one_read { OneReadLaw }
     ensures read_back { ReadBackLaw }
     ensures trimmed { TrimmedLaw }
-    ensures quiet { QuietLaw }
+    ensures quiet { FlushAndTurnLaw }
     ensures kept { KeptLaw }
     ensures read_only { ReadOnlyLaw }
     ensures sector_count { SectorCountLaw }
@@ -78,7 +78,7 @@ pub fn legal_laws()
     ensures empty { EmptyLaw }
     ensures join { JoinLaw }
     ensures accounts { AccountsLaw }
-    ensures one_more { OneMoreLaw }
+    ensures one_more { OneMoreIsDueLaw }
     ensures no_bad_block { NoBadBlockLaw }
     ensures not_twice { NotTwiceLaw }
     ensures on_erased { OnErasedLaw }
@@ -90,7 +90,7 @@ pub fn legal_laws()
 pub fn next_page_laws()
     ensures first { FirstPageLaw }
     ensures after_erase { AfterEraseLaw }
-    ensures next { NextPageLaw }
+    ensures next { NextProgramLaw }
 {}
 
 /// Runs: one more event, two in a row, the last device, the one log, the answers as a run of the array, and that a device that is read-only
@@ -103,7 +103,7 @@ pub fn run_laws()
     ensures answers { AnswersLaw }
     ensures read_only { StaysReadOnlyLaw }
     ensures each { EachLaw }
-    ensures logs { LogsLaw }
+    ensures logs { LogOfRunsLaw }
 {}
 
 /// The request stream: it splits in just one way, and in some way; and the answer to a bad header comes last. (This project.)

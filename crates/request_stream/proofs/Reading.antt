@@ -8,13 +8,13 @@ use Rattle.promises.specs.declared.stream.Op.{Op}
 use Rattle.promises.specs.declared.stream.Op.TheVariants.{Read, Write, Trim, Flush, Turn}
 use Rattle.promises.specs.declared.stream.End.{End}
 use Rattle.promises.specs.declared.stream.End.TheVariants.{Unfinished}
-use Rattle.request_stream.specs.Frames.{Rests, ReadsBody, ReadsRequest, body_at, request_at}
+use Rattle.request_stream.specs.Frames.{Rests, ReadsAfterHeader, ReadsRequest, body_in_buffer, request_at}
 use Rattle.request_stream.specs.declared.header.Header.{Header}
 use Rattle.request_stream.specs.declared.reply.ServeFault.{ServeFault}
 use Rattle.request_stream.specs.declared.request.Next.{Next}
 use Rattle.request_stream.specs.declared.request.Next.TheVariants as next
 
-by_op : (op : Op) (buffer : List ℕ) → length (body_at op buffer) ≡ body_length (length buffer) op
+by_op : (op : Op) (buffer : List ℕ) → length (body_in_buffer op buffer) ≡ body_length (length buffer) op
 by_op Read buffer = refl
 by_op Write buffer = refl
 by_op Trim buffer = refl
@@ -30,10 +30,10 @@ begun h part = record { op = h.op; tag = h.tag; sector = h.sector; body = part }
 
 -- the header's bytes, and then what was read of the body
 pub after_header : (h : Header) (u m v : Option (List ℕ)) (buffer bytes : List ℕ) (r : Result Next ServeFault)
-    → h.tag < 2 ^ 32 → h.sector < 2 ^ 32 → length bytes ≡ 12 → bytes ≡ header_bytes (request_at h []) → Consumes u m bytes → ReadsBody (length buffer) h m v buffer r → ReadsRequest (length buffer) u v buffer r
+    → h.tag < 2 ^ 32 → h.sector < 2 ^ 32 → length bytes ≡ 12 → bytes ≡ header_bytes (request_at h []) → Consumes u m bytes → ReadsAfterHeader (length buffer) h m v buffer r → ReadsRequest (length buffer) u v buffer r
 unfolding begun
 after_header h u m v buffer bytes (Ok (next.Whole k)) tag sector twelve spelled first (same, body) =
-    let whole : Consumes u v (request_bytes (request_at h buffer)) = subst (λ l. Consumes u v (l ++ body_at h.op buffer)) spelled (Consumes-trans u m v bytes _ first body) in
+    let whole : Consumes u v (request_bytes (request_at h buffer)) = subst (λ l. Consumes u v (l ++ body_in_buffer h.op buffer)) spelled (Consumes-trans u m v bytes _ first body) in
     subst (λ (x : Header). IsRequest (length buffer) (request_at x buffer) × Consumes u v (request_bytes (request_at x buffer))) (sym same) (is_request_at h buffer tag sector, whole)
 after_header h u m v buffer bytes (Ok (next.Ended e)) tag sector twelve spelled first (same, ended, part, short, body) =
     let long : 0 < length (bytes ++ part) = omega (arith, length-append bytes part) in
@@ -50,7 +50,7 @@ pub some_part : (n : ℕ) (buffer : List ℕ) → n ≤ length buffer → n ≢ 
 some_part n buffer within some = omega (arith, length-take-le n buffer within)
 
 -- nothing follows the header of what is no write
-pub none_follows : (op : Op) (buffer : List ℕ) → op ≢ Write → body_at op buffer ≡ []
+pub none_follows : (op : Op) (buffer : List ℕ) → op ≢ Write → body_in_buffer op buffer ≡ []
 none_follows Read buffer other = refl
 none_follows Write buffer other = absurd (other refl)
 none_follows Trim buffer other = refl

@@ -1,5 +1,5 @@
 -- How the requests of a stream are read one by one, and how replies are written.
-use Rattle.std.specs.Prelude.{◌≡◌, ◌≢◌, ◌<◌, ℕ, false, List, [], ◌∷◌, ◌++◌, length, Option, Result, Ok, Err}
+use Rattle.std.specs.Prelude.{◌≡◌, ◌≢◌, ◌<◌, ℕ, false, List, [], ◌∷◌, ◌++◌, length, Option, Some, None, Result, Ok, Err}
 use Rattle.std.specs.Int.{to_le_bytes, w32}
 use Rattle.std.specs.Io.KnownBytes.{Appends, Consumes, IsAtEnd}
 use Rattle.promises.specs.Stream.{Request, IsRequest, IsBeginning, IsRest, body_length, is_header, request_bytes}
@@ -13,19 +13,24 @@ use Rattle.request_stream.specs.declared.reply.ServeFault.TheVariants as fault
 use Rattle.request_stream.specs.declared.request.Next.{Next}
 use Rattle.request_stream.specs.declared.request.Next.TheVariants as next
 
+-- the known bytes that a reader has left
+abbrev pub known_bytes_left : Option (List ℕ) → List ℕ
+known_bytes_left None = []
+known_bytes_left (Some bytes) = bytes
+
 -- ---- requests
 
 -- what follows the header of a request, out of a buffer of one sector
-abbrev pub body_at : Op → List ℕ → List ℕ
-body_at Read buffer = []
-body_at Write buffer = buffer
-body_at Trim buffer = []
-body_at Flush buffer = []
-body_at Turn buffer = []
+abbrev pub body_in_buffer : Op → List ℕ → List ℕ
+body_in_buffer Read buffer = []
+body_in_buffer Write buffer = buffer
+body_in_buffer Trim buffer = []
+body_in_buffer Flush buffer = []
+body_in_buffer Turn buffer = []
 
 -- the request of this header, with its body in the buffer
 abbrev pub request_at : Header → List ℕ → Request
-request_at h buffer = record { op = h.op; tag = h.tag; sector = h.sector; body = body_at h.op buffer }
+request_at h buffer = record { op = h.op; tag = h.tag; sector = h.sector; body = body_in_buffer h.op buffer }
 
 -- What was read after the last whole request, and why no more was: the reader has ended, after nothing or after a beginning of a
 -- request, or the twelve bytes are no header.
@@ -41,10 +46,10 @@ ReadsRequest size unread left buffer (Ok (next.Ended end)) = (tail : List ℕ) �
 ReadsRequest size unread left buffer (Err e) = (e ≡ fault.Read) × (tail : List ℕ) × IsBeginning size tail × Consumes unread left tail
 
 -- the same, once the header was read
-abbrev pub ReadsBody : ℕ → Header → Option (List ℕ) → Option (List ℕ) → List ℕ → Result Next ServeFault → Type 0
-ReadsBody size header unread left buffer (Ok (next.Whole h)) = (h ≡ header) × Consumes unread left (body_at header.op buffer)
-ReadsBody size header unread left buffer (Ok (next.Ended end)) = (end ≡ Unfinished) × IsAtEnd left × (part : List ℕ) × (length part < body_length size header.op) × Consumes unread left part
-ReadsBody size header unread left buffer (Err e) = (e ≡ fault.Read) × (part : List ℕ) × (length part < body_length size header.op) × Consumes unread left part
+abbrev pub ReadsAfterHeader : ℕ → Header → Option (List ℕ) → Option (List ℕ) → List ℕ → Result Next ServeFault → Type 0
+ReadsAfterHeader size header unread left buffer (Ok (next.Whole h)) = (h ≡ header) × Consumes unread left (body_in_buffer header.op buffer)
+ReadsAfterHeader size header unread left buffer (Ok (next.Ended end)) = (end ≡ Unfinished) × IsAtEnd left × (part : List ℕ) × (length part < body_length size header.op) × Consumes unread left part
+ReadsAfterHeader size header unread left buffer (Err e) = (e ≡ fault.Read) × (part : List ℕ) × (length part < body_length size header.op) × Consumes unread left part
 
 -- ---- replies
 

@@ -1,6 +1,6 @@
 //! The next request of a stream.
 ghost use Rattle.std.specs.Prelude.{length};
-ghost use Rattle.request_stream.specs.Frames.{ReadsBody, ReadsRequest};
+ghost use Rattle.request_stream.specs.Frames.{ReadsAfterHeader, ReadsRequest};
 
 use crate::header::Header;
 use crate::reply::ServeFault;
@@ -19,7 +19,7 @@ pub enum Next {
 
 // Reads what follows a header that was read.
 fn read_body<R: Read>(reader: &mut R, header: Header, body: &mut [u8]) -> Result<Next, ServeFault>
-    ensures { ReadsBody (length body.new) header (R.remaining reader.old) (R.remaining reader.new) body.new result }
+    ensures { ReadsAfterHeader (length body.new) header (R.remaining reader.old) (R.remaining reader.new) body.new result }
 {
     if header.op != Op::Write {
         return Ok(Next::Whole(header));

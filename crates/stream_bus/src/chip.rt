@@ -9,7 +9,7 @@ use corrected_nand::ChipBus;
 pub trait ChipLink: Link {
     ghost use Rattle.std.specs.Prelude.{Bool};
     ghost use Rattle.page_layout.specs.Flash.{Flash};
-    ghost use Rattle.corrected_nand.specs.ChipBus.{SteadyLaw, ReadLaw, ProgramLaw, EraseLaw};
+    ghost use Rattle.corrected_nand.specs.ChipBus.{SteadyLaw, ReadLaw, CodedProgramLaw, ChipEraseLaw};
     ghost use Rattle.stream_bus.specs.Carried.{SentAsFrame};
 
     /// The die that the chip is, without the codes.
@@ -25,10 +25,10 @@ pub trait ChipLink: Link {
     ghost read: { ReadLaw Self chip keeps (SentAsFrame Self.called) };
 
     /// What a program does.
-    ghost programmed: { ProgramLaw Self chip keeps (SentAsFrame Self.called) };
+    ghost programmed: { CodedProgramLaw Self chip keeps (SentAsFrame Self.called) };
 
     /// What an erase does.
-    ghost erased: { EraseLaw Self chip keeps (SentAsFrame Self.called) };
+    ghost erased: { ChipEraseLaw Self chip keeps (SentAsFrame Self.called) };
 }
 
 impl<L: ChipLink> ChipBus for StreamBus<L> {

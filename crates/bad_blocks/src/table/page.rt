@@ -1,8 +1,8 @@
 //! Table pages: the bytes that keep the table on flash.
 ghost use Rattle.std.specs.Prelude.{◌≡◌, ℕ, ◌+◌, ◌*◌, ◌/◌, ◌%◌, ◌<◌, ◌≤◌, ◌^◌, All, List, length, IsOk, IfErr, OnOk, OnErr};
 ghost use Rattle.page_layout.specs.Limits.{IsDataSize};
-ghost use Rattle.bad_blocks.specs.Table.{IsCounted, unworn};
-ghost use Rattle.bad_blocks.specs.TablePage.{word_of, table_word, is_right, table_bytes, IsTablePage, IsWellFormed, IsFirstWrong, KeepsOthers};
+ghost use Rattle.bad_blocks.specs.Table.{HasFittingWear, unworn};
+ghost use Rattle.bad_blocks.specs.TablePage.{word_of, table_word, is_right, table_bytes, IsTablePage, IsWellFormed, IsFirstWrongWord, KeepsOthers};
 
 use super::{Table, TableRow, count_good};
 use crate::class::Class;
@@ -27,14 +27,14 @@ pub enum TableFault {
 }
 
 fn word_from(row: TableRow) -> u32
-    requires { IsCounted row }
+    requires { HasFittingWear row }
     ensures { result ≡ word_of row }
 {
     row.class.code() as u32 + 256 * row.wear
 }
 
 fn word_of_block(rows: &[TableRow], block: usize) -> u32
-    requires { All IsCounted rows.now }
+    requires { All HasFittingWear rows.now }
     ensures { result ≡ table_word rows.now block }
 {
     match rows.get(block) {
@@ -57,7 +57,7 @@ fn word_of_unworn(classes: &[Class], block: usize) -> u32
 fn row_from(word: u32) -> TableRow
     requires { word % 256 < 3 }
     ensures is { word_of result ≡ word }
-    ensures counted { IsCounted result }
+    ensures counted { HasFittingWear result }
 {
     let class = match word % 256 {
         0 => Class::Good,
@@ -104,7 +104,7 @@ fn block_of(u: u32, entries: u32, i: u32) -> usize
 fn judge(blocks: usize, u: u32, page: &[u8]) -> Result<(), TableFault>
     requires { IsDataSize (length page.now) }
     ensures ok { OnOk result (IsWellFormed (length page.now / 4) blocks u page.now) }
-    ensures err { IfErr result (IsFirstWrong (length page.now / 4) blocks u page.now) }
+    ensures err { IfErr result (IsFirstWrongWord (length page.now / 4) blocks u page.now) }
 {
     let entries = entries_of(page);
     for i in 0..entries {
@@ -121,7 +121,7 @@ fn judge(blocks: usize, u: u32, page: &[u8]) -> Result<(), TableFault>
 }
 
 fn write_words(rows: &[TableRow], u: u32, page: &mut [u8])
-    requires counted { All IsCounted rows.now }
+    requires counted { All HasFittingWear rows.now }
     requires size { IsDataSize (length page.old) }
     ensures { IsTablePage (length page.old / 4) rows.now u page.new }
 {
@@ -143,13 +143,13 @@ fn write_unworn_words(classes: &[Class], u: u32, page: &mut [u8])
 
 // Takes the words of table page `u`, all of them right, for the rows of its blocks.
 fn read_words(rows: &mut [TableRow], u: u32, page: &[u8])
-    requires counted { All IsCounted rows.old }
+    requires counted { All HasFittingWear rows.old }
     requires size { IsDataSize (length page.now) }
     requires right { IsWellFormed (length page.now / 4) (length rows.old) u page.now }
     ensures words { IsTablePage (length page.now / 4) rows.new u page.now }
     ensures spelled { page.now ≡ table_bytes (length page.now / 4) rows.new u }
     ensures others { KeepsOthers (length page.now / 4) u rows.old rows.new }
-    ensures counted { All IsCounted rows.new }
+    ensures counted { All HasFittingWear rows.new }
 {
     let entries = entries_of(page);
     for i in 0..entries {
@@ -189,10 +189,10 @@ pub fn read_table_page(table: &mut Table, u: u32, page: &[u8]) -> Result<(), Tab
     ensures words { OnOk result (IsTablePage (length page.now / 4) table.new u page.now) }
     ensures others { OnOk result (KeepsOthers (length page.now / 4) u table.old table.new) }
     // What is wrong stands in the lowest wrong word.
-    ensures err { IfErr result (IsFirstWrong (length page.now / 4) (length table.old) u page.now) }
+    ensures err { IfErr result (IsFirstWrongWord (length page.now / 4) (length table.old) u page.now) }
     ensures unchanged { OnErr result (table.new ≡ table.old) }
     // A page of whatever table of so many blocks is read.
-    ensures only { (rows : List TableRow) → length rows ≡ length table.old → All IsCounted rows →
+    ensures only { (rows : List TableRow) → length rows ≡ length table.old → All HasFittingWear rows →
         page.now ≡ table_bytes (length page.now / 4) rows u → IsOk result }
 {
     judge(table.rows.len(), u, page)?;

@@ -8,7 +8,7 @@ ghost use Rattle.collection.specs.Truth as truth;
 ghost use Rattle.collection.specs.Results.{Refused};
 ghost use Rattle.collection.specs.Collect.{KeepsKeys, Refreshes, GoesBut, IsReleased, IsEmptied, CollectCosts, CollectsFew, CollectCounts, IsThrifty, OwesNone};
 ghost use Rattle.collection.specs.Whole.{next_of, step_within, work_left};
-ghost use Rattle.collection.specs.Left.{IsHalfDone, IsFew, HasPassed, PinIsFew};
+ghost use Rattle.collection.specs.Left.{IsHalfDone, IsFew, HasPassedNoNewest, PinIsFew};
 ghost use Rattle.collection.specs.Acts.{EngineActs, Stands};
 ghost use Rattle.collection.specs.Stops.{CutsSafely, StopsSafely};
 
@@ -56,31 +56,31 @@ impl<N: Nand> Engine<N> {
         ensures refreshes { flushing ≡ true → Refreshes (ram self.old) (ram self.new) }
         ensures cost { CollectCosts flushing pinned.block (ram self.old) (ram self.new) result }
         ensures sparing { N.view.honest self.old.nand ≡ true → truth.IsTrue None (ram self.old) (image_in N.view.flash self.old) →
-            HasPassed (ram self.old) (image_in N.view.flash self.old) pinned → OwesNone flushing (ram self.old) →
+            HasPassedNoNewest (ram self.old) (image_in N.view.flash self.old) pinned → OwesNone flushing (ram self.old) →
             OnOk result (CollectsFew flushing pinned.block (ram self.old) (ram self.new)) }
         ensures reads { N.view.reads self.new.nand ≤
             N.view.reads self.old.nand + (2 * (self.old.geometry.pages - pinned.first) + min self.old.geometry.pages (translation_pages self.old.geometry)) }
         ensures erases { OnOk result (N.view.erases self.new.nand ≡ counted (N.view.erases self.old.nand)) }
         ensures less_work { OnOk result (work_left (ram self.new) < work_left (ram self.old)) }
         ensures truth { N.view.honest self.old.nand ≡ true → truth.IsTrue None (ram self.old) (image_in N.view.flash self.old) →
-            HasPassed (ram self.old) (image_in N.view.flash self.old) pinned →
+            HasPassedNoNewest (ram self.old) (image_in N.view.flash self.old) pinned →
             MatchResult result
             (λ _. IsEmptied pinned.block (ram self.old) (image_in N.view.flash self.old) (ram self.new) (image_in N.view.flash self.new))
             (Refused (ram self.old) (image_in N.view.flash self.old) (ram self.new) (image_in N.view.flash self.new)) }
         ensures count { N.view.honest self.old.nand ≡ true → truth.IsTrue None (ram self.old) (image_in N.view.flash self.old) →
-            HasPassed (ram self.old) (image_in N.view.flash self.old) pinned → IsFew 0 (ram self.old) pinned →
+            HasPassedNoNewest (ram self.old) (image_in N.view.flash self.old) pinned → IsFew 0 (ram self.old) pinned →
             CollectCounts (ram self.old) (ram self.new) result }
         ensures thrifty { N.view.honest self.old.nand ≡ true → truth.IsTrue None (ram self.old) (image_in N.view.flash self.old) →
-            HasPassed (ram self.old) (image_in N.view.flash self.old) pinned → IsFew 0 (ram self.old) pinned →
+            HasPassedNoNewest (ram self.old) (image_in N.view.flash self.old) pinned → IsFew 0 (ram self.old) pinned →
             result ≢ Err EngineFault.Bus → IsThrifty (ram self.old) (ram self.new) }
         ensures few { N.view.honest self.old.nand ≡ true → truth.IsTrue None (ram self.old) (image_in N.view.flash self.old) →
-            HasPassed (ram self.old) (image_in N.view.flash self.old) pinned → IsFew 0 (ram self.old) pinned →
+            HasPassedNoNewest (ram self.old) (image_in N.view.flash self.old) pinned → IsFew 0 (ram self.old) pinned →
             result ≢ Err EngineFault.Bus → PinIsFew 0 (ram self.new) }
         ensures stops { N.view.honest self.old.nand ≡ true → truth.IsTrue None (ram self.old) (image_in N.view.flash self.old) →
-            HasPassed (ram self.old) (image_in N.view.flash self.old) pinned → result ≢ Err EngineFault.Bus →
+            HasPassedNoNewest (ram self.old) (image_in N.view.flash self.old) pinned → result ≢ Err EngineFault.Bus →
             StopsSafely N.view self.old self.new }
         ensures cut { N.view.honest self.old.nand ≡ true → truth.IsTrue None (ram self.old) (image_in N.view.flash self.old) →
-            HasPassed (ram self.old) (image_in N.view.flash self.old) pinned → result ≡ Err EngineFault.Bus →
+            HasPassedNoNewest (ram self.old) (image_in N.view.flash self.old) pinned → result ≡ Err EngineFault.Bus →
             CutsSafely N.view self.old self.new }
     {
         let block = pinned.block;

@@ -4,12 +4,12 @@ ghost use Rattle.std.specs.Option.{option_map, ForSome};
 ghost use Rattle.page_layout.specs.Page.{Image};
 ghost use Rattle.page_layout.specs.Geometry.{translation_pages};
 ghost use Rattle.allocation.specs.State.{is_closed, live_at};
-ghost use Rattle.collection.specs.Safe.{IsSafe, IsIdle, ram, image_in, page_in};
+ghost use Rattle.collection.specs.Safe.{IsSafe, IsIdle, ram, image_in, page_in_buffer};
 ghost use Rattle.collection.specs.Truth as truth;
 ghost use Rattle.collection.specs.Results.{Refused, Goes};
 ghost use Rattle.collection.specs.Collect.{excess, OwesPage, Refreshes, KeepsKeys, GoesBut, IsReleased, IsBroughtOut, StepCosts, IsStepped};
 ghost use Rattle.collection.specs.Whole.{step_within, erases_after};
-ghost use Rattle.collection.specs.Left.{IsCalm, IsHalfDone, HasPassed, PinHasPassed, TouchesNoMore, pin_after, told};
+ghost use Rattle.collection.specs.Left.{IsCalm, IsHalfDone, HasPassedNoNewest, PinHasPassed, TouchesNoMore, pin_after, told};
 ghost use Rattle.collection.specs.Acts.{EngineActs, Stands};
 ghost use Rattle.collection.specs.Turns.{Advances};
 ghost use Rattle.collection.specs.Stops.{CutsSafely, StopsSafely};
@@ -116,9 +116,9 @@ impl<N: Nand> Engine<N> {
         ensures erases { IfOk result (λ progress. N.view.erases self.new.nand ≡ erases_after progress (N.view.erases self.old.nand)) }
         ensures owed { result ≡ Err EngineFault.ReadOnly → (0 < live_at (ram self.old).blocks pinned.block) ⊎ OwesPage flushing (ram self.old) }
         ensures cost { StepCosts flushing pinned.block pinned.first (ram self.old) (ram self.new) result }
-        ensures brought { (page : ℕ) → result ≡ Ok (Progress.Copied page) → IsBroughtOut (ram self.old) (ram self.new) (page_in self.new.page) }
+        ensures brought { (page : ℕ) → result ≡ Ok (Progress.Copied page) → IsBroughtOut (ram self.old) (ram self.new) (page_in_buffer self.new.page) }
         ensures truth { N.view.honest self.old.nand ≡ true → truth.IsTrue None (ram self.old) (image_in N.view.flash self.old) →
-            HasPassed (ram self.old) (image_in N.view.flash self.old) pinned →
+            HasPassedNoNewest (ram self.old) (image_in N.view.flash self.old) pinned →
             MatchResult result
             (IsStepped pinned.block (ram self.old) (image_in N.view.flash self.old) (ram self.new) (image_in N.view.flash self.new))
             (Refused (ram self.old) (image_in N.view.flash self.old) (ram self.new) (image_in N.view.flash self.new)) }
@@ -126,10 +126,10 @@ impl<N: Nand> Engine<N> {
             (page : ℕ) → result ≡ Ok (Progress.Copied page) →
             TouchesNoMore flushing pinned.block (ram self.old) (image_in N.view.flash self.old) (ram self.new) (image_in N.view.flash self.new) }
         ensures stops { N.view.honest self.old.nand ≡ true → truth.IsTrue None (ram self.old) (image_in N.view.flash self.old) →
-            HasPassed (ram self.old) (image_in N.view.flash self.old) pinned → result ≢ Err EngineFault.Bus →
+            HasPassedNoNewest (ram self.old) (image_in N.view.flash self.old) pinned → result ≢ Err EngineFault.Bus →
             StopsSafely N.view self.old self.new }
         ensures cut { N.view.honest self.old.nand ≡ true → truth.IsTrue None (ram self.old) (image_in N.view.flash self.old) →
-            HasPassed (ram self.old) (image_in N.view.flash self.old) pinned → result ≡ Err EngineFault.Bus →
+            HasPassedNoNewest (ram self.old) (image_in N.view.flash self.old) pinned → result ≡ Err EngineFault.Bus →
             CutsSafely N.view self.old self.new }
     {
         let progress = self.collect_step(pinned.block, pinned.first, flushing)?;
@@ -145,10 +145,10 @@ impl<N: Nand> Engine<N> {
         ensures acts { EngineActs N.view self.old self.new result }
         ensures advances { Advances N.view flushing pinned self.old self.new result }
         ensures stops { N.view.honest self.old.nand ≡ true → truth.IsTrue None (ram self.old) (image_in N.view.flash self.old) →
-            HasPassed (ram self.old) (image_in N.view.flash self.old) pinned → result ≢ Err EngineFault.Bus →
+            HasPassedNoNewest (ram self.old) (image_in N.view.flash self.old) pinned → result ≢ Err EngineFault.Bus →
             StopsSafely N.view self.old self.new }
         ensures cut { N.view.honest self.old.nand ≡ true → truth.IsTrue None (ram self.old) (image_in N.view.flash self.old) →
-            HasPassed (ram self.old) (image_in N.view.flash self.old) pinned → result ≡ Err EngineFault.Bus →
+            HasPassedNoNewest (ram self.old) (image_in N.view.flash self.old) pinned → result ≡ Err EngineFault.Bus →
             CutsSafely N.view self.old self.new }
     {
         let progress = self.step_on(pinned, flushing)?;

@@ -8,7 +8,7 @@ ghost use Rattle.page_layout.specs.Key.{key_of};
 ghost use Rattle.page_layout.specs.Live.{IsKeyOf};
 ghost use Rattle.page_layout.specs.Geometry.{row_count, translation_pages};
 ghost use Rattle.allocation.specs.State.{is_closed, live_at};
-ghost use Rattle.collection.specs.Safe.{IsSafe, IsIdle, ram, image_in, page_in};
+ghost use Rattle.collection.specs.Safe.{IsSafe, IsIdle, ram, image_in, page_in_buffer};
 ghost use Rattle.collection.specs.Truth as truth;
 ghost use Rattle.collection.specs.Live.{HoldsNoneIn, IsLivePage};
 ghost use Rattle.collection.specs.Results.{IsSame, IsImageKept, Refused, Goes};
@@ -149,7 +149,7 @@ impl<N: Nand> Engine<N> {
         ensures touched { N.view.honest self.old.nand ≡ true → truth.IsTrue None (ram self.old) (image_in N.view.flash self.old) →
             IfOk result (λ copied. IfSome copied (λ _. TouchesNoMore flushing block (ram self.old) (image_in N.view.flash self.old) (ram self.new) (image_in N.view.flash self.new))) }
         ensures cost { MatchResult result (λ copied. ForSome copied (λ _. HasBroughtOut flushing (ram self.old) (ram self.new))) (FaultCosts (ram self.old) (ram self.new)) }
-        ensures brought { IfOk result (λ copied. ForSome copied (λ _. IsBroughtOut (ram self.old) (ram self.new) (page_in self.new.page))) }
+        ensures brought { IfOk result (λ copied. ForSome copied (λ _. IsBroughtOut (ram self.old) (ram self.new) (page_in_buffer self.new.page))) }
         ensures truth { N.view.honest self.old.nand ≡ true → truth.IsTrue None (ram self.old) (image_in N.view.flash self.old) →
             HoldsNoneIn self.old.geometry.pages block 0 first (image_in N.view.flash self.old) →
             MatchResult result
@@ -306,7 +306,7 @@ impl<N: Nand> Engine<N> {
         ensures erases { IfOk result (λ step. N.view.erases self.new.nand ≡ erases_after step (N.view.erases self.old.nand)) }
         ensures owed { result ≡ Err EngineFault.ReadOnly → (0 < live_at (ram self.old).blocks block) ⊎ OwesPage flushing (ram self.old) }
         ensures cost { StepCosts flushing block first (ram self.old) (ram self.new) result }
-        ensures brought { (page : ℕ) → result ≡ Ok (Progress.Copied page) → IsBroughtOut (ram self.old) (ram self.new) (page_in self.new.page) }
+        ensures brought { (page : ℕ) → result ≡ Ok (Progress.Copied page) → IsBroughtOut (ram self.old) (ram self.new) (page_in_buffer self.new.page) }
         ensures truth { N.view.honest self.old.nand ≡ true → truth.IsTrue None (ram self.old) (image_in N.view.flash self.old) →
             HoldsNoneIn self.old.geometry.pages block 0 first (image_in N.view.flash self.old) →
             MatchResult result

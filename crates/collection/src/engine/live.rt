@@ -5,9 +5,9 @@ ghost use Rattle.page_layout.specs.Geometry.{row_count};
 ghost use Rattle.page_layout.specs.Live.{IsKeyOf};
 ghost use Rattle.page_layout.specs.Sound.{record_of};
 ghost use Rattle.collection.specs.Pages.{newest_row};
-ghost use Rattle.collection.specs.Safe.{IsSafe, ram, image_in, page_in};
+ghost use Rattle.collection.specs.Safe.{IsSafe, ram, image_in, page_in_buffer};
 ghost use Rattle.collection.specs.Truth as truth;
-ghost use Rattle.collection.specs.Live.{PointsTo, IsTaken, LooksAt, FindsFirst, IsFoundIn};
+ghost use Rattle.collection.specs.Live.{PointsTo, StandsInRow, LooksAt, FindsFirst, IsFoundIn};
 ghost use Rattle.collection.specs.Acts.{EngineLooks};
 
 use super::Engine;
@@ -36,7 +36,7 @@ impl<N: Nand> Engine<N> {
         ensures looks { EngineLooks N.view self.old self.new result }
         ensures page { self.new.page ≡ self.old.page }
         ensures reads { N.view.reads self.new.nand ≤ N.view.reads self.old.nand + 1 }
-        ensures points { IfOk result (PointsTo (ram self.old) (page_in self.new.scratch) key) }
+        ensures points { IfOk result (PointsTo (ram self.old) (page_in_buffer self.new.scratch) key) }
         ensures truth { N.view.honest self.old.nand ≡ true → truth.IsTrue None (ram self.old) (image_in N.view.flash self.old) →
             MatchResult result
             (λ row. row ≡ newest_row (image_in N.view.flash self.old) key)
@@ -59,10 +59,10 @@ impl<N: Nand> Engine<N> {
         ensures looks { EngineLooks N.view self.old self.new result }
         ensures reads { N.view.reads self.new.nand ≤ N.view.reads self.old.nand + 1 }
         ensures faults { IfErr result (λ fault. fault ≡ EngineFault.Bus) }
-        ensures sound { IfOk result (λ found. found ≡ record_of (page_in self.new.page)) }
-        ensures stands { N.view.honest self.old.nand ≡ true → OnOk result (slice_get (image_in N.view.flash self.old) row ≡ Some (page_in self.new.page)) }
+        ensures sound { IfOk result (λ found. found ≡ record_of (page_in_buffer self.new.page)) }
+        ensures stands { N.view.honest self.old.nand ≡ true → OnOk result (slice_get (image_in N.view.flash self.old) row ≡ Some (page_in_buffer self.new.page)) }
         ensures truth { N.view.honest self.old.nand ≡ true →
-            IfOk result (λ found. IsTaken row found self.new.page.body.items (image_in N.view.flash self.old)) }
+            IfOk result (λ found. StandsInRow row found self.new.page.body.items (image_in N.view.flash self.old)) }
     {
         match read_sound(
             &mut self.nand,
@@ -84,8 +84,8 @@ impl<N: Nand> Engine<N> {
         requires row { row < row_count self.old.geometry }
         ensures looks { EngineLooks N.view self.old self.new result }
         ensures reads { N.view.reads self.new.nand ≤ N.view.reads self.old.nand + 2 }
-        ensures checked { IfOk result (λ found. ForSome found (IsFoundIn (ram self.old) (page_in self.new.page) (page_in self.new.scratch) row)) }
-        ensures stands { N.view.honest self.old.nand ≡ true → OnOk result (slice_get (image_in N.view.flash self.old) row ≡ Some (page_in self.new.page)) }
+        ensures checked { IfOk result (λ found. ForSome found (IsFoundIn (ram self.old) (page_in_buffer self.new.page) (page_in_buffer self.new.scratch) row)) }
+        ensures stands { N.view.honest self.old.nand ≡ true → OnOk result (slice_get (image_in N.view.flash self.old) row ≡ Some (page_in_buffer self.new.page)) }
         ensures truth { N.view.honest self.old.nand ≡ true → truth.IsTrue None (ram self.old) (image_in N.view.flash self.old) →
             MatchResult result
             (LooksAt row self.new.page.body.items (image_in N.view.flash self.old))
@@ -121,7 +121,7 @@ impl<N: Nand> Engine<N> {
         ensures found_reads { IfOk result (λ found. ForSome found (λ f. N.view.reads self.new.nand ≤ N.view.reads self.old.nand + 2 * (f.0 + 1 - first))) }
         ensures within { IfOk result (λ found. ForSome found (λ f. (first ≤ f.0) × (f.0 < self.old.geometry.pages))) }
         ensures checked { IfOk result (λ found. ForSome found (λ f.
-            IsFoundIn (ram self.old) (page_in self.new.page) (page_in self.new.scratch) (block * self.old.geometry.pages + f.0) f.1)) }
+            IsFoundIn (ram self.old) (page_in_buffer self.new.page) (page_in_buffer self.new.scratch) (block * self.old.geometry.pages + f.0) f.1)) }
         ensures truth { N.view.honest self.old.nand ≡ true → truth.IsTrue None (ram self.old) (image_in N.view.flash self.old) →
             MatchResult result
             (FindsFirst self.old.geometry.pages block first self.new.page.body.items (image_in N.view.flash self.old))

@@ -9,7 +9,7 @@ ghost use Rattle.page_layout.specs.declared.record.Key.TheVariants.{Sector};
 ghost use Rattle.mapping_cache.specs.Mapping.{known};
 ghost use Rattle.translation_pages.specs.TranslationPage.{entry_at};
 ghost use Rattle.collection.specs.Pages.{newest_row};
-ghost use Rattle.collection.specs.Safe.{IsSafe, IsBuffer, ram, image_in, page_in};
+ghost use Rattle.collection.specs.Safe.{IsSafe, IsBuffer, ram, image_in, page_in_buffer};
 ghost use Rattle.collection.specs.Truth.{IsTrue};
 ghost use Rattle.collection.specs.Looks.{IsPageOf, IsRead, GivesRow, FindsRow, GivesSector, IsReadFault};
 ghost use Rattle.collection.specs.Acts.{EngineLooks};
@@ -122,7 +122,7 @@ impl<N: Nand> Engine<N> {
         ensures unmapped { known self.old.mapping sector ≡ None → slice_get self.old.directory (sector / entries self.old.geometry) ≡ Some None →
             (result ≡ Ok None) × (self.new ≡ self.old) }
         ensures checked { known self.old.mapping sector ≡ None →
-            IfOk result (GivesRow self.old.geometry self.old.directory sector (page_in self.new.scratch)) }
+            IfOk result (GivesRow self.old.geometry self.old.directory sector (page_in_buffer self.new.scratch)) }
         ensures truth { N.view.honest self.old.nand ≡ true → IsTrue None (ram self.old) (image_in N.view.flash self.old) →
             MatchResult result
             (λ row. row ≡ newest_row (image_in N.view.flash self.old) (Sector sector))
@@ -146,7 +146,7 @@ impl<N: Nand> Engine<N> {
         ensures row { IfOk result (λ row. ForSome row (λ r. r < row_count self.old.geometry)) }
         ensures unmapped { slice_get self.old.directory (sector / entries self.old.geometry) ≡ Some None →
             (result ≡ Ok None) × (self.new ≡ self.old) }
-        ensures checked { IfOk result (GivesRow self.old.geometry self.old.directory sector (page_in self.new.scratch)) }
+        ensures checked { IfOk result (GivesRow self.old.geometry self.old.directory sector (page_in_buffer self.new.scratch)) }
         ensures truth { N.view.honest self.old.nand ≡ true → IsTrue None (ram self.old) (image_in N.view.flash self.old) →
             MatchResult result
             (λ row. row ≡ newest_row (image_in N.view.flash self.old) (Sector sector))
@@ -190,9 +190,9 @@ impl<N: Nand> Engine<N> {
         ensures unwritten { known self.old.mapping sector ≡ Some None → (result ≡ Ok None) × (self.new ≡ self.old) }
         ensures unmapped { known self.old.mapping sector ≡ None → slice_get self.old.directory (sector / entries self.old.geometry) ≡ Some None →
             (result ≡ Ok None) × (self.new ≡ self.old) }
-        ensures looked_up { IfOk result (FindsRow (ram self.old) sector (page_in self.new.scratch)) }
+        ensures looked_up { IfOk result (FindsRow (ram self.old) sector (page_in_buffer self.new.scratch)) }
         ensures refused { OnErr result (out.new ≡ out.old) }
-        ensures checked { IfOk result (λ row. GivesSector self.old.geometry sector row (page_in self.new.page) out.new) }
+        ensures checked { IfOk result (λ row. GivesSector self.old.geometry sector row (page_in_buffer self.new.page) out.new) }
         ensures truth { N.view.honest self.old.nand ≡ true → IsTrue None (ram self.old) (image_in N.view.flash self.old) →
             MatchResult result
             (λ row. IsRead sector row out.new self.old.geometry (image_in N.view.flash self.old))

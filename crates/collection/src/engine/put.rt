@@ -9,7 +9,7 @@ ghost use Rattle.page_layout.specs.Live.{IsKeyOf};
 ghost use Rattle.budget.specs.Stream.{stream_of};
 ghost use Rattle.allocation.specs.View.{state};
 ghost use Rattle.collection.specs.Pages.{newest_row};
-ghost use Rattle.collection.specs.Safe.{IsSafe, IsOutside, ram, image_in, page_in};
+ghost use Rattle.collection.specs.Safe.{IsSafe, IsOutside, ram, image_in, page_in_buffer};
 ghost use Rattle.collection.specs.Maps.{IsPageFor};
 ghost use Rattle.collection.specs.Truth.{IsTrue};
 ghost use Rattle.collection.specs.Settle.{IsCachedKey};
@@ -59,7 +59,7 @@ impl<N: Nand> Engine<N> {
         ensures scratch { self.new.scratch ≡ self.old.scratch }
         ensures only_programs { OnlyPrograms N.view self.old.nand self.new.nand }
         ensures row { IfOk result (λ row. IfSome row (IsOutside (ram self.old))) }
-        ensures programmed { IfOk result (λ row. IfSome row (λ _. IsLastPage kind number (ram self.new) (page_in self.new.page))) }
+        ensures programmed { IfOk result (λ row. IfSome row (λ _. IsLastPage kind number (ram self.new) (page_in_buffer self.new.page))) }
         ensures cost { TryCosts (stream_of kind) (ram self.old) (ram self.new) result }
         ensures truth { N.view.honest self.old.nand ≡ true →
             MayPut kind number old_row self.old.page.body.items (ram self.old) (image_in N.view.flash self.old) →
@@ -123,7 +123,7 @@ impl<N: Nand> Engine<N> {
         ensures scratch { self.new.scratch ≡ self.old.scratch }
         ensures only_programs { OnlyPrograms N.view self.old.nand self.new.nand }
         ensures row { IfOk result (IsOutside (ram self.old)) }
-        ensures programmed { OnOk result (IsLastPage kind number (ram self.new) (page_in self.new.page)) }
+        ensures programmed { OnOk result (IsLastPage kind number (ram self.new) (page_in_buffer self.new.page)) }
         ensures cost { PutCosts (stream_of kind) (ram self.old) (ram self.new) result }
         ensures truth { N.view.honest self.old.nand ≡ true →
             MayPut kind number old_row self.old.page.body.items (ram self.old) (image_in N.view.flash self.old) →
@@ -203,7 +203,7 @@ impl<N: Nand> Engine<N> {
         ensures goes { GoesPut (ram self.old) (ram self.new) }
         ensures only_programs { OnlyPrograms N.view self.old.nand self.new.nand }
         ensures row { IfOk result (IsOutside (ram self.old)) }
-        ensures programmed { OnOk result (IsLastPage written.now.kind written.now.number (ram self.new) (page_in self.new.page)) }
+        ensures programmed { OnOk result (IsLastPage written.now.kind written.now.number (ram self.new) (page_in_buffer self.new.page)) }
         ensures cost { self.old.fault ≡ None → PutCosts stream (ram self.old) (ram self.new) result }
         ensures truth { N.view.honest self.old.nand ≡ true → self.old.fault ≡ None → IsTrue None (ram self.old) (image_in N.view.flash self.old) →
             IsPageFor self.old.geometry (image_in N.view.flash self.old) self.old.mapping body.now (key_of written.now) →

@@ -3,7 +3,7 @@ ghost use Rattle.std.specs.Prelude.{◌≡◌, ◌≢◌, ◌+◌, ◌<◌, ◌�
 ghost use Rattle.std.specs.Option.{ForSome};
 ghost use Rattle.page_layout.specs.Geometry.{row_count};
 ghost use Rattle.page_layout.specs.OnlyReads.{OnlyReads};
-ghost use Rattle.collection.specs.Safe.{IsSafe, ram, image_in, page_in};
+ghost use Rattle.collection.specs.Safe.{IsSafe, ram, image_in, page_in_buffer};
 ghost use Rattle.collection.specs.Left.{LeavesPin};
 ghost use Rattle.collection.specs.Truth as truth;
 ghost use Rattle.collection.specs.Live.{IsFoundIn};
@@ -11,7 +11,7 @@ ghost use Rattle.collection.specs.Looks.{IsReadFault};
 ghost use Rattle.collection.specs.Results.{Refused, Goes};
 ghost use Rattle.collection.specs.Collect.{waiting, KeepsKeys, RescueCosts};
 ghost use Rattle.page_layout.specs.Version.{is_1};
-ghost use Rattle.collection.specs.Renew.{is_table, is_due_page, LooksAtDue, FindsDue, IsRenewedAt};
+ghost use Rattle.collection.specs.Renew.{is_table_key, is_due_page, LooksAtDue, FindsDue, IsRenewedAt};
 ghost use Rattle.collection.specs.Acts.{EngineLooks, Stands};
 ghost use Rattle.collection.specs.Stops.{CutsSafely, StopsSafely};
 ghost use Rattle.collection.specs.Moves.{MovesOne};
@@ -26,7 +26,7 @@ const OLD: u8 = 1;
 
 // Whether a key is a table page's.
 fn is_table(key: Key) -> bool
-    ensures { result ≡ is_table key }
+    ensures { result ≡ is_table_key key }
 {
     match key {
         Key::Sector(_) | Key::Translation(_) => false,
@@ -48,7 +48,7 @@ impl<N: Nand> Engine<N> {
     // Whether a sound page in the page buffer has to be renewed: one of version 1, but a table page.
     fn is_due(&self, found: &Record) -> bool
         requires safe { IsSafe N.view.flash self.now }
-        ensures { result ≡ is_due_page found.now (page_in self.now.page) }
+        ensures { result ≡ is_due_page found.now (page_in_buffer self.now.page) }
     {
         let version = record_version(&self.geometry, &self.page.body, &self.page.spare);
         !is_table(found.key()) && is_old(version)
@@ -60,7 +60,7 @@ impl<N: Nand> Engine<N> {
         requires safe { IsSafe N.view.flash self.old }
         requires row { row < row_count self.old.geometry }
         ensures looks { EngineLooks N.view self.old self.new result }
-        ensures checked { IfOk result (λ found. ForSome found (IsFoundIn (ram self.old) (page_in self.new.page) (page_in self.new.scratch) row)) }
+        ensures checked { IfOk result (λ found. ForSome found (IsFoundIn (ram self.old) (page_in_buffer self.new.page) (page_in_buffer self.new.scratch) row)) }
         ensures truth { N.view.honest self.old.nand ≡ true → truth.IsTrue None (ram self.old) (image_in N.view.flash self.old) →
             MatchResult result
             (LooksAtDue row self.new.page.body.items (image_in N.view.flash self.old))

@@ -7,7 +7,7 @@ ghost use Rattle.page_layout.specs.Key.{key_of};
 ghost use Rattle.page_layout.specs.Live.{IsKeyOf};
 ghost use Rattle.bad_blocks.specs.Table.{is_good_at};
 ghost use Rattle.allocation.specs.State.{live_at};
-ghost use Rattle.collection.specs.Safe.{IsSafe, ram, image_in, page_in};
+ghost use Rattle.collection.specs.Safe.{IsSafe, ram, image_in, page_in_buffer};
 ghost use Rattle.collection.specs.Left.{LeavesPin};
 ghost use Rattle.collection.specs.Truth as truth;
 ghost use Rattle.collection.specs.Live.{IsFoundIn};
@@ -55,7 +55,7 @@ impl<N: Nand> Engine<N> {
         requires safe { IsSafe N.view.flash self.old }
         ensures looks { EngineLooks N.view self.old self.new result }
         ensures row { IfOk result (λ found. ForSome found (λ f. f.0 < row_count self.old.geometry)) }
-        ensures checked { IfOk result (λ found. ForSome found (λ f. IsFoundIn (ram self.old) (page_in self.new.page) (page_in self.new.scratch) f.0 f.1)) }
+        ensures checked { IfOk result (λ found. ForSome found (λ f. IsFoundIn (ram self.old) (page_in_buffer self.new.page) (page_in_buffer self.new.scratch) f.0 f.1)) }
         ensures truth { N.view.honest self.old.nand ≡ true → truth.IsTrue None (ram self.old) (image_in N.view.flash self.old) →
             MatchResult result
             (FindsAiling (ram self.old).blocks self.new.page.body.items (image_in N.view.flash self.old))

@@ -8,7 +8,7 @@ ghost use Rattle.page_layout.specs.Live.{IsKeyOf};
 ghost use Rattle.page_layout.specs.declared.record.Key.TheVariants.{Sector};
 ghost use Rattle.mapping_cache.specs.Mapping.{IsEntryOf, CanMove, slot_of};
 ghost use Rattle.budget.specs.Stream.{stream_of};
-ghost use Rattle.collection.specs.Safe.{IsSafe, IsOutside, ram, image_in, page_in};
+ghost use Rattle.collection.specs.Safe.{IsSafe, IsOutside, ram, image_in, page_in_buffer};
 ghost use Rattle.collection.specs.Truth.{IsTrue};
 ghost use Rattle.collection.specs.Cost.{PutCosts, PageCosts};
 ghost use Rattle.collection.specs.Settle.{HasPlace, SetsRow, SetsMapping, SetsDirectory, SettlesRow, HasSettled, HasNoMore};
@@ -81,7 +81,7 @@ impl<N: Nand> Engine<N> {
             (λ row. SetsMapping (key_from kind number) row self.old.mapping self.new.mapping)
             (λ _. self.new.mapping ≡ self.old.mapping) }
         ensures directory { IfOk result (λ row. SetsDirectory self.old.geometry (key_from kind number) row self.old.directory self.new.directory) }
-        ensures programmed { OnOk result (IsLastPage kind number (ram self.new) (page_in self.new.page)) }
+        ensures programmed { OnOk result (IsLastPage kind number (ram self.new) (page_in_buffer self.new.page)) }
         ensures cost { PutCosts (stream_of kind) (ram self.old) (ram self.new) result }
         ensures truth { N.view.honest self.old.nand ≡ true →
             MayPut kind number old_row self.old.page.body.items (ram self.old) (image_in N.view.flash self.old) →
@@ -114,7 +114,7 @@ impl<N: Nand> Engine<N> {
         ensures no_more { HasNoMore self.old.mapping self.new.mapping }
         ensures moved { self.new.mapping.moved ≡ self.old.mapping.moved }
         ensures settled { OnOk result (HasSettled sector (ram self.old) (ram self.new)) }
-        ensures programmed { OnOk result (IsLastPage kind sector (ram self.new) (page_in self.new.page)) }
+        ensures programmed { OnOk result (IsLastPage kind sector (ram self.new) (page_in_buffer self.new.page)) }
         ensures cost { PageCosts (stream_of kind) (ram self.old) (ram self.new) result }
         ensures truth { N.view.honest self.old.nand ≡ true → IsTrue None (ram self.old) (image_in N.view.flash self.old) →
             MatchResult result

@@ -3,7 +3,7 @@ ghost use Rattle.std.specs.Prelude.{◌≡◌, ◌≢◌, ◌<◌, true, None, O
 ghost use Rattle.page_layout.specs.Geometry.{entries, table_pages};
 ghost use Rattle.bad_blocks.specs.TablePage.{table_bytes};
 ghost use Rattle.budget.specs.declared.stream.Stream.TheVariants.{Meta};
-ghost use Rattle.collection.specs.Safe.{IsSafe, ram, image_in, page_in};
+ghost use Rattle.collection.specs.Safe.{IsSafe, ram, image_in, page_in_buffer};
 ghost use Rattle.collection.specs.Truth.{IsTrue};
 ghost use Rattle.collection.specs.Cost.{PageCosts};
 ghost use Rattle.collection.specs.Results.{IsLastPage, IsTabled, Refused, Goes, KeepsTable};
@@ -28,7 +28,7 @@ impl<N: Nand> Engine<N> {
         ensures pin { (ram self.new).pin ≡ (ram self.old).pin }
         ensures only_programs { OnlyPrograms N.view self.old.nand self.new.nand }
         ensures spelled { self.new.page.body.items ≡ table_bytes (entries self.old.geometry) (ram self.old).blocks.table u }
-        ensures programmed { OnOk result (IsLastPage Kind.Table u (ram self.new) (page_in self.new.page)) }
+        ensures programmed { OnOk result (IsLastPage Kind.Table u (ram self.new) (page_in_buffer self.new.page)) }
         ensures cost { PageCosts Meta (ram self.old) (ram self.new) result }
         ensures truth { N.view.honest self.old.nand ≡ true → IsTrue None (ram self.old) (image_in N.view.flash self.old) →
             MatchResult result
@@ -67,7 +67,7 @@ impl<N: Nand> Engine<N> {
         ensures only_programs { OnlyPrograms N.view self.old.nand self.new.nand }
         ensures spelled { self.old.fault ≡ None →
             self.new.page.body.items ≡ table_bytes (entries self.old.geometry) (ram self.old).blocks.table u }
-        ensures programmed { OnOk result (IsLastPage Kind.Table u (ram self.new) (page_in self.new.page)) }
+        ensures programmed { OnOk result (IsLastPage Kind.Table u (ram self.new) (page_in_buffer self.new.page)) }
         ensures cost { self.old.fault ≡ None → PageCosts Meta (ram self.old) (ram self.new) result }
         ensures truth { N.view.honest self.old.nand ≡ true → self.old.fault ≡ None → IsTrue None (ram self.old) (image_in N.view.flash self.old) →
             MatchResult result

@@ -4,7 +4,7 @@ ghost use Rattle.std.specs.Map.{keys_of};
 ghost use Rattle.page_layout.specs.Array.{zeros};
 ghost use Rattle.mapping_cache.specs.Mapping.{slot_of};
 ghost use Rattle.budget.specs.declared.stream.Stream.TheVariants.{Data};
-ghost use Rattle.collection.specs.Safe.{IsSafe, ram, image_in, page_in};
+ghost use Rattle.collection.specs.Safe.{IsSafe, ram, image_in, page_in_buffer};
 ghost use Rattle.collection.specs.Truth.{IsTrue};
 ghost use Rattle.collection.specs.Cost.{PageCosts};
 ghost use Rattle.collection.specs.Settle.{HasNoMore, HasSettled};
@@ -43,7 +43,7 @@ impl<N: Nand> Engine<N> {
         ensures settled { OnOk result (HasSettled sector (ram self.old) (ram self.new)) }
         ensures page { self.old.fault ≡ None → self.new.page.body.items ≡ body.now }
         ensures scratch { self.new.scratch ≡ self.old.scratch }
-        ensures programmed { OnOk result (IsLastPage Kind.Sector sector (ram self.new) (page_in self.new.page)) }
+        ensures programmed { OnOk result (IsLastPage Kind.Sector sector (ram self.new) (page_in_buffer self.new.page)) }
         ensures cost { self.old.fault ≡ None → PageCosts Data (ram self.old) (ram self.new) result }
         ensures truth { N.view.honest self.old.nand ≡ true → self.old.fault ≡ None → IsTrue None (ram self.old) (image_in N.view.flash self.old) →
             MatchResult result
@@ -83,7 +83,7 @@ impl<N: Nand> Engine<N> {
         ensures settled { OnOk result (HasSettled sector (ram self.old) (ram self.new)) }
         ensures page { self.old.fault ≡ None → self.new.page.body.items ≡ zeros self.old.geometry }
         ensures scratch { self.new.scratch ≡ self.old.scratch }
-        ensures programmed { OnOk result (IsLastPage Kind.Trim sector (ram self.new) (page_in self.new.page)) }
+        ensures programmed { OnOk result (IsLastPage Kind.Trim sector (ram self.new) (page_in_buffer self.new.page)) }
         ensures cost { self.old.fault ≡ None → PageCosts Data (ram self.old) (ram self.new) result }
         ensures truth { N.view.honest self.old.nand ≡ true → self.old.fault ≡ None → IsTrue None (ram self.old) (image_in N.view.flash self.old) →
             MatchResult result

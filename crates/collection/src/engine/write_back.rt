@@ -6,7 +6,7 @@ ghost use Rattle.page_layout.specs.Geometry.{row_count, translation_pages};
 ghost use Rattle.page_layout.specs.declared.record.Key.TheVariants.{Translation};
 ghost use Rattle.mapping_cache.specs.Mapping.{per_page, cleaned};
 ghost use Rattle.collection.specs.Pages.{newest_row};
-ghost use Rattle.collection.specs.Safe.{IsSafe, ram, image_in, page_in, is_shut};
+ghost use Rattle.collection.specs.Safe.{IsSafe, ram, image_in, page_in_buffer, is_shut};
 ghost use Rattle.collection.specs.Truth.{IsTrue};
 ghost use Rattle.budget.specs.declared.stream.Stream.TheVariants.{Meta};
 ghost use Rattle.collection.specs.Collect.{IsMovedOut};
@@ -31,7 +31,7 @@ impl<N: Nand> Engine<N> {
         requires row { ForSome row (λ r. r < row_count self.old.geometry) }
         ensures looks { EngineLooks N.view self.old self.new result }
         ensures reads { N.view.reads self.new.nand ≤ N.view.reads self.old.nand + 1 }
-        ensures checked { OnOk result (StartsFrom t row (page_in self.new.page)) }
+        ensures checked { OnOk result (StartsFrom t row (page_in_buffer self.new.page)) }
         ensures truth { N.view.honest self.old.nand ≡ true → newest_row (image_in N.view.flash self.old) (Translation t) ≡ row →
             MatchResult result
             (λ _. IsLoaded t self.new.page.body.items self.old.geometry (image_in N.view.flash self.old))
@@ -63,9 +63,9 @@ impl<N: Nand> Engine<N> {
         ensures no_more { HasNoMore self.old.mapping self.new.mapping }
         ensures mapping { OnErr result (self.new.mapping ≡ self.old.mapping) }
         ensures padded { OnOk result (IsPadded self.old.geometry t self.new.page.body.items) }
-        ensures checked { OnOk result (StartsFrom t row (page_in self.old.page) →
+        ensures checked { OnOk result (StartsFrom t row (page_in_buffer self.old.page) →
             IsBroughtUp t row self.old.geometry self.old.mapping self.new.page.body.items) }
-        ensures programmed { OnOk result (IsLastPage Kind.Translation t (ram self.new) (page_in self.new.page)) }
+        ensures programmed { OnOk result (IsLastPage Kind.Translation t (ram self.new) (page_in_buffer self.new.page)) }
         ensures cost { PageCosts Meta (ram self.old) (ram self.new) result }
         ensures truth { N.view.honest self.old.nand ≡ true → IsTrue None (ram self.old) (image_in N.view.flash self.old) →
             HoldsNewest t row self.old.page.body.items self.old.geometry (image_in N.view.flash self.old) →
@@ -106,7 +106,7 @@ impl<N: Nand> Engine<N> {
         ensures padded { OnOk result (IsPadded self.old.geometry t self.new.page.body.items) }
         ensures checked { OnOk result ((row : Option ℕ) → slice_get self.old.directory t ≡ Some row →
             IsBroughtUp t row self.old.geometry self.old.mapping self.new.page.body.items) }
-        ensures programmed { OnOk result (IsLastPage Kind.Translation t (ram self.new) (page_in self.new.page)) }
+        ensures programmed { OnOk result (IsLastPage Kind.Translation t (ram self.new) (page_in_buffer self.new.page)) }
         ensures cost { WriteBackCosts (ram self.old) (ram self.new) result }
         ensures truth { N.view.honest self.old.nand ≡ true → IsTrue None (ram self.old) (image_in N.view.flash self.old) →
             MatchResult result
@@ -159,7 +159,7 @@ impl<N: Nand> Engine<N> {
         ensures padded { OnOk result (IsPadded self.old.geometry t self.new.page.body.items) }
         ensures checked { OnOk result ((row : Option ℕ) → slice_get self.old.directory t ≡ Some row →
             IsBroughtUp t row self.old.geometry self.old.mapping self.new.page.body.items) }
-        ensures programmed { OnOk result (IsLastPage Kind.Translation t (ram self.new) (page_in self.new.page)) }
+        ensures programmed { OnOk result (IsLastPage Kind.Translation t (ram self.new) (page_in_buffer self.new.page)) }
         ensures cost { self.old.fault ≡ None → WriteBackCosts (ram self.old) (ram self.new) result }
         ensures truth { N.view.honest self.old.nand ≡ true → self.old.fault ≡ None → IsTrue None (ram self.old) (image_in N.view.flash self.old) →
             MatchResult result

@@ -115,12 +115,12 @@ impl MemoryFiles {
 impl FileStore for MemoryFiles {
     ghost use Rattle.std.specs.Prelude.{Some, map, string_bytes, true};
     ghost use Rattle.commands.specs.Files.{written_file};
-    ghost use Rattle.command_tests.specs.Files.{MayAnswer};
+    ghost use Rattle.command_tests.specs.Files.{MayAnswerLoad};
 
     type Reader = Cursor<Vec<u8>>;
 
     // A load answers the bytes of the file, as it was stored or as it was before; it fails only where there is none.
-    ghost gives = { λ m. MayAnswer (map (λ f. written_file f.path.now f.bytes.items) m.files.items)
+    ghost gives = { λ m. MayAnswerLoad (map (λ f. written_file f.path.now f.bytes.items) m.files.items)
         (map (λ s. record { path = string_bytes s.path; bytes = s.bytes.items; done = s.done }) m.stored.items) };
 
     ghost tells = { λ _. true };

@@ -2,7 +2,7 @@
 ghost use Rattle.std.specs.Prelude.{◌≡◌, ◌⊎◌, IfOk, OnOk};
 ghost use Rattle.page_layout.specs.Counter.{HasRisen};
 ghost use Rattle.onfi_cycles.specs.Driver.{flash_by};
-ghost use Rattle.command_queue.specs.Commands.{IsWhole, AreWhole};
+ghost use Rattle.command_queue.specs.Commands.{IsCallWhole, AreWhole};
 ghost use Rattle.command_queue.specs.Exchanges.{AreKnown, exchanges_of};
 ghost use Rattle.command_queue.specs.Run.{RanFrom};
 
@@ -43,7 +43,7 @@ fn call_of(
     geometry: &Geometry,
     command: Command<'static>,
 ) -> Result<Call<'static>, Fail>
-    ensures { IfOk result (IsWhole geometry.now) }
+    ensures { IfOk result (IsCallWhole geometry.now) }
 {
     match command {
         Command::Read { sector } => Ok(Call::new(alloc, geometry, Command::Read { sector })?),

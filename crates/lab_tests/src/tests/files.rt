@@ -1,6 +1,6 @@
 //! Files in memory, whose reads and writes can fail.
 ghost use Rattle.std.specs.Prelude.{IfErr};
-ghost use Rattle.lab_commands.specs.Files.{IsUnkept, unknown};
+ghost use Rattle.lab_commands.specs.Files.{IsFileUnkept, unknown_store};
 
 use lab_commands::{KeepFault, LabFileFault, LabFiles, MapText, Progress, Standing};
 use lab_dump::{
@@ -282,7 +282,7 @@ impl MemoryFiles {
 
     // Puts these bytes in the place of a path.
     fn keep_bytes(&mut self, path: &str, bytes: Vec<u8>, over: bool) -> Result<(), KeepFault>
-        ensures { IfErr result (IsUnkept unknown path.now over) }
+        ensures { IfErr result (IsFileUnkept unknown_store path.now over) }
     {
         let trouble = self.trouble;
         match trouble {
@@ -300,7 +300,7 @@ impl MemoryFiles {
 
 impl LabFiles for MemoryFiles {
     ghost use Rattle.std.specs.Prelude.{None};
-    ghost use Rattle.lab_commands.specs.Files.{unknown};
+    ghost use Rattle.lab_commands.specs.Files.{unknown_store};
 
     type Reader = MemoryReader;
 
@@ -310,7 +310,7 @@ impl LabFiles for MemoryFiles {
 
     type Watch = Unwatched;
 
-    ghost answers = { λ _. unknown };
+    ghost answers = { λ _. unknown_store };
 
     ghost kept = { λ _. None };
 

@@ -1,10 +1,10 @@
 use Rattle.std.proofs.Common.{◌≡◌, refl, subst}
 use Rattle.promises.specs.Stream as stream
 use Rattle.promises.specs.Step as step
-use Rattle.promises.specs.Stream.{op_code, status_of, reply_body}
+use Rattle.promises.specs.Stream.{op_code, reply_status, reply_body}
 use Rattle.request_stream.specs.Frames.{request_at, SendsBytes, answer_bytes}
-use Rattle.command_queue.specs.Commands.{command_of}
-use Rattle.command_queue.specs.Exchanges.{Exchange, answer_to}
+use Rattle.command_queue.specs.Commands.{promised_command}
+use Rattle.command_queue.specs.Exchanges.{Exchange, reply_to_command}
 use Rattle.command_queue.specs.Tells.{Tells}
 use Rattle.block_server.proofs.Answering.{room_of}
 use Rattle.block_server.proofs.answer.answer.Goals as goal
@@ -19,7 +19,7 @@ returns-clause-answers g c =
     let new = c.tell-done.new.device in
     let as_told : step.Command → Exchange = λ k. record { command = k; result = c.tell-done.result; bytes = c.tell-done.new.bytes } in
     let asked : step.Command = stream.command_of (request_at c.args.header c.args.body.now) in
-    let tells : Tells g.N.PageSource.view old (as_told (command_of c.command_for.result)) new = record {
+    let tells : Tells g.N.PageSource.view old (as_told (promised_command c.command_for.result)) new = record {
       device = its.device;
       sized = its.geometry;
       limits = its.limits;
@@ -35,13 +35,13 @@ returns-clause-answers g c =
       programs = its.programs;
       pins = its.pins;
     } in
-    let status : c.status_for.result ≡ status_of (answer_to asked c.tell-done.new.bytes c.tell-done.result) = c.status_for.ensures c.args.header c.args.body.now c.tell-done.new.bytes in
-    let given : c.sector_for.result.now ≡ reply_body (answer_to asked c.tell-done.new.bytes c.tell-done.result) = c.sector_for.ensures c.args.body.now in
+    let status : c.status_for.result ≡ reply_status (reply_to_command asked c.tell-done.new.bytes c.tell-done.result) = c.status_for.ensures c.args.header c.args.body.now c.tell-done.new.bytes in
+    let given : c.sector_for.result.now ≡ reply_body (reply_to_command asked c.tell-done.new.bytes c.tell-done.result) = c.sector_for.ensures c.args.body.now in
     record {
       exchange = as_told asked;
       command_is = refl;
       tells = subst (λ k. Tells g.N.PageSource.view old (as_told k) new) c.command_for.ensures.command tells;
       sends =
-          subst (λ l. SendsBytes (g.W.Write.contents c.args.writer.now) (g.W.Write.contents c.send_reply.new.writer) (answer_bytes (op_code c.args.header.op) (status_of (answer_to asked c.tell-done.new.bytes c.tell-done.result)) c.args.header.tag l) c.send_reply.result) given
+          subst (λ l. SendsBytes (g.W.Write.contents c.args.writer.now) (g.W.Write.contents c.send_reply.new.writer) (answer_bytes (op_code c.args.header.op) (reply_status (reply_to_command asked c.tell-done.new.bytes c.tell-done.result)) c.args.header.tag l) c.send_reply.result) given
           (subst (λ n. SendsBytes (g.W.Write.contents c.args.writer.now) (g.W.Write.contents c.send_reply.new.writer) (answer_bytes (op_code c.args.header.op) n c.args.header.tag c.sector_for.result.now) c.send_reply.result) status c.send_reply.ensures);
     }

@@ -1,7 +1,7 @@
 use Rattle.std.proofs.Common.{refl}
 use Rattle.promises.specs.Step as step
 use Rattle.page_layout.specs.Array.{zeros}
-use Rattle.collection.specs.Safe.{ram, page_in}
+use Rattle.collection.specs.Safe.{ram, page_in_buffer}
 use Rattle.command_queue.proofs.RunLemmas.{read_pins, read_happened, unpinned_stale, changed, write_sound, quiet_sound}
 use Rattle.command_queue.proofs.queue.tell.Goals as goal
 
@@ -9,7 +9,7 @@ pub returns-in-Read-clause-happened : goal.returns-in-Read-clause-happened
 returns-in-Read-clause-happened g c = λ honest w ne.
     rw c.in-Read.is
     (read_happened g.N.PageSource.view c.args.device.now c.read.new.self c.read.result ne c.in-Read.sector c.read.new.out
-    (page_in c.read.new.self.engine.scratch) (page_in c.read.new.self.engine.page) (c.read.ensures.step honest w ne)
+    (page_in_buffer c.read.new.self.engine.scratch) (page_in_buffer c.read.new.self.engine.page) (c.read.ensures.step honest w ne)
     (c.read.ensures.same honest ne) (c.read.ensures.told honest ne) c.read.ensures.memory c.read.ensures.read_only c.read.ensures.faults
     (c.read.ensures.survives honest w ne))
 
@@ -92,7 +92,7 @@ returns-in-Turn-clause-programs g c = rw c.in-Turn.is tt
 -- ---- only a turn pins a block
 
 pub returns-in-Read-clause-pins : goal.returns-in-Read-clause-pins
-returns-in-Read-clause-pins g c = λ no none some. read_pins c.in-Read.sector c.read.result (ram c.args.device.now.engine) (ram c.read.new.self.engine) (page_in c.read.new.self.engine.scratch) (page_in c.read.new.self.engine.page) c.read.new.out c.read.ensures.memory none some
+returns-in-Read-clause-pins g c = λ no none some. read_pins c.in-Read.sector c.read.result (ram c.args.device.now.engine) (ram c.read.new.self.engine) (page_in_buffer c.read.new.self.engine.scratch) (page_in_buffer c.read.new.self.engine.page) c.read.new.out c.read.ensures.memory none some
 
 pub returns-in-Write-clause-pins : goal.returns-in-Write-clause-pins
 returns-in-Write-clause-pins g c = λ no. c.write.ensures.changes.pins

@@ -4,7 +4,7 @@ use Rattle.onfi_cycles.specs.Driver.{flash_by}
 use Rattle.nand_die.specs.DieValue.{DieValue}
 use Rattle.nand_die.specs.Made.{loaded_flash}
 use Rattle.commands.specs.declared.steady.SteadyDie.{SteadyDie}
-use Rattle.commands.specs.Check.{IsWhole}
+use Rattle.commands.specs.Check.{HasImageLength}
 use Rattle.commands.specs.Serve.{bad_in}
 use Rattle.commands.proofs.claimed.driver_over.Goals as goal
 
@@ -17,4 +17,4 @@ returns-clause-held c =
     (c.driver_of.ensures.flash ∙ ap (λ (d : DieValue). d.state.flash) c.in_ok-die.ensures.made)
 
 pub returns-clause-whole : goal.returns-clause-whole
-returns-clause-whole c = subst (λ (b : List ℕ). IsWhole c.args.claimed.now.asked.geometry b) c.deref.ensures.value c.in_ok-die.ensures.whole
+returns-clause-whole c = subst (λ (b : List ℕ). HasImageLength c.args.claimed.now.asked.geometry b) c.deref.ensures.value c.in_ok-die.ensures.whole

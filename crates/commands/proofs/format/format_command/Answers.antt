@@ -3,7 +3,7 @@ use Rattle.std.proofs.KnownBytes.{Keeps-refl}
 use Rattle.std.proofs.lemmas.Result.{err_from_is_err_and}
 use Rattle.commands.specs.declared.text.CommandFault.{CommandFault}
 use Rattle.commands.specs.Files.{IsUnstored, Stored, left_behind, with_store, written_file}
-use Rattle.commands.specs.Format.{DoesFormat, HasInput, IsGeometry, IsUnformatted}
+use Rattle.commands.specs.Format.{DoesFormat, HasInput, IsGeometry, IsImageUnformatted}
 use Rattle.commands.proofs.FormatLemmas.{has_formatted, printed_formats, refused_formats, unread_formats, unstored_formats}
 use Rattle.commands.proofs.format.format_command.Goals as goal
 
@@ -31,7 +31,7 @@ returns-in_err-good g c =
     let is : c.from_residual-in_err-good.result ≡ Err c.in_err-good.field-0.0 = p.1 ∙ ap Err p.2 in
     let P : Result (Unit {0}) CommandFault → Type 0 = λ r. DoesFormat (g.F.FileStore.gives c.args.files.now) words before after r in
     subst P (sym is) (refused_formats _ words geometry bytes before after c.in_err-good.field-0.0 input (c.in_ok-bytes.ensures.stores, Keeps-refl _)
-    (subst (λ (l : List ℕ). IsUnformatted geometry l c.in_err-good.field-0.0) c.deref_mut.ensures.value c.in_err-good.ensures.fault))
+    (subst (λ (l : List ℕ). IsImageUnformatted geometry l c.in_err-good.field-0.0) c.deref_mut.ensures.value c.in_err-good.ensures.fault))
 
 pub returns-in_err-store : goal.returns-in_err-store
 returns-in_err-store g c =

@@ -1,13 +1,13 @@
 use Rattle.std.proofs.Common.{◌≡◌, true, arith, refl, subst, sym}
 use Rattle.page_layout.specs.Flash.{Flash}
 use Rattle.page_layout.specs.Raw.{raw_bytes, raw_image}
-use Rattle.commands.specs.Check.{IsWhole}
+use Rattle.commands.specs.Check.{HasImageLength}
 use Rattle.commands.specs.Steady.{has_spared}
 use Rattle.commands.proofs.PassedLemmas.{steady_spared}
 use Rattle.commands.proofs.image_back.image_back.Goals as goal
 
 pub image_into-requires : goal.image_into-requires
-image_into-requires c = record { whole = subst (λ (f : Flash). IsWhole f.geometry c.args.image.now) (sym (c.into_bus.ensures.flash refl)) c.requires.whole }
+image_into-requires c = record { whole = subst (λ (f : Flash). HasImageLength f.geometry c.args.image.now) (sym (c.into_bus.ensures.flash refl)) c.requires.whole }
 
 pub returns : goal.returns
 returns c =

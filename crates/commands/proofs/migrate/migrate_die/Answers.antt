@@ -2,7 +2,7 @@ use Rattle.std.proofs.Common.{ap, refl, subst, sym, ◌∙◌}
 use Rattle.std.proofs.lemmas.Result.{err_from_is_err_and}
 use Rattle.page_layout.specs.declared.geometry.Geometry.{Geometry}
 use Rattle.page_layout.specs.Flash.{Flash}
-use Rattle.commands.specs.Check.{IsWhole}
+use Rattle.commands.specs.Check.{HasImageLength}
 use Rattle.commands.specs.Serve.{flash_behind}
 use Rattle.commands.proofs.MigrateEnds.{die_migrated}
 use Rattle.commands.proofs.migrate.migrate_die.Goals as goal
@@ -16,7 +16,7 @@ pub image_back-requires : goal.image_back-requires
 image_back-requires c =
     let its = c.renew_and_flush-came.ensures in
     let sized = ap (λ (f : Flash). f.geometry) (ap flash_behind c.into_nand.ensures) ∙ (its.device.engine.geometry ∙ its.sized) in
-    record { whole = subst (λ (k : Geometry). IsWhole k c.args.image.now) (sym sized) c.requires.whole }
+    record { whole = subst (λ (k : Geometry). HasImageLength k c.args.image.now) (sym sized) c.requires.whole }
 
 pub returns : goal.returns
 returns c =

@@ -3,7 +3,7 @@ use Rattle.std.specs.Prelude.{filter}
 use Rattle.std.specs.List.{range_with_len}
 use Rattle.nand_die.specs.Made.{RefusesImage}
 use Rattle.ftl_device.specs.Begin.{is_bad_in}
-use Rattle.commands.specs.Check.{IsWhole}
+use Rattle.commands.specs.Check.{HasImageLength}
 use Rattle.commands.specs.Serve.{bad_in}
 use Rattle.commands.proofs.BadLemmas.{unmade}
 use Rattle.commands.proofs.PassedLemmas.{loaded_steady}
@@ -15,7 +15,7 @@ returns-clause-fault c =
     let bytes = c.args.bytes.now in
     let claim = c.args.certificate.now in
     let named : c.deref.result.now ≡ bad_in g claim = c.deref.ensures.value ∙ (c.in-Ok.ensures ∙ ap (λ n. filter (is_bad_in claim) (range_with_len 0 (min n claim.sizes.blocks))) c.blocks-2.ensures) in
-    let whole : IsWhole g bytes = search rules in
+    let whole : HasImageLength g bytes = search rules in
     unmade g bytes claim c.in-Err.fault whole (subst (λ (bad : List ℕ). RefusesImage g bytes bad c.in-Err.fault) named c.in-Err.ensures.err)
 
 pub returns-in-Ok-from_image-clause-steady : goal.returns-in-Ok-from_image-clause-steady

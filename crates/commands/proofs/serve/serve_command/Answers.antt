@@ -4,7 +4,7 @@ use Rattle.std.proofs.lemmas.Result.{err_from_is_err_and}
 use Rattle.onfi_cycles.specs.Driver.{flash_by}
 use Rattle.commands.specs.declared.steady.SteadyDie.{SteadyDie}
 use Rattle.commands.specs.Files.{Stored, left_behind}
-use Rattle.commands.specs.Serve.{EndsServing, HasServed}
+use Rattle.commands.specs.Serve.{EndsServing, HasServedDie}
 use Rattle.commands.proofs.FormatLemmas.{kept_whole}
 use Rattle.commands.proofs.ServeLemmas.{not_served, served_does, stops, undied, unserved}
 use Rattle.commands.proofs.serve.serve_command.Goals as goal
@@ -43,7 +43,7 @@ returns g c =
     let image = c.deref.result.now in
     let kept : image ≡ c.serve_die.new.image = c.deref.ensures.value ∙ kept_whole claimed.bytes.len c.serve_die.new.image claimed.bytes.items (c.serve_die.auto.image ∙ c.deref_mut.ensures.len) in
     let E : Option (List Stored) → Type 0 = λ stores. EndsServing words.output.now image c.in_ok-stop.stop stores after.stores c.finish.result in
-    let H : List ℕ → Type 0 = λ i. HasServed asked.geometry asked.capacity claimed.certificate s i (g.R.Read.remaining c.args.input.now) (g.R.Read.remaining c.serve_die.new.input) before.out after.out c.in_ok-stop.stop in
+    let H : List ℕ → Type 0 = λ i. HasServedDie asked.geometry asked.capacity claimed.certificate s i (g.R.Read.remaining c.args.input.now) (g.R.Read.remaining c.serve_die.new.input) before.out after.out c.in_ok-stop.stop in
     served_does (g.F.FileStore.gives c.args.files.now) words _ _ before after c.finish.result asked.geometry asked.capacity claimed.bytes.items image claimed.certificate s c.in_ok-stop.stop
     c.in_ok-claimed.ensures.ok c.in_ok-driver.ensures.held (subst H (sym kept) c.in_ok-stop.ensures.ok)
     (subst E c.in_ok-claimed.ensures.stores c.finish.ensures)

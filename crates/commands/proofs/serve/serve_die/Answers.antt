@@ -1,11 +1,11 @@
 use Rattle.std.proofs.Common.{refl, subst, sym}
 use Rattle.page_layout.specs.declared.geometry.Geometry.{Geometry}
-use Rattle.commands.specs.Check.{IsWhole}
+use Rattle.commands.specs.Check.{HasImageLength}
 use Rattle.commands.proofs.ServeLemmas.{die_served, read_through}
 use Rattle.commands.proofs.serve.serve_die.Goals as goal
 
 pub image_back-requires : goal.image_back-requires
-image_back-requires g c = record { whole = subst (λ (k : Geometry). IsWhole k c.args.image.now) (sym c.in-Ok.ensures.served.back.sized) c.requires.whole }
+image_back-requires g c = record { whole = subst (λ (k : Geometry). HasImageLength k c.args.image.now) (sym c.in-Ok.ensures.served.back.sized) c.requires.whole }
 
 pub returns-in-Ok : goal.returns-in-Ok
 returns-in-Ok g c = record {
@@ -18,7 +18,7 @@ returns-in-Ok g c = record {
 pub image_back-requires-in-Err-Serve : goal.image_back-requires-in-Err-Serve
 image_back-requires-in-Err-Serve g c =
     let its = rw c.in-Err-Serve.field-0-is at c.in-Err-Serve.ensures.fault in
-    record { whole = subst (λ (k : Geometry). IsWhole k c.args.image.now) (sym its.back.sized) c.requires.whole }
+    record { whole = subst (λ (k : Geometry). HasImageLength k c.args.image.now) (sym its.back.sized) c.requires.whole }
 
 pub returns-in-Err-Serve : goal.returns-in-Err-Serve
 returns-in-Err-Serve g c =

@@ -2,7 +2,7 @@
 ghost use Rattle.std.specs.Prelude.{◌≡◌, IfOk, IfErr};
 ghost use Rattle.onfi_cycles.specs.Driver.{flash_by};
 ghost use Rattle.device_slot.specs.Begun.{IsDeviceKept};
-ghost use Rattle.device_slot.specs.Power.{nand_of};
+ghost use Rattle.device_slot.specs.Power.{unpowered_nand};
 
 use super::calls::Call::{Read, Write};
 use super::calls::{Answer, Call, given_up, hold_calls, kept};
@@ -70,7 +70,7 @@ static OTHER: Row = Row {
 
 // Why there is no device, and the die.
 fn taken<N>(fault: PowerFault<N>) -> (Why, N)
-    ensures { result.1 ≡ nand_of fault }
+    ensures { result.1 ≡ unpowered_nand fault }
 {
     match fault {
         PowerFault::Refused { refusal, nand } => (Why::Refused(refusal), nand),
@@ -111,7 +111,7 @@ fn power<N: Nand + Drop>(
     row: &Row,
 ) -> Result<Result<Device<N>, PowerFault<N>>, Fail>
     requires { (N.view.flash nand).geometry ≡ geometry.now }
-    ensures { IfOk result (λ device. IfErr device (λ fault. (N.view.flash (nand_of fault)).geometry ≡ geometry.now)) }
+    ensures { IfOk result (λ device. IfErr device (λ fault. (N.view.flash (unpowered_nand fault)).geometry ≡ geometry.now)) }
 {
     match row.certified {
         None if geometry.is_capacity(row.cache) => {

@@ -1,12 +1,12 @@
 use Rattle.std.proofs.Common.{subst, sym, ◌∙◌}
-use Rattle.disk_commands.specs.Created.{IsUnformatted}
+use Rattle.disk_commands.specs.Created.{IsNewDieUnformatted}
 use Rattle.disk_commands.proofs.BadLemmas.{blank_marks}
 use Rattle.disk_commands.proofs.CreateLemmas.{not_blank, not_formatted, not_marked}
 use Rattle.disk_commands.proofs.create.make_new.Goals as goal
 
 pub returns-in-Err-clause-fault : goal.returns-in-Err-clause-fault
 returns-in-Err-clause-fault g c =
-    subst (λ told. IsUnformatted g.F.Store.Store.held g.F.Store.Store.honest g.F.Store.Store.failed (g.F.DiskFiles.answers c.args.files.now) c.args.path.now c.args.shape.now c.args.bad.now told) (sym c.told_at.ensures)
+    subst (λ told. IsNewDieUnformatted g.F.Store.Store.held g.F.Store.Store.honest g.F.Store.Store.failed (g.F.DiskFiles.answers c.args.files.now) c.args.path.now c.args.shape.now c.args.bad.now told) (sym c.told_at.ensures)
     (not_blank g.F.Store.Store.held g.F.Store.Store.honest g.F.Store.Store.failed (g.F.DiskFiles.answers c.args.files.now) c.args.path c.args.shape.now c.args.bad.now c.in-Err.fault c.in-Err.ensures.failed)
 
 pub returns-in-Err-mark_blocks-clause-fault : goal.returns-in-Err-mark_blocks-clause-fault
@@ -27,7 +27,7 @@ returns-in-Ok-format_store-clause-made g c = λ honest.
 
 pub returns-clause-fault : goal.returns-clause-fault
 returns-clause-fault g c =
-    subst (λ told. IsUnformatted g.F.Store.Store.held g.F.Store.Store.honest g.F.Store.Store.failed (g.F.DiskFiles.answers c.args.files.now) c.args.path.now c.args.shape.now c.args.bad.now told) (sym c.unformatted.ensures)
+    subst (λ told. IsNewDieUnformatted g.F.Store.Store.held g.F.Store.Store.honest g.F.Store.Store.failed (g.F.DiskFiles.answers c.args.files.now) c.args.path.now c.args.shape.now c.args.bad.now told) (sym c.unformatted.ensures)
     (not_formatted g.F.Store.Store.held g.F.Store.Store.honest g.F.Store.Store.failed (g.F.DiskFiles.answers c.args.files.now) c.args.path c.args.shape.now c.args.bad.now
     c.mark_blocks.new.store c.in-Err-format_store.field-0-0 c.in-Err-format_store.fault (c.mark_blocks.ensures.honest ∙ c.in-Ok.ensures.honest)
     (λ honest. let first = sym c.mark_blocks.ensures.honest ∙ honest in c.in-Ok-mark_blocks.ensures.marks first (blank_marks _ _ (c.in-Ok.ensures.erased first))) c.in-Err-format_store.ensures.unmade)

@@ -1,19 +1,19 @@
 use Rattle.std.proofs.Common.{◌≡◌, ◌≤◌, ◌<◌, ◌*◌, ◌^◌, ◌⊎◌, ◌++◌, inl, inr, ℕ, List, length, Option, Some, None, Result, Ok, Err, IfOk, refl, sym, ap, subst, ◌∙◌, arith, rules}
 use Rattle.disk_commands.specs.declared.sizes.SizeWordFault.{SizeWordFault}
 use Rattle.disk_commands.specs.declared.sizes.SizeWordFault.TheVariants as fault
-use Rattle.disk_commands.specs.Sizes.{SaysUnits, SpellsPart, SpellsSize, count_from, part_of, rest_of, suffix_of, unit_of, whole_of}
+use Rattle.disk_commands.specs.Sizes.{SaysUnits, SpellsPart, SpellsSize, count_from, digits_behind_point, rest_of, suffix_of, unit_of, whole_of}
 use Rattle.disk_commands.proofs.SizeLemmas.{Parts, parts_of, same_amount, says_by, taken_apart}
 use Rattle.disk_commands.proofs.sizes.size_from.Goals as goal
 
 -- what a word without digits, or with too many of them behind a point, says
-no_units : (word whole part : List ℕ) (digits places unit : ℕ) → whole ≡ whole_of word → part ≡ part_of (rest_of word) → (length whole ≡ 0) ⊎ (18 < length part) → SaysUnits word digits places unit → ⊥
+no_units : (word whole part : List ℕ) (digits places unit : ℕ) → whole ≡ whole_of word → part ≡ digits_behind_point (rest_of word) → (length whole ≡ 0) ⊎ (18 < length part) → SaysUnits word digits places unit → ⊥
 no_units word whole part digits places unit w p (inl none) says =
     let it = parts_of word digits places unit says in omega (arith, ap length w, it.some_whole, none)
 no_units word whole part digits places unit w p (inr many) says =
     let it = parts_of word digits places unit says in omega (arith, ap length p, it.few, many)
 
 -- it says no other units than those of its parts
-same_units : (word whole part suffix : List ℕ) (digits places unit d u : ℕ) → whole ≡ whole_of word → part ≡ part_of (rest_of word) → suffix ≡ suffix_of (rest_of word)
+same_units : (word whole part suffix : List ℕ) (digits places unit d u : ℕ) → whole ≡ whole_of word → part ≡ digits_behind_point (rest_of word) → suffix ≡ suffix_of (rest_of word)
     → count_from 0 (whole ++ part) ≡ Some d → unit_of suffix ≡ Some u → SaysUnits word digits places unit → (digits ≡ d) × (places ≡ length part) × (unit ≡ u)
 same_units word whole part suffix digits places unit d u w p s counted named says =
     let it = parts_of word digits places unit says in
@@ -21,13 +21,13 @@ same_units word whole part suffix digits places unit d u w p s counted named say
     let last : Some u ≡ Some unit = sym named ∙ ap unit_of s ∙ it.unit_is in
     ((let e : d ≡ digits = cc in sym e), it.places_are ∙ ap length (sym p), (let e : u ≡ unit = cc in sym e))
 
-says_those : (word whole part suffix : List ℕ) (d u : ℕ) → whole ≡ whole_of word → part ≡ part_of (rest_of word) → suffix ≡ suffix_of (rest_of word)
+says_those : (word whole part suffix : List ℕ) (d u : ℕ) → whole ≡ whole_of word → part ≡ digits_behind_point (rest_of word) → suffix ≡ suffix_of (rest_of word)
     → 1 ≤ length whole → length part ≤ 18 → count_from 0 (whole ++ part) ≡ Some d → unit_of suffix ≡ Some u → SaysUnits word d (length part) u
 says_those word whole part suffix d u w p s some few counted named = says_by word d (length part) u (record {
   some_whole = subst (λ xs. 1 ≤ length xs) w some;
   few = subst (λ xs. length xs ≤ 18) p few;
   places_are = ap length p;
-  digits_are = ap (λ xs. count_from 0 (xs ++ part_of (rest_of word))) (sym w) ∙ ap (λ ys. count_from 0 (whole ++ ys)) (sym p) ∙ counted;
+  digits_are = ap (λ xs. count_from 0 (xs ++ digits_behind_point (rest_of word))) (sym w) ∙ ap (λ ys. count_from 0 (whole ++ ys)) (sym p) ∙ counted;
   unit_is = ap unit_of (sym s) ∙ named;
 })
 
@@ -111,7 +111,7 @@ returns-in-Some-clause-all_parts c spelled =
     (λ b e. spelled.no_bytes b (ap (λ n. b * 10 ^ n) same.1 ∙ e ∙ ap (λ x. x * c.in-Some.unit) (sym same.0) ∙ ap (λ y. spelled.digits * y) (sym same.2)))
 
 -- where its parts are no units, it says none
-none_here : (word whole part suffix : List ℕ) (digits places unit : ℕ) (r : Option (ℕ × ℕ)) → whole ≡ whole_of word → part ≡ part_of (rest_of word) → suffix ≡ suffix_of (rest_of word)
+none_here : (word whole part suffix : List ℕ) (digits places unit : ℕ) (r : Option (ℕ × ℕ)) → whole ≡ whole_of word → part ≡ digits_behind_point (rest_of word) → suffix ≡ suffix_of (rest_of word)
     → ((d u : ℕ) → count_from 0 (whole ++ part) ≡ Some d → unit_of suffix ≡ Some u → r ≡ Some (d, u)) → r ≡ None → SaysUnits word digits places unit → ⊥
 none_here word whole part suffix digits places unit r w p s all none says =
     let it = parts_of word digits places unit says in

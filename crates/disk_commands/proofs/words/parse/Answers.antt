@@ -3,7 +3,7 @@ use Rattle.program_words.specs.Grammar.{program_app}
 use Rattle.program_words.specs.Met.{texts, AsksText}
 use Rattle.program_words.specs.declared.met.GrammarFault.TheVariants as GrammarFault
 use Rattle.program_words.proofs.MetLemmas.{none_by, unmet_by}
-use Rattle.disk_commands.specs.Words.{grammar, IsAt}
+use Rattle.disk_commands.specs.Words.{disk_grammar, IsDiskCommandAt}
 use Rattle.disk_commands.proofs.GrammarLemmas.{asked_as, simple_here}
 use Rattle.disk_commands.proofs.words.parse.Goals as goal
 
@@ -18,7 +18,7 @@ pub returns-in-Ok-Command-clause-none : goal.returns-in-Ok-Command-clause-none
 returns-in-Ok-Command-clause-none c = λ is.
     let told = c.grammar.ensures in
     let met = c.in-Ok-Command.ensures.ok (simple_here _ told) in
-    none_by IsAt (program_app c.grammar.result) grammar (texts c.args.words.now) c.in-Ok-Command.name c.in-Ok-Command.words told
+    none_by IsDiskCommandAt (program_app c.grammar.result) disk_grammar (texts c.args.words.now) c.in-Ok-Command.name c.in-Ok-Command.words told
     (rw c.in-Ok-Command.field-0-is at met) (c.asked_at.ensures.none is)
 
 pub returns-in-Ok-Text-clause-ok : goal.returns-in-Ok-Text-clause-ok
@@ -31,4 +31,4 @@ pub returns-in-Err-clause-none : goal.returns-in-Err-clause-none
 returns-in-Err-clause-none c = λ is.
     let told = c.grammar.ensures in
     let same : c.in-Err.fault ≡ GrammarFault.NoSuchCommand = cc in
-    unmet_by IsAt (program_app c.grammar.result) grammar (texts c.args.words.now) told (c.read_words.ensures.none (simple_here _ told) (c.in-Err.is ∙ ap Err same))
+    unmet_by IsDiskCommandAt (program_app c.grammar.result) disk_grammar (texts c.args.words.now) told (c.read_words.ensures.none (simple_here _ told) (c.in-Err.is ∙ ap Err same))

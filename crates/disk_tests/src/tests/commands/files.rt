@@ -234,7 +234,7 @@ pub fn pages_of<S: Store>(alloc: Global, store: &mut S) -> Result<Vec<u8>, Alloc
 
 impl DiskFiles for MemoryFiles {
     ghost use Rattle.std.specs.Prelude.{None, true};
-    ghost use Rattle.disk_commands.specs.Files.{unknown};
+    ghost use Rattle.disk_commands.specs.Files.{unknown_disk_files};
 
     type Locked = MemoryLock;
 
@@ -244,7 +244,7 @@ impl DiskFiles for MemoryFiles {
 
     type Lists = MemoryLists;
 
-    ghost answers = { λ _. record unknown { honest = true } };
+    ghost answers = { λ _. record unknown_disk_files { honest = true } };
 
     ghost kept = { λ _. None };
 

@@ -1,6 +1,6 @@
 use Rattle.std.proofs.Common.{◌≡◌, ℕ, ◌≤◌, ◌-◌, List, length, true}
 use Rattle.page_layout.specs.Page.{Page}
-use Rattle.file_die.specs.Bytes.{Tells, over}
+use Rattle.file_die.specs.Bytes.{KeepsTold, over}
 use Rattle.file_die.specs.Rows.{Going}
 use Rattle.file_die.proofs.moves.write_all.Given as goal
 
@@ -11,7 +11,7 @@ invariant-loop-done g l = record {
   tells : (size : ℕ) (reads : List ℕ → Page) → g.F.ByteFile.tells l.file size reads ≡ g.F.ByteFile.tells l.fn.file size reads;
   going : g.F.ByteFile.honest l.fn.file ≡ true → l.at ≤ length (g.F.ByteFile.held l.fn.file).bytes → Going (g.F.ByteFile.held l.fn.file) l.at l.bytes l.done (g.F.ByteFile.held l.file);
   told : g.F.ByteFile.honest l.fn.file ≡ true → l.at ≤ length (g.F.ByteFile.held l.fn.file).bytes → (size : ℕ) (reads : List ℕ → Page) → g.F.ByteFile.tells l.fn.file size reads ≡ true →
-      Tells size reads (over l.at l.bytes (g.F.ByteFile.held l.fn.file).bytes) (g.F.ByteFile.held l.fn.file) (g.F.ByteFile.held l.file);
+      KeepsTold size reads (over l.at l.bytes (g.F.ByteFile.held l.fn.file).bytes) (g.F.ByteFile.held l.fn.file) (g.F.ByteFile.held l.file);
 }
 
 abbrev pub decreases-loop-done : goal.decreases-loop-done

@@ -1,6 +1,6 @@
 use Rattle.std.proofs.Common.{◌≡◌, ℕ, ◌≤◌, List, length, true}
 use Rattle.page_layout.specs.Page.{Page}
-use Rattle.file_die.specs.Bytes.{InARow, WriteInterrupted, Bytes, Tells, over}
+use Rattle.file_die.specs.Bytes.{InARow, WriteInterrupted, Bytes, KeepsTold, over}
 use Rattle.file_die.specs.Rows.{Going}
 use Rattle.file_die.proofs.moves.write_next.Given as goal
 
@@ -12,5 +12,5 @@ invariant-loop-tries g l = record {
   tells : (size : ℕ) (reads : List ℕ → Page) → g.F.ByteFile.tells l.file size reads ≡ g.F.ByteFile.tells l.fn.file size reads;
   going : g.F.ByteFile.honest l.fn.file ≡ true → (first : Bytes) → l.at ≤ length first.bytes → Going first l.at l.bytes l.done (g.F.ByteFile.held l.fn.file) → Going first l.at l.bytes l.done (g.F.ByteFile.held l.file);
   told : g.F.ByteFile.honest l.fn.file ≡ true → (first : Bytes) → l.at ≤ length first.bytes → Going first l.at l.bytes l.done (g.F.ByteFile.held l.fn.file) →
-      (size : ℕ) (reads : List ℕ → Page) → g.F.ByteFile.tells l.fn.file size reads ≡ true → Tells size reads (over l.at l.bytes first.bytes) (g.F.ByteFile.held l.fn.file) (g.F.ByteFile.held l.file);
+      (size : ℕ) (reads : List ℕ → Page) → g.F.ByteFile.tells l.fn.file size reads ≡ true → KeepsTold size reads (over l.at l.bytes first.bytes) (g.F.ByteFile.held l.fn.file) (g.F.ByteFile.held l.file);
 }

@@ -1,12 +1,12 @@
 use Rattle.std.proofs.Common.{◌∙◌, Some, ap}
-use Rattle.collection.specs.Safe.{ram, page_in}
+use Rattle.collection.specs.Safe.{ram, page_in_buffer}
 use Rattle.collection.proofs.Looks.{finds_row, ok_not_bus}
 use Rattle.collection.specs.State.{Ram}
 use Rattle.collection.proofs.Gates.{ram_noted}
 use Rattle.ftl_device.proofs.ready.find_row.Goals as goal
 
 pub returns-in-Ok-clause-checked : goal.returns-in-Ok-clause-checked
-returns-in-Ok-clause-checked g c = finds_row (ram c.args.engine.now) c.args.sector (page_in c.row_of_sector.new.self.scratch) c.in-Ok.row c.in-Ok.ensures.hit c.in-Ok.ensures.checked
+returns-in-Ok-clause-checked g c = finds_row (ram c.args.engine.now) c.args.sector (page_in_buffer c.row_of_sector.new.self.scratch) c.in-Ok.row c.in-Ok.ensures.hit c.in-Ok.ensures.checked
 
 -- ---- it was found
 

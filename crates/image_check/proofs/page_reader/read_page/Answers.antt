@@ -1,7 +1,7 @@
 use Rattle.std.proofs.Common.{◌+◌, ◌++◌, arith, length}
 use Rattle.std.specs.Io.KnownBytes.{Consumes}
 use Rattle.std.proofs.KnownBytes.{Consumes-trans}
-use Rattle.image_check.specs.PageReader.{IsCut}
+use Rattle.image_check.specs.PageReader.{ReadsFewer}
 use Rattle.image_check.proofs.PassLemmas.{err_map, ok_map}
 use Rattle.image_check.proofs.PageReaderLemmas.{cut_after}
 use Rattle.image_check.proofs.page_reader.read_page.Goals as goal
@@ -18,6 +18,6 @@ returns-clause-cut g c =
     let a = g.R.DumpReader.remaining c.args.reader.now in
     let b = g.R.DumpReader.remaining c.fill.new.reader in
     let d = g.R.DumpReader.remaining c.fill-2.new.reader in
-    err_map (IsCut (length c.fill-2.new.buffer) b d) (IsCut (length c.fill.new.buffer + length c.fill-2.new.buffer) a d) c.fill-2.result
+    err_map (ReadsFewer (length c.fill-2.new.buffer) b d) (ReadsFewer (length c.fill.new.buffer + length c.fill-2.new.buffer) a d) c.fill-2.result
     (λ cut h. cut_after (length c.fill-2.new.buffer) (length c.fill.new.buffer + length c.fill-2.new.buffer) a b d c.fill.new.buffer cut
     c.in_ok-fill.ensures.whole (omega arith) h) c.fill-2.ensures.cut

@@ -1,7 +1,7 @@
 use Rattle.std.proofs.Common.{◌≡◌, ◌≤◌, ◌-◌, ◌+◌, ◌++◌, ℕ, Bool, true, false, [], ◌∷◌, get_or, arith, ap, sym, ◌∙◌, subst}
 use Rattle.std.specs.Prelude.{not}
 use Rattle.std.proofs.lemmas.List.{get_or_default}
-use Rattle.image_check.specs.Newest.{place_in, blank}
+use Rattle.image_check.specs.Newest.{place_in, no_newest}
 use Rattle.translation_pages.specs.TranslationPage.{entry_at}
 use Rattle.image_check.specs.Stale.{same_row}
 use Rattle.image_check.specs.Rising.{IsRisingBelow}
@@ -14,9 +14,9 @@ loop-sector-preserved c =
     let n = c.loop-sector.sector in
     let first = c.args.first in
     let inv = c.loop-sector.invariant in
-    let p : ℕ → Bool = λ k. not (same_row (entry_at c.args.page.now (k - first)) (place_in (get_or c.args.newest.now k blank))) in
+    let p : ℕ → Bool = λ k. not (same_row (entry_at c.args.page.now (k - first)) (place_in (get_or c.args.newest.now k no_newest))) in
     let order : first ≤ n = omega arith in
-    let seen : c.row-newest_row.result ≡ place_in (get_or c.args.newest.now n blank) = c.row-newest_row.ensures ∙ ap place_in (get_or_default c.args.newest.now n _ blank (omega arith)) in
+    let seen : c.row-newest_row.result ≡ place_in (get_or c.args.newest.now n no_newest) = c.row-newest_row.ensures ∙ ap place_in (get_or_default c.args.newest.now n _ no_newest (omega arith)) in
     elim c.if-not-same_row.branch [
       | then-not-same_row+in_ok-push w ↦
           let is : c.if-not-same_row.stale.items ≡ c.loop-sector.stale.items ++ n ∷ [] = ap (λ v. v.items) w.stale-is ∙ w.in_ok-push.ensures.items in

@@ -1,7 +1,7 @@
 use Rattle.std.proofs.Common.{◌≡◌, ◌<◌, ◌∙◌, ℕ, ap, arith, length}
 use Rattle.page_layout.specs.Geometry.{page_bytes}
 use Rattle.lab_dump.proofs.ScanLemmas.{ok_map}
-use Rattle.lab_arrange.specs.Place.{header_of}
+use Rattle.lab_arrange.specs.Place.{header_length}
 use Rattle.lab_arrange.specs.Reading.{area_from}
 use Rattle.lab_arrange.proofs.PlaceLemmas.{body_lt, few_bytes}
 use Rattle.lab_arrange.proofs.ReadLemmas.{page_is}
@@ -33,6 +33,6 @@ returns-clause-read g c =
     ok_map _ _ c.read_area-2.result
     (λ read all told size.
     page_is geo a all c.args.row starts.body starts.spare c.read_area.new.area c.read_area-2.new.area c.page_starts-starts.ensures.body c.page_starts-starts.ensures.spare
-    (c.in_ok-read_area.ensures.read all told size ∙ ap (λ (n : ℕ). area_from (header_of a) a.swapped a.inverted all starts.body n) front)
-    (read all (c.read_area.ensures.same ∙ told) size ∙ ap (λ (n : ℕ). area_from (header_of a) a.swapped a.inverted all starts.spare n) back))
+    (c.in_ok-read_area.ensures.read all told size ∙ ap (λ (n : ℕ). area_from (header_length a) a.swapped a.inverted all starts.body n) front)
+    (read all (c.read_area.ensures.same ∙ told) size ∙ ap (λ (n : ℕ). area_from (header_length a) a.swapped a.inverted all starts.spare n) back))
     c.read_area-2.ensures.read

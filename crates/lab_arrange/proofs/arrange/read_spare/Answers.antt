@@ -1,7 +1,7 @@
 use Rattle.std.proofs.Common.{◌≡◌, ◌<◌, ◌∙◌, ℕ, ap, arith}
 use Rattle.page_layout.specs.Geometry.{page_bytes}
 use Rattle.lab_dump.proofs.ScanLemmas.{ok_map}
-use Rattle.lab_arrange.specs.Place.{header_of}
+use Rattle.lab_arrange.specs.Place.{header_length}
 use Rattle.lab_arrange.specs.Reading.{area_from}
 use Rattle.lab_arrange.proofs.PlaceLemmas.{body_lt, few_bytes}
 use Rattle.lab_arrange.proofs.ReadLemmas.{spare_is}
@@ -23,5 +23,5 @@ returns-clause-read g c =
     ok_map _ _ c.read_area.result
     (λ read all told size.
     spare_is geo a all c.args.row start c.read_area.new.area c.page_starts-start.ensures.spare
-    (read all told size ∙ ap (λ (n : ℕ). area_from (header_of a) a.swapped a.inverted all start n) c.requires.spare_room))
+    (read all told size ∙ ap (λ (n : ℕ). area_from (header_length a) a.swapped a.inverted all start n) c.requires.spare_room))
     c.read_area.ensures.read

@@ -1,6 +1,6 @@
 use Rattle.std.proofs.Common.{◌<◌, ◌∙◌, arith, rules}
 use Rattle.page_layout.specs.Geometry.{page_bytes, row_count}
-use Rattle.lab_arrange.specs.Arranged.{piece_at}
+use Rattle.lab_arrange.specs.Arranged.{arranged_piece}
 use Rattle.lab_arrange.proofs.PieceLemmas.{sized_all, sized_more, sized_none, written_all, written_more, written_none}
 use Rattle.lab_arrange.proofs.arrange.write_pages.Goals as goal
 
@@ -12,7 +12,7 @@ loop-row-init g c =
       page_room = c.requires.page_room;
       same = search rules;
       sized = sized_none (g.T.Pieces.pieces c.args.target.now) (page_bytes geo) (row_count geo) c.requires.pieces;
-      written = λ all told size. written_none (g.T.Pieces.pieces c.args.target.now) (piece_at geo c.args.arrangement.now all) (row_count geo) c.requires.pieces;
+      written = λ all told size. written_none (g.T.Pieces.pieces c.args.target.now) (arranged_piece geo c.args.arrangement.now all) (row_count geo) c.requires.pieces;
     }
 
 pub loop-row-preserved : goal.loop-row-preserved
@@ -27,14 +27,14 @@ loop-row-preserved g c =
       page_room = omega (arith, inv.page_room, c.read_page.auto.page);
       same = c.read_page.ensures.same ∙ inv.same;
       sized = sized_more (g.T.Pieces.pieces c.loop-row.target) (g.T.Pieces.pieces c.put_page.new.self) (page_bytes geo) row (row_count geo) page within c.in-Ok-put_page.ensures.written (omega (arith, inv.page_room, c.read_page.auto.page)) inv.sized;
-      written = λ all told size. written_more (g.T.Pieces.pieces c.loop-row.target) (g.T.Pieces.pieces c.put_page.new.self) (piece_at geo c.args.arrangement.now all) row (row_count geo) page within c.in-Ok-put_page.ensures.written
+      written = λ all told size. written_more (g.T.Pieces.pieces c.loop-row.target) (g.T.Pieces.pieces c.put_page.new.self) (arranged_piece geo c.args.arrangement.now all) row (row_count geo) page within c.in-Ok-put_page.ensures.written
           (c.in-Ok.ensures.read all (inv.same ∙ told) size) (inv.written all told size);
     }
 
 pub returns-clause-written : goal.returns-clause-written
 returns-clause-written g c = λ all told size.
     let geo = c.args.geometry.now in
-    written_all (g.T.Pieces.pieces c.loop-row.target) (piece_at geo c.args.arrangement.now all) (row_count geo) c.loop-row.row (omega (arith, c.loop-row-test.false, c.loop-row.auto.row-end, c.rows-row-end.ensures)) (c.loop-row.invariant.written all told size)
+    written_all (g.T.Pieces.pieces c.loop-row.target) (arranged_piece geo c.args.arrangement.now all) (row_count geo) c.loop-row.row (omega (arith, c.loop-row-test.false, c.loop-row.auto.row-end, c.rows-row-end.ensures)) (c.loop-row.invariant.written all told size)
 
 pub returns-clause-sized : goal.returns-clause-sized
 returns-clause-sized g c =

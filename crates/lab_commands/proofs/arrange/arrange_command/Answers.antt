@@ -4,7 +4,7 @@ use Rattle.lab_commands.specs.Document.{Prints}
 use Rattle.lab_commands.proofs.PrintLemmas.{done_by, undone_by}
 use Rattle.lab_commands.specs.Reports.{arrange_text}
 use Rattle.lab_commands.specs.Arrange.{IsArrangeFault, WroteArranged}
-use Rattle.lab_commands.specs.Undone.{form_of}
+use Rattle.lab_commands.specs.Undone.{form_of_showing}
 use Rattle.lab_commands.proofs.UndoneLemmas.{left_all, handed}
 use Rattle.lab_commands.proofs.arrange.arrange_command.Goals as goal
 
@@ -25,7 +25,7 @@ returns g c =
     let broke = g.W.Output.failed c.print_arranged.new.out in
     let k = g.F.LabFiles.kept c.args.files.now in
     let l = g.F.LabFiles.kept c.place.new.files in
-    let printed : Prints broke o p (arrange_text (form_of c.args.words.showing) (row_count c.in_ok-geometry.geometry)) c.print_arranged.result =
+    let printed : Prints broke o p (arrange_text (form_of_showing c.args.words.showing) (row_count c.in_ok-geometry.geometry)) c.print_arranged.result =
     subst (λ f. Prints broke o p (arrange_text f (row_count c.in_ok-geometry.geometry)) c.print_arranged.result) c.printer.ensures
     (subst (λ (n : ℕ). Prints broke o p (arrange_text c.printer.result.form n) c.print_arranged.result) c.rows.ensures c.print_arranged.ensures) in
     record {

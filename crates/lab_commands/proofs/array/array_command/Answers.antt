@@ -8,7 +8,7 @@ use Rattle.lab_commands.specs.Document.{Prints}
 use Rattle.lab_commands.proofs.PrintLemmas.{done_by, undone_by}
 use Rattle.lab_commands.specs.Reports.{array_text}
 use Rattle.lab_commands.specs.Array.{IsArrayFault, PutArray, WroteArray, with_map}
-use Rattle.lab_commands.specs.Undone.{form_of}
+use Rattle.lab_commands.specs.Undone.{form_of_showing}
 use Rattle.lab_commands.proofs.ArrayLemmas.{unmapped_before}
 use Rattle.lab_commands.proofs.UndoneLemmas.{left_all, handed}
 use Rattle.lab_commands.proofs.array.array_command.Goals as goal
@@ -46,7 +46,7 @@ returns g c =
       put = c.in_ok-put_map.ensures.ok ∙ (ap (λ (hs : List Held). with_map (g.F.LabFiles.kept c.place.new.files) words (map_text remark.Array made.geometry (map mark_in hs))) c.deref.ensures.value
           ∙ ap (λ x. with_map x words (map_text remark.Array made.geometry (map mark_in held))) placed.put);
     } in
-    let printed : Prints broke o p (array_text (form_of words.showing) made.geometry made.last (map shown_in held) made.left) c.print_array.result =
+    let printed : Prints broke o p (array_text (form_of_showing words.showing) made.geometry made.last (map shown_in held) made.left) c.print_array.result =
     subst (λ f. Prints broke o p (array_text f made.geometry made.last (map shown_in held) made.left) c.print_array.result) c.printer.ensures
     (subst (λ (hs : List Held). Prints broke o p (array_text c.printer.result.form made.geometry made.last (map shown_in hs) made.left) c.print_array.result) c.deref-2.ensures.value c.print_array.ensures) in
     record {

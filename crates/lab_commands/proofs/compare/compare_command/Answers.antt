@@ -3,7 +3,7 @@ use Rattle.lab_commands.specs.Document.{Prints}
 use Rattle.lab_commands.proofs.PrintLemmas.{done_by, undone_by}
 use Rattle.lab_commands.specs.Reports.{compare_text}
 use Rattle.lab_commands.specs.Compare.{IsCompareFault, ToldCompared}
-use Rattle.lab_commands.specs.Undone.{form_of}
+use Rattle.lab_commands.specs.Undone.{form_of_showing}
 use Rattle.lab_commands.proofs.UndoneLemmas.{left_all, handed}
 use Rattle.lab_commands.proofs.compare.compare_command.Goals as goal
 
@@ -26,7 +26,7 @@ returns g c =
     let k = g.F.LabFiles.kept c.args.files.now in
     let l = g.F.LabFiles.kept c.hold.new.files in
     let held = c.in_ok-held.held in
-    let printed : Prints broke o p (compare_text (form_of c.args.words.showing) held.geometry held.compared) c.print_compared.result =
+    let printed : Prints broke o p (compare_text (form_of_showing c.args.words.showing) held.geometry held.compared) c.print_compared.result =
     subst (λ f. Prints broke o p (compare_text f held.geometry held.compared) c.print_compared.result) c.printer.ensures c.print_compared.ensures in
     record {
       ok = done_by (ToldCompared a c.args.words o p) broke o p _ c.print_compared.result c.ended.result printed c.ended.ensures (λ told. record { g = held.geometry; compared = held.compared; has = c.in_ok-held.ensures.ok; told = told });

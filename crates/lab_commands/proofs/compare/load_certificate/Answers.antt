@@ -1,5 +1,5 @@
 use Rattle.std.proofs.Common.{List, ℕ, subst}
-use Rattle.certificate.specs.Faults.{IsFirstFault}
+use Rattle.certificate.specs.Faults.{IsFirstCertificateFault}
 use Rattle.lab_commands.proofs.CompareLemmas.{broken_by}
 use Rattle.lab_commands.proofs.compare.load_certificate.Goals as goal
 
@@ -9,5 +9,5 @@ returns-clause-fault g c =
     record {
       known = loaded.known;
       opened = loaded.opened;
-      broken = broken_by loaded.known c.in-Err.broken c.in-Ok.bytes.items loaded.taken (subst (λ (xs : List ℕ). IsFirstFault xs c.in-Err.broken) c.deref.ensures.value c.in-Err.ensures.err);
+      broken = broken_by loaded.known c.in-Err.broken c.in-Ok.bytes.items loaded.taken (subst (λ (xs : List ℕ). IsFirstCertificateFault xs c.in-Err.broken) c.deref.ensures.value c.in-Err.ensures.err);
     }

@@ -6,8 +6,8 @@ use Rattle.lab_commands.specs.Document.{Prints}
 use Rattle.lab_commands.proofs.PrintLemmas.{done_by, undone_by}
 use Rattle.lab_commands.specs.Reports.{correct_text}
 use Rattle.lab_commands.specs.Array.{with_map}
-use Rattle.lab_commands.specs.Correct.{Counts, IsCorrectFault, PutCorrected, WroteCorrected}
-use Rattle.lab_commands.specs.Undone.{form_of}
+use Rattle.lab_commands.specs.Correct.{CorrectionCounts, IsCorrectFault, PutCorrected, WroteCorrected}
+use Rattle.lab_commands.specs.Undone.{form_of_showing}
 use Rattle.lab_commands.proofs.ArrayLemmas.{unmapped_before}
 use Rattle.lab_commands.proofs.UndoneLemmas.{left_all, handed}
 use Rattle.lab_commands.proofs.correct.correct_command.Goals as goal
@@ -36,7 +36,7 @@ returns g c =
     let l = g.F.LabFiles.kept c.put_map.new.files in
     let words = c.args.words in
     let made = c.in_ok-told.told in
-    let counts : Counts = record { turned = made.turned; touched = made.touched; losses = made.losses.items } in
+    let counts : CorrectionCounts = record { turned = made.turned; touched = made.touched; losses = made.losses.items } in
     let placed = c.in_ok-told.ensures.placed in
     let put : PutCorrected a words k l counts = record {
       g = made.geometry;
@@ -45,7 +45,7 @@ returns g c =
       put = c.in_ok-put_map.ensures.ok ∙ (ap (λ (ls : List Loss). with_map (g.F.LabFiles.kept c.place.new.files) words (loss_map_text made.geometry ls)) c.deref.ensures.value
           ∙ ap (λ x. with_map x words (loss_map_text made.geometry counts.losses)) placed.put);
     } in
-    let printed : Prints broke o p (correct_text (form_of words.showing) counts.turned counts.touched counts.losses) c.print_corrected.result =
+    let printed : Prints broke o p (correct_text (form_of_showing words.showing) counts.turned counts.touched counts.losses) c.print_corrected.result =
     subst (λ f. Prints broke o p (correct_text f counts.turned counts.touched counts.losses) c.print_corrected.result) c.printer.ensures
     (subst (λ (ls : List Loss). Prints broke o p (correct_text c.printer.result.form counts.turned counts.touched ls) c.print_corrected.result) c.deref-2.ensures.value c.print_corrected.ensures) in
     record {

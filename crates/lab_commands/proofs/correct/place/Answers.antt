@@ -1,7 +1,7 @@
 use Rattle.std.proofs.Common.{refl, inl, inr, ap, subst, ◌∙◌}
 use Rattle.lab_commands.specs.Files.{AnswersNoMore}
 use Rattle.lab_commands.specs.Array.{IsUnput}
-use Rattle.lab_commands.specs.Correct.{Counts, HasPutRight}
+use Rattle.lab_commands.specs.Correct.{CorrectionCounts, HasPutRight}
 use Rattle.lab_commands.proofs.UndoneLemmas.{handed}
 use Rattle.lab_commands.proofs.correct.place.Goals as goal
 
@@ -37,7 +37,7 @@ returns-clause-placed g c =
     let chip = c.in_ok-chip in
     let allowed = c.in_ok-allow_both.ensures in
     let put = c.in_ok-put.put in
-    let counts : Counts = record { turned = put.turned; touched = put.touched; losses = put.losses.items } in
+    let counts : CorrectionCounts = record { turned = put.turned; touched = put.touched; losses = put.losses.items } in
     let has = subst (λ f. HasPutRight (g.F.LabFiles.answers f) c.args.words.now (g.F.LabFiles.kept f) (g.F.LabFiles.kept c.put_corrected.new.files) shape.geometry chip.chip.raw counts) allowed.same c.in_ok-put.ensures.put in
     record { pieces = has.pieces; made = record { chip = chip.chip.raw; geometry_is = shape.ensures.ok; chip_is = chip.ensures.ok; allowed = allowed.ok; made = has.made }; put = has.put }
 

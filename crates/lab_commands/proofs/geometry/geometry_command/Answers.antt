@@ -2,7 +2,7 @@ use Rattle.std.proofs.Common.{inr, subst}
 use Rattle.lab_commands.specs.Document.{Prints}
 use Rattle.lab_commands.proofs.PrintLemmas.{done_by, undone_by}
 use Rattle.lab_commands.specs.Geometry.{IsGeometryFault, ToldFits, fitting_text}
-use Rattle.lab_commands.specs.Undone.{form_of}
+use Rattle.lab_commands.specs.Undone.{form_of_showing}
 use Rattle.lab_commands.proofs.geometry.geometry_command.Goals as goal
 
 pub returns : goal.returns
@@ -14,7 +14,7 @@ returns g c =
     let k = g.F.LabFiles.kept c.args.files.now in
     let l = g.F.LabFiles.kept c.find_fits.new.files in
     let fitting = c.in_ok-fitting.fitting in
-    let printed : Prints broke o p (fitting_text (form_of c.args.words.showing) fitting) c.print_fitting.result =
+    let printed : Prints broke o p (fitting_text (form_of_showing c.args.words.showing) fitting) c.print_fitting.result =
     subst (λ f. Prints broke o p (fitting_text f fitting) c.print_fitting.result) c.printer.ensures c.print_fitting.ensures in
     record {
       ok = done_by (ToldFits a c.args.words o p) broke o p _ c.print_fitting.result c.ended.result printed c.ended.ensures (λ told. record { fitting = fitting; found = c.in_ok-fitting.ensures.found; told = told });

@@ -4,7 +4,7 @@ use Rattle.lab_commands.specs.Document.{Prints}
 use Rattle.lab_commands.proofs.PrintLemmas.{done_by, undone_by}
 use Rattle.lab_commands.specs.Reports.{history_text}
 use Rattle.lab_commands.specs.History.{IsHistoryFault, ToldHistory}
-use Rattle.lab_commands.specs.Undone.{form_of}
+use Rattle.lab_commands.specs.Undone.{form_of_showing}
 use Rattle.lab_commands.proofs.UndoneLemmas.{left_all, handed}
 use Rattle.lab_commands.proofs.history.history_command.Goals as goal
 
@@ -27,7 +27,7 @@ returns g c =
     let k = g.F.LabFiles.kept c.args.files.now in
     let l = g.F.LabFiles.kept c.recall.new.files in
     let found = c.in_ok-found.found in
-    let printed : Prints broke o p (history_text (form_of c.args.words.showing) found.geometry found.history.pages.items found.history.unsound) c.print_history.result =
+    let printed : Prints broke o p (history_text (form_of_showing c.args.words.showing) found.geometry found.history.pages.items found.history.unsound) c.print_history.result =
     subst (λ f. Prints broke o p (history_text f found.geometry found.history.pages.items found.history.unsound) c.print_history.result) c.printer.ensures
     (subst (λ (ps : List SectorPage). Prints broke o p (history_text c.printer.result.form found.geometry ps found.history.unsound) c.print_history.result) c.deref.ensures.value c.print_history.ensures) in
     record {

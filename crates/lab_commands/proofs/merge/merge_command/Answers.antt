@@ -4,7 +4,7 @@ use Rattle.lab_commands.specs.Document.{Prints}
 use Rattle.lab_commands.proofs.PrintLemmas.{done_by, undone_by}
 use Rattle.lab_commands.specs.Reports.{merge_text}
 use Rattle.lab_commands.specs.Merge.{IsMergeFault, WroteMerge}
-use Rattle.lab_commands.specs.Undone.{form_of}
+use Rattle.lab_commands.specs.Undone.{form_of_showing}
 use Rattle.lab_commands.proofs.UndoneLemmas.{left_all, handed}
 use Rattle.lab_commands.proofs.merge.merge_command.Goals as goal
 
@@ -21,7 +21,7 @@ returns g c =
     let k = g.F.LabFiles.kept c.args.files.now in
     let l = g.F.LabFiles.kept c.place.new.files in
     let made = c.in_ok-told.told in
-    let printed : Prints broke o p (merge_text (form_of c.args.words.showing) made.conflicts.items made.unsound.items made.tried.items made.tally) c.print_merged.result =
+    let printed : Prints broke o p (merge_text (form_of_showing c.args.words.showing) made.conflicts.items made.unsound.items made.tried.items made.tally) c.print_merged.result =
     subst (λ f. Prints broke o p (merge_text f made.conflicts.items made.unsound.items made.tried.items made.tally) c.print_merged.result) c.printer.ensures
     (subst (λ (rows : List TriedRow). Prints broke o p (merge_text c.printer.result.form made.conflicts.items made.unsound.items rows made.tally) c.print_merged.result) c.deref-3.ensures.value
     (subst (λ (rows : List ℕ). Prints broke o p (merge_text c.printer.result.form made.conflicts.items rows c.deref-3.result.now made.tally) c.print_merged.result) c.deref-2.ensures.value

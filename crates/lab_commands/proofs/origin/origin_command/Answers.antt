@@ -4,7 +4,7 @@ use Rattle.lab_commands.specs.Document.{Prints}
 use Rattle.lab_commands.proofs.PrintLemmas.{done_by, undone_by}
 use Rattle.lab_commands.specs.Reports.{origin_text}
 use Rattle.lab_commands.specs.Origin.{IsOriginFault, WroteOrigin}
-use Rattle.lab_commands.specs.Undone.{form_of}
+use Rattle.lab_commands.specs.Undone.{form_of_showing}
 use Rattle.lab_commands.proofs.UndoneLemmas.{left_all, handed}
 use Rattle.lab_commands.proofs.origin.origin_command.Goals as goal
 
@@ -27,7 +27,7 @@ returns g c =
     let l = g.F.LabFiles.kept c.place.new.files in
     let marks = c.in_ok-marks.marks.items in
     let put = c.in_ok-marks.ensures.placed in
-    let printed : Prints broke o p (origin_text (form_of c.args.words.showing) marks) c.print_origin.result =
+    let printed : Prints broke o p (origin_text (form_of_showing c.args.words.showing) marks) c.print_origin.result =
     subst (λ f. Prints broke o p (origin_text f marks) c.print_origin.result) c.printer.ensures
     (subst (λ (ms : List MapMark). Prints broke o p (origin_text c.printer.result.form ms) c.print_origin.result) c.deref.ensures.value c.print_origin.ensures) in
     record {

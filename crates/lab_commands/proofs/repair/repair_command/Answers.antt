@@ -4,7 +4,7 @@ use Rattle.lab_commands.specs.Document.{Prints}
 use Rattle.lab_commands.proofs.PrintLemmas.{done_by, undone_by}
 use Rattle.lab_commands.specs.Reports.{repair_text}
 use Rattle.lab_commands.specs.Repair.{IsRepairFault, WroteRepair, told_tries}
-use Rattle.lab_commands.specs.Undone.{form_of}
+use Rattle.lab_commands.specs.Undone.{form_of_showing}
 use Rattle.lab_commands.proofs.UndoneLemmas.{left_all, handed}
 use Rattle.lab_commands.proofs.repair.repair_command.Goals as goal
 
@@ -22,7 +22,7 @@ returns g c =
     let l = g.F.LabFiles.kept c.put_mended.new.files in
     let mends = c.in_ok-mended.mended.mends.items in
     let has = c.in_ok-mended.ensures.put in
-    let printed : Prints broke o p (repair_text (form_of c.args.words.showing) (told_tries has.put.bits has.put.g mends) mends) c.print_repaired.result =
+    let printed : Prints broke o p (repair_text (form_of_showing c.args.words.showing) (told_tries has.put.bits has.put.g mends) mends) c.print_repaired.result =
     subst (λ f. Prints broke o p (repair_text f (told_tries has.put.bits has.put.g mends) mends) c.print_repaired.result) c.printer.ensures
     (subst (λ (n : ℕ). Prints broke o p (repair_text c.printer.result.form n mends) c.print_repaired.result) has.tried
     (subst (λ (ms : List Mend). Prints broke o p (repair_text c.printer.result.form c.in_ok-mended.mended.tries ms) c.print_repaired.result) c.deref.ensures.value c.print_repaired.ensures)) in

@@ -5,11 +5,11 @@ use Rattle.lab_dump.specs.declared.held.KeyState.{KeyState}
 use Rattle.lab_commands.specs.declared.document.ReportForm.{ReportForm}
 use Rattle.lab_commands.specs.declared.lines.Label.TheVariants as label
 use Rattle.lab_commands.specs.Document.{Prints, text_below}
-use Rattle.lab_commands.specs.Reports.{key_at, keys_text, table_at}
+use Rattle.lab_commands.specs.Reports.{key_line_at, keys_text, table_at}
 use Rattle.lab_commands.proofs.reports.print_keys.Goals as goal
 
 keys_by : (form : ReportForm) (geo : Geometry) (states : List KeyState) (formed : List Bool) (n t u : ℕ) → n ≡ geo.sectors → t ≡ translation_pages geo → u ≡ table_pages geo
-    → text_below form (table_at states (n + t) formed) u ++ (text_below form (key_at label.Sector states 0) n ++ (text_below form (key_at label.Translation states n) t ++ text_below form (key_at label.Table states (n + t)) u)) ≡ keys_text form geo states formed
+    → text_below form (table_at states (n + t) formed) u ++ (text_below form (key_line_at label.Sector states 0) n ++ (text_below form (key_line_at label.Translation states n) t ++ text_below form (key_line_at label.Table states (n + t)) u)) ≡ keys_text form geo states formed
 unfolding keys_text
 keys_by form geo states formed n t u ns ts us = rw (ns, ts, us) refl
 

@@ -3,7 +3,7 @@ use Rattle.lab_commands.specs.Document.{Prints}
 use Rattle.lab_commands.proofs.PrintLemmas.{done_by, undone_by}
 use Rattle.lab_commands.specs.Reports.{survey_text}
 use Rattle.lab_commands.specs.Survey.{IsSurveyFault, ToldSurvey}
-use Rattle.lab_commands.specs.Undone.{form_of}
+use Rattle.lab_commands.specs.Undone.{form_of_showing}
 use Rattle.lab_commands.proofs.UndoneLemmas.{left_all, handed}
 use Rattle.lab_commands.proofs.survey.survey_command.Goals as goal
 
@@ -26,7 +26,7 @@ returns g c =
     let k = g.F.LabFiles.kept c.args.files.now in
     let l = g.F.LabFiles.kept c.see.new.files in
     let seen = c.in_ok-seen.seen in
-    let printed : Prints broke o p (survey_text (form_of c.args.words.showing) seen.geometry seen.rows seen.survey) c.print_survey.result =
+    let printed : Prints broke o p (survey_text (form_of_showing c.args.words.showing) seen.geometry seen.rows seen.survey) c.print_survey.result =
     subst (λ f. Prints broke o p (survey_text f seen.geometry seen.rows seen.survey) c.print_survey.result) c.printer.ensures c.print_survey.ensures in
     record {
       ok = done_by (ToldSurvey a c.args.words o p) broke o p _ c.print_survey.result c.ended.result printed c.ended.ensures (λ told. record { g = seen.geometry; rows = seen.rows; survey = seen.survey; has = c.in_ok-seen.ensures.seen; told = told });

@@ -1,7 +1,7 @@
 use Rattle.std.proofs.Common.{◌≡◌, ◌++◌, ◌-◌, ◌*◌, ◌≤◌, List, ℕ, length, Some}
 use Rattle.std.specs.List.{flat_map, range_with_len}
 use Rattle.std.specs.Prelude.{vec_capacity}
-use Rattle.lab_dump.specs.Fits.{Adds}
+use Rattle.lab_dump.specs.Fits.{AddsFits}
 use Rattle.lab_correct.specs.Coded.{coded_area_fits}
 use Rattle.lab_correct.proofs.coded.add_coded_data.Given as goal
 
@@ -11,6 +11,6 @@ invariant-loop-spare_bytes g l = record {
   room : 4352 ≤ length l.page;
   same : g.D.Dump.bytes l.dump ≡ g.D.Dump.bytes l.fn.dump;
   added : (all : List ℕ) → g.D.Dump.bytes l.fn.dump ≡ Some all → l.size ≡ length all → l.fits.items ≡ l.fn.fits.items ++ flat_map (coded_area_fits all l.data_bytes) (range_with_len 32 (l.spare_bytes - 32));
-  any : Adds (7 * (l.spare_bytes - 32)) l.fn.fits.items l.fits.items;
+  any : AddsFits (7 * (l.spare_bytes - 32)) l.fn.fits.items l.fits.items;
   places : vec_capacity l.fits ≡ vec_capacity l.fn.fits;
 }

@@ -1,6 +1,6 @@
 use Rattle.std.proofs.Common.{◌/◌, ◌<◌, length, ap, ◌∙◌, arith, rules}
 use Rattle.page_layout.specs.Geometry.{row_count}
-use Rattle.lab_dump.specs.Look.{look_of}
+use Rattle.page_layout.specs.PageLook.{look_of}
 use Rattle.lab_dump.specs.Sample.{looked_count, looked_row, look_at}
 use Rattle.lab_dump.proofs.SampleLemmas.{sample_more, sample_none, sample_all, noted_few, noted_looked}
 use Rattle.lab_dump.proofs.FitLawLemmas.{looked_in}

@@ -5,7 +5,7 @@ use Rattle.page_layout.specs.Geometry.{row_count}
 use Rattle.page_code.specs.Chip.{IsChipOf}
 use Rattle.lab_dump.specs.Scan.{IsTaken}
 use Rattle.lab_dump.proofs.ScanLemmas.{if_more}
-use Rattle.lab_correct.specs.Correcting.{Shows}
+use Rattle.lab_correct.specs.Correcting.{ShowsCorrected}
 use Rattle.lab_correct.specs.Corrected.{IsCorrected, IsOwnCorrected}
 use Rattle.lab_correct.proofs.ChipLemmas.{one_geometry, sized_as}
 use Rattle.lab_correct.proofs.TakenLemmas.{shows_none, stands_none}
@@ -35,7 +35,7 @@ returns-in-Ok-clause-ok g c =
     let stands = c.in-Ok.ensures.stands in
     let same : taker.geometry ≡ geo = one_geometry taker.geometry geo chip stands.of of in
     let made : IfSome known (IsCorrected taker.geometry chip pieces taker.turned taker.touched taker.losses.items) =
-    if_more known (IsTaken chip (λ image. Shows taker.geometry (row_count chip) (take (row_count chip) image) pieces taker.turned taker.touched taker.losses.items))
+    if_more known (IsTaken chip (λ image. ShowsCorrected taker.geometry (row_count chip) (take (row_count chip) image) pieces taker.turned taker.touched taker.losses.items))
     (IsCorrected taker.geometry chip pieces taker.turned taker.touched taker.losses.items) c.in-Ok.ensures.taken
     (λ bytes taken. done taker.geometry chip _ _ _ _ _ pieces bytes stands taken) in
     subst (λ (k : Geometry). IfSome known (IsCorrected geo k pieces taker.turned taker.touched taker.losses.items)) c.raw.ensures

@@ -1,6 +1,6 @@
 use Rattle.std.proofs.Common.{List, map, subst}
 use Rattle.lab_report.specs.declared.note.FileNote.{FileNote}
-use Rattle.lab_report.specs.Note.{note_of, told_by}
+use Rattle.lab_report.specs.Note.{note_of, told_by_report}
 use Rattle.lab_custody.specs.Verify.{AreChecked}
 use Rattle.lab_custody.proofs.CheckLemmas.{all_checked}
 use Rattle.lab_custody.proofs.verify.check_all.Goals as goal
@@ -12,6 +12,6 @@ returns-clause-checked g c =
     let none = c.args.room.now.checks.items in
     let between = c.check_files.new.checks.items in
     let checks = c.check_files-2.new.checks.items in
-    all_checked a b (told_by c.args.report.now) none between checks c.requires.none c.check_files.ensures.no_more
+    all_checked a b (told_by_report c.args.report.now) none between checks c.requires.none c.check_files.ensures.no_more
     (subst (λ (notes : List FileNote). AreChecked a (map note_of notes) none between) c.deref.ensures.value c.check_files.ensures.checked)
     (subst (λ (notes : List FileNote). AreChecked b (map note_of notes) between checks) c.deref-2.ensures.value c.check_files-2.ensures.checked)

@@ -3,16 +3,16 @@ use Rattle.std.proofs.lemmas.Result.{IfOk-weaker}
 use Rattle.program_words.specs.Grammar.{program_app}
 use Rattle.program_words.specs.Met.{AsksText, IsUnmet, texts}
 use Rattle.program_words.proofs.MetLemmas.{asked_by}
-use Rattle.lab_commands.specs.Words.{grammar}
+use Rattle.lab_commands.specs.Words.{lab_grammar}
 use Rattle.lab_commands.proofs.GrammarLemmas.{simple_here}
-use Rattle.lab_custody.specs.Words.{IsAt}
+use Rattle.lab_custody.specs.Words.{IsCustodyAt}
 use Rattle.lab_custody.proofs.words.custody_of.Goals as goal
 
 pub returns-in-Ok-Command : goal.returns-in-Ok-Command
 returns-in-Ok-Command c =
     let told = c.commands_grammar.ensures in
     let met = c.in-Ok-Command.ensures.ok (simple_here _ told) in
-    IfOk-weaker c.asked_at.result _ _ (λ found asked. inl (asked_by IsAt (program_app c.commands_grammar.result) grammar (texts c.args.words.now) c.in-Ok-Command.name c.in-Ok-Command.words found told (rw c.in-Ok-Command.field-0-is at met) asked))
+    IfOk-weaker c.asked_at.result _ _ (λ found asked. inl (asked_by IsCustodyAt (program_app c.commands_grammar.result) lab_grammar (texts c.args.words.now) c.in-Ok-Command.name c.in-Ok-Command.words found told (rw c.in-Ok-Command.field-0-is at met) asked))
     c.asked_at.ensures
 
 pub returns-in-Ok-Text : goal.returns-in-Ok-Text

@@ -7,7 +7,7 @@ use Rattle.lab_dump.specs.Doubting.{IsDoubting}
 use Rattle.lab_dump.specs.Unmade.{IsUnmade}
 use Rattle.lab_dump.specs.Until.{until}
 use Rattle.lab_dump.specs.Writing.{ShowsSound, WritingStands}
-use Rattle.lab_dump.specs.Written.{IsWritten}
+use Rattle.lab_dump.specs.Written.{IsArrayWritten}
 use Rattle.lab_dump.proofs.ScanLemmas.{if_more, make_source, make_target, unmade}
 use Rattle.lab_dump.proofs.WritingLemmas.{nothing_yet, stands_first}
 use Rattle.lab_dump.proofs.WrittenLemmas.{written_sound}
@@ -41,12 +41,12 @@ returns-in-Ok g c =
     let remaining = g.R.DumpReader.remaining c.args.reader.now in
     let same : taker.until ≡ last = c.in-Ok.ensures.fixed in
     let taken = subst (λ (u : Option ℕ). IfSome remaining (IsTaken geo (λ image. ShowsSound geo (row_count geo) (until geo u image) taker.held.items pieces × IsDoubting geo (row_count geo) image taker.doubting))) same c.in-Ok.ensures.taken in
-    let written : IfSome remaining (IsWritten geo last false pieces taker.held.items left) =
-    if_more remaining (IsTaken geo (λ image. ShowsSound geo (row_count geo) (until geo last image) taker.held.items pieces × IsDoubting geo (row_count geo) image taker.doubting)) (IsWritten geo last false pieces taker.held.items left) taken
+    let written : IfSome remaining (IsArrayWritten geo last false pieces taker.held.items left) =
+    if_more remaining (IsTaken geo (λ image. ShowsSound geo (row_count geo) (until geo last image) taker.held.items pieces × IsDoubting geo (row_count geo) image taker.doubting)) (IsArrayWritten geo last false pieces taker.held.items left) taken
     (λ bytes all. written_sound geo last taker.held.items taker.zeros.items taker.doubting left pieces bytes c.in-Ok.ensures.stands.0 c.conclude.ensures.left all) in
     record {
-      ok = subst (λ t. IfSome remaining (IsWritten geo last false (g.T.Pieces.pieces t) c.conclude.result.held.items left)) (sym c.conclude.ensures.target)
-          (subst (λ (hs : List Held). IfSome remaining (IsWritten geo last false pieces hs left)) (sym c.conclude.ensures.held) written);
+      ok = subst (λ t. IfSome remaining (IsArrayWritten geo last false (g.T.Pieces.pieces t) c.conclude.result.held.items left)) (sym c.conclude.ensures.target)
+          (subst (λ (hs : List Held). IfSome remaining (IsArrayWritten geo last false pieces hs left)) (sym c.conclude.ensures.held) written);
       sized = ap (λ (hs : List Held). length hs) c.conclude.ensures.held ∙ c.in-Ok.ensures.stands.0.size;
       err = tt;
       source = tt;

@@ -2,7 +2,7 @@ use Rattle.std.proofs.Common.{◌≡◌, ◌+◌, ◌*◌, ◌++◌, ◌∙◌, 
 use Rattle.std.specs.List.{flat_map}
 use Rattle.std.proofs.lemmas.Result.{err_from_is_err_and}
 use Rattle.lab_dump.specs.Shape.{data_sizes}
-use Rattle.lab_dump.specs.Fits.{data_fits, fits_of, Adds}
+use Rattle.lab_dump.specs.Fits.{data_fits, fits_of, AddsFits}
 use Rattle.lab_dump.proofs.FitLemmas.{adds_none, adds_then, more_at}
 use Rattle.lab_dump.proofs.find.add_all.Goals as goal
 
@@ -46,7 +46,7 @@ returns g c =
     let last : c.loop-data_bytes.data_bytes-index ≡ 7 = omega (arith, c.loop-data_bytes-test.false, c.loop-data_bytes.auto.data_bytes-index-end) in
     record {
       added = λ all told size. inv.added all told size ∙ ap (λ l. c.args.fits.now.items ++ flat_map (data_fits all) l) (ap (λ n. take n data_sizes) last);
-      any = subst (λ n. Adds (1575 * n) c.args.fits.now.items c.loop-data_bytes.fits.items) last inv.any;
+      any = subst (λ n. AddsFits (1575 * n) c.args.fits.now.items c.loop-data_bytes.fits.items) last inv.any;
       source = tt;
       same = inv.same;
     }

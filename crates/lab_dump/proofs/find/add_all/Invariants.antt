@@ -2,7 +2,7 @@ use Rattle.std.proofs.Common.{◌≡◌, ◌++◌, ◌*◌, ◌≤◌, List, ℕ
 use Rattle.std.specs.List.{flat_map}
 use Rattle.page_layout.specs.Limits.{IsDataSize}
 use Rattle.lab_dump.specs.Shape.{data_sizes}
-use Rattle.lab_dump.specs.Fits.{data_fits, Adds}
+use Rattle.lab_dump.specs.Fits.{data_fits, AddsFits}
 use Rattle.std.specs.Prelude.{vec_capacity}
 use Rattle.lab_dump.proofs.find.add_all.Given as goal
 
@@ -13,6 +13,6 @@ invariant-loop-data_bytes g l = record {
   room : 4352 ≤ length l.page;
   same : g.D.Dump.bytes l.dump ≡ g.D.Dump.bytes l.fn.dump;
   added : (all : List ℕ) → g.D.Dump.bytes l.fn.dump ≡ Some all → l.size ≡ length all → l.fits.items ≡ l.fn.fits.items ++ flat_map (data_fits all) (take l.data_bytes-index data_sizes);
-  any : Adds (1575 * l.data_bytes-index) l.fn.fits.items l.fits.items;
+  any : AddsFits (1575 * l.data_bytes-index) l.fn.fits.items l.fits.items;
   places : vec_capacity l.fits ≡ vec_capacity l.fn.fits;
 }

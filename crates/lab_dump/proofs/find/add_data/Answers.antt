@@ -1,7 +1,7 @@
 use Rattle.std.proofs.Common.{◌≡◌, ◌+◌, ◌-◌, ◌*◌, ◌++◌, ◌∙◌, ap, append-nil, refl, subst, sym, arith}
 use Rattle.std.specs.List.{flat_map, range_with_len}
 use Rattle.std.proofs.lemmas.Result.{err_from_is_err_and}
-use Rattle.lab_dump.specs.Fits.{area_fits, data_fits, Adds}
+use Rattle.lab_dump.specs.Fits.{area_fits, data_fits, AddsFits}
 use Rattle.lab_dump.proofs.FitLemmas.{adds_none, adds_then, more_from, places_left}
 use Rattle.lab_dump.proofs.find.add_data.Goals as goal
 
@@ -46,7 +46,7 @@ returns g c =
     let last : c.loop-spare_bytes.spare_bytes - 32 ≡ 225 = omega (arith, c.loop-spare_bytes-test.false, c.loop-spare_bytes.auto.spare_bytes, c.loop-spare_bytes.auto.spare_bytes-end) in
     record {
       added = λ all told size. inv.added all told size ∙ ap (λ n. c.args.fits.now.items ++ flat_map (area_fits all c.args.data_bytes) (range_with_len 32 n)) last;
-      any = subst (λ n. Adds (7 * n) c.args.fits.now.items c.loop-spare_bytes.fits.items) last inv.any;
+      any = subst (λ n. AddsFits (7 * n) c.args.fits.now.items c.loop-spare_bytes.fits.items) last inv.any;
       places = inv.places;
       source = tt;
       same = inv.same;

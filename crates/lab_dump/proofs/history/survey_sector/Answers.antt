@@ -4,7 +4,7 @@ use Rattle.std.proofs.lemmas.Result.{err_from_is_err_and}
 use Rattle.page_layout.specs.Geometry.{row_count}
 use Rattle.lab_dump.specs.Scan.{IsTaken}
 use Rattle.lab_dump.specs.declared.history.History.{History}
-use Rattle.lab_dump.specs.History.{IsHistoryOf, Shows}
+use Rattle.lab_dump.specs.History.{IsHistoryOf, ShowsHistory}
 use Rattle.lab_dump.proofs.HistoryLemmas.{history_of, newest_first, nothing_listed, pages_none}
 use Rattle.lab_dump.proofs.ScanLemmas.{if_more, never_err, survey_source, unsurveyed}
 use Rattle.lab_dump.proofs.history.survey_sector.Goals as goal
@@ -34,10 +34,10 @@ returns g c =
     let n = c.args.sector in
     let remaining = g.R.DumpReader.remaining c.args.reader.now in
     let same : taker.sector ≡ n = same_Some taker.sector n c.in_ok-scan.ensures.fixed in
-    let taken = subst (λ (m : ℕ). IfSome remaining (IsTaken geo (λ image. Shows m (row_count geo) image taker.pages.items taker.unsound))) same c.in_ok-scan.ensures.taken in
+    let taken = subst (λ (m : ℕ). IfSome remaining (IsTaken geo (λ image. ShowsHistory m (row_count geo) image taker.pages.items taker.unsound))) same c.in_ok-scan.ensures.taken in
     let made : History = record { pages = c.sort_unstable.new.self; unsound = taker.unsound } in
     record {
-      ok = if_more remaining (IsTaken geo (λ image. Shows n (row_count geo) image taker.pages.items taker.unsound)) (IsHistoryOf geo n made) taken
+      ok = if_more remaining (IsTaken geo (λ image. ShowsHistory n (row_count geo) image taker.pages.items taker.unsound)) (IsHistoryOf geo n made) taken
           (λ bytes whole. history_of geo n taker.pages.items made bytes whole c.sort_unstable.ensures.permutation (newest_first made.pages.items c.sort_unstable.ensures.sorted));
       err = tt;
       source = λ is. absurd (never_err _ _ _ refl is);

@@ -1,7 +1,7 @@
 use Rattle.std.proofs.Common.{ap, ◌∙◌, arith, rules}
 use Rattle.page_layout.specs.Geometry.{row_count}
 use Rattle.std.proofs.lemmas.Result.{err_from_is_err_and}
-use Rattle.lab_dump.specs.Look.{look_of}
+use Rattle.page_layout.specs.PageLook.{look_of}
 use Rattle.lab_dump.specs.Sample.{looked_row, look_at}
 use Rattle.lab_dump.proofs.SampleLemmas.{looked_few, sample_more, sample_none, sample_all, noted_few, noted_looked}
 use Rattle.lab_dump.proofs.sample.take_sample.Goals as goal

@@ -7,7 +7,7 @@ use Rattle.lab_dump.specs.Scan.{IsTaken}
 use Rattle.lab_dump.specs.Rows.{within}
 use Rattle.lab_dump.proofs.RowLemmas.{within_size}
 use Rattle.lab_dump.proofs.ScanLemmas.{if_more, never_err, survey_source, unsurveyed}
-use Rattle.lab_dump.specs.Noted.{Shows}
+use Rattle.lab_dump.specs.Noted.{ShowsDump}
 use Rattle.lab_dump.specs.Surveyed.{IsSurveyOf}
 use Rattle.lab_dump.proofs.survey.survey_dump.Goals as goal
 
@@ -34,7 +34,7 @@ returns g c =
     let s = c.scan_rows.new.taker in
     record {
       whole = c.conclude.ensures.whole;
-      ok = if_more (g.R.DumpReader.remaining c.args.reader.now) (IsTaken geo (λ image. Shows geo (row_count geo) (within geo rows image) s)) (IsSurveyOf geo rows c.conclude.result) c.in_ok-scan_rows.ensures.taken (λ bytes taken.
+      ok = if_more (g.R.DumpReader.remaining c.args.reader.now) (IsTaken geo (λ image. ShowsDump geo (row_count geo) (within geo rows image) s)) (IsSurveyOf geo rows c.conclude.result) c.in_ok-scan_rows.ensures.taken (λ bytes taken.
           let image = within geo rows (raw_image geo bytes) in
           record { whole = taken.whole; survey = c.conclude.ensures.survey image (within_size geo rows (raw_image geo bytes) ∙ length-raw_image geo bytes) taken.shown });
       err = tt;

@@ -1,5 +1,5 @@
 use Rattle.std.proofs.Common.{◌∙◌, ap, arith}
-use Rattle.lab_dump.specs.PageBytes.{is_sound, page_of}
+use Rattle.lab_dump.specs.PageBytes.{is_sound, page_from_bytes}
 use Rattle.lab_mend.specs.Majority.{majority}
 use Rattle.lab_mend.specs.Pages.{pages_in}
 use Rattle.lab_mend.proofs.MajorityLemmas.{majority_again}
@@ -14,4 +14,4 @@ returns-clause-is c =
     let geo = c.args.geometry.now in
     let ps = pages_in geo c.args.pages.now c.args.count in
     many_readings c.args.count (is_sound (majority geo ps)) c.is_sound.result (omega arith)
-    (c.is_sound.ensures ∙ ap is_sound (ap (page_of geo.data_bytes) c.write_majority.ensures ∙ majority_again geo ps))
+    (c.is_sound.ensures ∙ ap is_sound (ap (page_from_bytes geo.data_bytes) c.write_majority.ensures ∙ majority_again geo ps))

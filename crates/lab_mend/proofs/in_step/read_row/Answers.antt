@@ -2,7 +2,7 @@ use Rattle.std.proofs.Common.{◌≡◌, ℕ, ◌+◌, ◌-◌, ◌*◌, ◌<◌
 use Rattle.std.specs.Io.KnownBytes.{Consumes}
 use Rattle.std.proofs.lemmas.List.{length-map, length-set}
 use borrow.Rule.Slice.PartMut.{put_mid}
-use Rattle.lab_dump.specs.Scan.{IsCut}
+use Rattle.lab_dump.specs.Scan.{ReadsFewer}
 use Rattle.lab_mend.specs.InStep.{IsAt, AreBetween}
 use Rattle.lab_mend.proofs.InStepLemmas.{failed_at, cut_at, known_at, known_set, files_count, piece_room, between_more, between_all}
 use Rattle.lab_mend.proofs.in_step.read_row.Goals as goal
@@ -18,7 +18,7 @@ returns-in-Err-clause-cut g c = λ files at start.
     let between = c.loop-reading.invariant.between files at start in
     let old : IsAt (f (get_or rs i r)) (get_or files i []) at = subst (λ (o : Option (List ℕ)). IsAt o (get_or files i []) at) (known_at f rs i r (omega arith)) (between.unread i (omega arith) within) in
     let size : length c.fill.new.buffer ≡ c.args.size = omega arith in
-    cut_at (f (get_or rs i r)) (f c.fill.new.reader) files i at c.args.size c.in-Err.cut within old (subst (λ n. IsCut n (f (get_or rs i r)) (f c.fill.new.reader) c.in-Err.cut) size c.in-Err.ensures.cut)
+    cut_at (f (get_or rs i r)) (f c.fill.new.reader) files i at c.args.size c.in-Err.cut within old (subst (λ n. ReadsFewer n (f (get_or rs i r)) (f c.fill.new.reader) c.in-Err.cut) size c.in-Err.ensures.cut)
 
 pub returns-in-Err-clause-failed : goal.returns-in-Err-clause-failed
 returns-in-Err-clause-failed g c = λ is. failed_at g.R.DumpReader.failed c.loop-reading.readers c.loop-reading.reading c.fill.new.reader (omega arith) (c.fill.ensures.failed (c.in-Err.is ∙ ap Err is))

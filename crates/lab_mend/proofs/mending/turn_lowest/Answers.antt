@@ -1,7 +1,7 @@
 use Rattle.std.proofs.Common.{◌≡◌, ◌+◌, true, false, refl, sym, ap, ◌∙◌, subst, arith}
 use Rattle.lab_dump.specs.PageBytes.{is_sound}
 use Rattle.lab_mend.specs.Bits.{turned_bytes}
-use Rattle.lab_mend.specs.Seal.{HasTaken}
+use Rattle.lab_mend.specs.Seal.{HasHashedPrefix}
 use Rattle.lab_mend.proofs.BitLemmas.{back_again}
 use Rattle.lab_mend.proofs.SealLemmas.{taken_turned}
 use Rattle.lab_mend.proofs.MendLemmas.{asked_turned, found_in, none_in, none_more}
@@ -13,7 +13,7 @@ is_sound-requires-clause-taken c =
     let size = c.args.geometry.now.data_bytes in
     let bit = c.loop-bit.bit in
     let once : c.turn.new.bytes ≡ turned_bytes c.args.bytes.now bit = c.turn.ensures ∙ ap (λ b. turned_bytes b bit) inv.same in
-    subst (λ b. HasTaken size b bit c.loop-bit.prefix) (sym once) (taken_turned size c.args.bytes.now bit c.loop-bit.prefix inv.taken)
+    subst (λ b. HasHashedPrefix size b bit c.loop-bit.prefix) (sym once) (taken_turned size c.args.bytes.now bit c.loop-bit.prefix inv.taken)
 
 pub pass-requires-clause-taken : goal.pass-requires-clause-taken
 pass-requires-clause-taken c =
@@ -21,7 +21,7 @@ pass-requires-clause-taken c =
     let size = c.args.geometry.now.data_bytes in
     let bit = c.loop-bit.bit in
     let once : c.turn.new.bytes ≡ turned_bytes c.args.bytes.now bit = c.turn.ensures ∙ ap (λ b. turned_bytes b bit) inv.same in
-    subst (λ b. HasTaken size b bit c.loop-bit.prefix) (sym (back_again c.args.bytes.now _ _ bit (omega arith) once c.turn-in-loop-bit.ensures)) inv.taken
+    subst (λ b. HasHashedPrefix size b bit c.loop-bit.prefix) (sym (back_again c.args.bytes.now _ _ bit (omega arith) once c.turn-in-loop-bit.ensures)) inv.taken
 
 pub returns-then-is_sound-clause-bit : goal.returns-then-is_sound-clause-bit
 returns-then-is_sound-clause-bit c =
@@ -41,7 +41,7 @@ loop-bit-preserved c =
     let back = back_again bytes _ _ bit (omega arith) (c.turn.ensures ∙ ap (λ b. turned_bytes b bit) inv.same) c.turn-in-loop-bit.ensures in
     record {
       same = back;
-      taken = subst (λ b. HasTaken size b (bit + 1) c.pass.new.self) back c.pass.ensures;
+      taken = subst (λ b. HasHashedPrefix size b (bit + 1) c.pass.new.self) back c.pass.ensures;
       none = none_more is_sound size bytes bit here inv.none;
     }
 

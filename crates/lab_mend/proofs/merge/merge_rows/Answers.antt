@@ -3,7 +3,7 @@ use Rattle.std.proofs.lemmas.Result.{err_from_is_err_and}
 use Rattle.std.proofs.lemmas.List.{length-map}
 use Rattle.page_layout.specs.Geometry.{page_bytes}
 use Rattle.lab_mend.specs.InStep.{AreAt}
-use Rattle.lab_mend.specs.Merged.{row_of}
+use Rattle.lab_mend.specs.Merged.{pages_of_row}
 use Rattle.lab_mend.specs.Merging.{AreListed, AreTried}
 use Rattle.lab_mend.proofs.MergingLemmas.{none_listed, none_tried, none_tried_listed, none_unsound}
 use Rattle.lab_mend.proofs.MergedLemmas.{pinned_cut, row_read, row_next, unmerged_row_cut}
@@ -32,14 +32,14 @@ loop-row-preserved g c =
       count = omega arith;
       room = omega arith;
       stands = c.in_ok-take_row.ensures.stands;
-      shows = λ files at. c.in_ok-take_row.ensures.shows (row_of geo files)
+      shows = λ files at. c.in_ok-take_row.ensures.shows (pages_of_row geo files)
           (row_read geo known files row (length c.read_row.new.readers) _ c.read_row.new.pieces (omega arith) (sym (length-map c.read_row.new.readers g.R.DumpReader.remaining)) (c.in_ok-read_row.ensures.read files (row * page_bytes geo) (inv.read files at)))
           (inv.shows files at);
-      unsound = λ files at. c.in_ok-take_row.ensures.unsound (row_of geo files)
+      unsound = λ files at. c.in_ok-take_row.ensures.unsound (pages_of_row geo files)
           (row_read geo known files row (length c.read_row.new.readers) _ c.read_row.new.pieces (omega arith) (sym (length-map c.read_row.new.readers g.R.DumpReader.remaining)) (c.in_ok-read_row.ensures.read files (row * page_bytes geo) (inv.read files at)))
           (inv.unsound files at);
       listed = c.in_ok-take_row.ensures.listed inv.listed;
-      tried = λ files at. c.in_ok-take_row.ensures.tried (row_of geo files)
+      tried = λ files at. c.in_ok-take_row.ensures.tried (pages_of_row geo files)
           (row_read geo known files row (length c.read_row.new.readers) _ c.read_row.new.pieces (omega arith) (sym (length-map c.read_row.new.readers g.R.DumpReader.remaining)) (c.in_ok-read_row.ensures.read files (row * page_bytes geo) (inv.read files at)))
           (inv.tried files at);
       tried_listed = c.in_ok-take_row.ensures.tried_listed inv.tried_listed;
@@ -55,10 +55,10 @@ loop-row-init g c = record {
   count = refl;
   room = refl;
   stands = c.requires.stands;
-  shows = λ files at. c.requires.shows (row_of c.args.geometry.now files);
-  unsound = λ files at. c.requires.none ∙ none_unsound c.args.geometry.now (row_of c.args.geometry.now files);
+  shows = λ files at. c.requires.shows (pages_of_row c.args.geometry.now files);
+  unsound = λ files at. c.requires.none ∙ none_unsound c.args.geometry.now (pages_of_row c.args.geometry.now files);
   listed = subst (AreListed 0) (sym c.requires.none) none_listed;
-  tried = λ files at. c.requires.none_tried ∙ none_tried c.args.geometry.now (row_of c.args.geometry.now files);
+  tried = λ files at. c.requires.none_tried ∙ none_tried c.args.geometry.now (pages_of_row c.args.geometry.now files);
   tried_listed = subst (AreTried 0) (sym c.requires.none_tried) none_tried_listed;
   tried_room = c.requires.tried_room;
   trial_room = c.requires.room;

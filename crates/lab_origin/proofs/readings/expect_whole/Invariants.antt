@@ -1,6 +1,5 @@
 use Rattle.std.proofs.Common.{◌≡◌, ◌<◌, ℕ, List, [], length, get_or, map}
-use Rattle.lab_dump.specs.Scan.{image_bytes}
-use Rattle.lab_origin.specs.Tracing.{Tell}
+use Rattle.lab_dump.specs.Scan.{image_bytes, Tell}
 use Rattle.lab_origin.proofs.readings.expect_whole.Given as goal
 
 abbrev pub invariant-loop-place : goal.invariant-loop-place

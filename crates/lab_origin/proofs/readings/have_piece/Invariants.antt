@@ -1,5 +1,6 @@
 use Rattle.std.proofs.Common.{◌≡◌, ℕ, List, false, length, map, take}
-use Rattle.lab_origin.specs.Tracing.{Tell, have_at}
+use Rattle.lab_dump.specs.Scan.{Tell}
+use Rattle.lab_origin.specs.Tracing.{have_at}
 use Rattle.lab_origin.proofs.readings.have_piece.Given as goal
 
 abbrev pub invariant-loop-place : goal.invariant-loop-place

@@ -4,7 +4,7 @@ use Rattle.std.specs.Prelude.{IsOk}
 use Rattle.page_layout.specs.Faults.{HasNumbers}
 use Rattle.page_layout.specs.Limits.{IsWithinLimits}
 use Rattle.lab_arrange.specs.declared.arrangement.Arrangement.{Arrangement}
-use Rattle.lab_shapes.specs.Better.{IsShapeIn, IsShapeOf}
+use Rattle.lab_shapes.specs.Better.{IsShapeIn, IsArrangedShapeOf}
 use Rattle.lab_shapes.specs.declared.tried.Way.TheVariants.{Cut}
 use Rattle.lab_shapes.proofs.ShapeLemmas.{cut_many, cut_none, cut_shape, cut_whole, made_of, some_bytes}
 use Rattle.lab_shapes.proofs.shapes.shape_cut.Goals as goal
@@ -45,5 +45,5 @@ returns c =
     let some = some_bytes p (d + s) (let l = c.requires.page_count.least in omega arith) (let l = c.requires.data_size.least in omega arith) in
     let most : p * (d + s) ≤ 1114112 = mul-le p (d + s) 256 4352 c.requires.page_count.most (let l = c.requires.data_size.most in let k = c.requires.spare_size.most in omega arith) in
     let cut : ℕ = c.from-block_bytes.result - size % c.from-block_bytes.result in
-    subst (λ (o : Arrangement). IsShapeOf size Cut d s p geo (record { header = o.header; tail = o.tail; cut = Some cut; spares = o.spares; spare_first = o.spare_first; swapped = o.swapped; inverted = o.inverted; planes = o.planes })) (sym c.in_order.ensures)
+    subst (λ (o : Arrangement). IsArrangedShapeOf size Cut d s p geo (record { header = o.header; tail = o.tail; cut = Some cut; spares = o.spares; spare_first = o.spare_first; swapped = o.swapped; inverted = o.inverted; planes = o.planes })) (sym c.in_order.ensures)
     (cut_shape size d s p geo cut there some most (subst (λ n. HasNumbers d s p (size / n + 1) 1 geo) block made) (ap (λ n. n - size % n) block))

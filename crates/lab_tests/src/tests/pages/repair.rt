@@ -2,7 +2,7 @@
 use super::{PAGE, PAGES};
 use crate::tests::files::{Beside, MemoryReader, Unwatched};
 use lab_dump::Rows;
-use lab_mend::{BitPair, Made, Mend, RepairAsked, RepairRoom, Turn, Turned, repair_dump};
+use lab_mend::{BitPair, BitTurn, Made, Mend, RepairAsked, RepairRoom, Turned, repair_dump};
 use page_layout::geometry::Geometry;
 use std::alloc::Global;
 use std::test::Fail;
@@ -20,7 +20,7 @@ static TURNED: &[(usize, u8)] = &[
 
 const ROW_8: Mend = Mend {
     row: 8,
-    turn: Turn::One(Turned {
+    turn: BitTurn::One(Turned {
         bit: 44,
         made: Made::Sound,
     }),
@@ -28,7 +28,7 @@ const ROW_8: Mend = Mend {
 
 const ROW_9: Mend = Mend {
     row: 9,
-    turn: Turn::One(Turned {
+    turn: BitTurn::One(Turned {
         bit: 584,
         made: Made::Sound,
     }),
@@ -36,7 +36,7 @@ const ROW_9: Mend = Mend {
 
 const ROW_21: Mend = Mend {
     row: 21,
-    turn: Turn::One(Turned {
+    turn: BitTurn::One(Turned {
         bit: 7,
         made: Made::Erased,
     }),
@@ -44,13 +44,13 @@ const ROW_21: Mend = Mend {
 
 const ROW_1: Mend = Mend {
     row: 1,
-    turn: Turn::Two(BitPair { low: 56, high: 57 }),
+    turn: BitTurn::Two(BitPair { low: 56, high: 57 }),
 };
 
 // Two bits make it erased, and none make it sound.
 const ROW_20: Mend = Mend {
     row: 20,
-    turn: Turn::Nothing,
+    turn: BitTurn::Nothing,
 };
 
 // The rows that are asked for, how many bits of a page may be turned, and the pages that are mended then.
@@ -144,12 +144,12 @@ fn turn_bit(bytes: &mut [u8], row: u32, bit: u32) {
 fn turn_back(bytes: &mut [u8], mends: &[Mend]) {
     for mend in mends {
         match mend.turn {
-            Turn::One(turned) => turn_bit(bytes, mend.row, turned.bit),
-            Turn::Two(pair) => {
+            BitTurn::One(turned) => turn_bit(bytes, mend.row, turned.bit),
+            BitTurn::Two(pair) => {
                 turn_bit(bytes, mend.row, pair.low);
                 turn_bit(bytes, mend.row, pair.high);
             }
-            Turn::Tied | Turn::Nothing => {}
+            BitTurn::Tied | BitTurn::Nothing => {}
         }
     }
 }

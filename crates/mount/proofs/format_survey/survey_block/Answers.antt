@@ -3,8 +3,8 @@ use Rattle.std.proofs.lemmas.Result.{err_from_is_err_and}
 use Rattle.page_layout.specs.Flash.{Flash, page_at, no_page}
 use Rattle.image_check.proofs.ReadLemmas.{reads_then, risen_over}
 use Rattle.mount.specs.Fresh.{is_page_used, is_used, IsFirst}
-use Rattle.mount.specs.PageLook.{look_of, is_look_used}
-use Rattle.mount.specs.declared.format_survey.PageLook.{PageLook}
+use Rattle.mount.specs.FreshLook.{fresh_look_of, is_look_used}
+use Rattle.mount.specs.declared.format_survey.FreshLook.{FreshLook}
 use Rattle.mount.proofs.SurveyLemmas.{block_rows, is_used-block, first_used-block, reads_first, reads_last, reads_inner, reads_whole, row_past, two_pages, or_then, or_else, marked_block}
 use Rattle.mount.proofs.format_survey.survey_block.Goals.{then-first, else-first}
 use Rattle.mount.proofs.format_survey.survey_block.Goals as goal
@@ -110,7 +110,7 @@ returns g c =
       | then-first w ↦ or_then _ _ _ w.if-first.true w.marked-is
       | else-first w ↦ or_else _ _ _ w.if-first.false w.marked-is
     ] in
-    let last_look = λ (h : g.S.PageSource.view.honest c.args.source.now ≡ true). made2.looked (made1.only_reads.honest_is ∙ h) ∙ ap (λ (f : Flash). look_of (page_at f last_row)) (made1.same h) in
+    let last_look = λ (h : g.S.PageSource.view.honest c.args.source.now ≡ true). made2.looked (made1.only_reads.honest_is ∙ h) ∙ ap (λ (f : Flash). fresh_look_of (page_at f last_row)) (made1.same h) in
     let marked_is = λ (h : g.S.PageSource.view.honest c.args.source.now ≡ true).
     marked_block geometry flash.image block first_row last_row _ marked _ _ either (made1.looked h) (last_look h) rows.first_is c.row-last_row.ensures.is c.pages.ensures in
     record {
@@ -121,9 +121,9 @@ returns g c =
           subst (λ (f : Flash). IsFirst (λ row. is_page_used marked (page_at f row)) (first_row + 1) last_row c.in_ok-inner.inner) (made2.same (made1.only_reads.honest_is ∙ h) ∙ made1.same h) (made.first (before.honest_is ∙ h)) in
           let found : IsFirst (is_used geometry flash.image) first_row (last_row + 1) c.first_of_block-used.result =
           c.first_of_block-used.ensures.first (is_used geometry flash.image)
-          (is_used-block geometry flash.image block first_row marked is rows.first_low rows.first_high ∙ ap (λ (l : PageLook). is_look_used marked l) (sym (made1.looked h)))
+          (is_used-block geometry flash.image block first_row marked is rows.first_low rows.first_high ∙ ap (λ (l : FreshLook). is_look_used marked l) (sym (made1.looked h)))
           (first_used-block geometry flash.image block (first_row + 1) last_row marked c.in_ok-inner.inner is rows.inner_low rows.inner_high inner)
-          (is_used-block geometry flash.image block last_row marked is rows.last_low rows.last_high ∙ ap (λ (l : PageLook). is_look_used marked l) (sym (last_look h))) in
+          (is_used-block geometry flash.image block last_row marked is rows.last_low rows.last_high ∙ ap (λ (l : FreshLook). is_look_used marked l) (sym (last_look h))) in
           rw (← rows.last_is, ← rows.first_is) found;
       row = row_past _ _ _ c.first_of_block-used.ensures.row c.row-last_row.ensures.within;
       same = λ h. made.same (before.honest_is ∙ h) ∙ (made2.same (made1.only_reads.honest_is ∙ h) ∙ made1.same h);

@@ -1,7 +1,7 @@
 use Rattle.std.proofs.Common.{◌≡◌, ◌∙◌, ap, map, length, arith, get_or}
 use Rattle.std.proofs.lemmas.List.{get_or_default, take_all}
-use Rattle.nand_die.specs.Turns.{turn_of}
-use Rattle.nand_die.specs.Made.{first_turns}
+use Rattle.nand_die.specs.NextPages.{next_page_of}
+use Rattle.nand_die.specs.Made.{first_next_pages}
 use Rattle.nand_die.proofs.MakeLemmas.{named_none, named_more, named_all, named_stop}
 use Rattle.nand_die.proofs.make.bar_all.Goals as goal
 
@@ -11,20 +11,20 @@ loop-block-init c next fresh = named_none c.args.geometry.now next c.args.bad.no
 pub returns-then-not-bar-clause-misnamed : goal.returns-then-not-bar-clause-misnamed
 returns-then-not-bar-clause-misnamed c next fresh =
     let k = c.loop-block.block-index in
-    let blocks : length c.loop-block.turns ≡ c.args.geometry.now.blocks = omega (arith, c.loop-block.auto.turns, c.requires.blocks) in
-    named_stop c.args.geometry.now next c.args.bad.now k (get_or c.args.bad.now k 0) (length c.loop-block.turns) (map turn_of c.loop-block.turns) (c.loop-block.invariant next fresh) c.loop-block-test.true
+    let blocks : length c.loop-block.next_pages ≡ c.args.geometry.now.blocks = omega (arith, c.loop-block.auto.next_pages, c.requires.blocks) in
+    named_stop c.args.geometry.now next c.args.bad.now k (get_or c.args.bad.now k 0) (length c.loop-block.next_pages) (map next_page_of c.loop-block.next_pages) (c.loop-block.invariant next fresh) c.loop-block-test.true
     (get_or_default c.args.bad.now k 0 (get_or c.args.bad.now k 0) c.loop-block-test.true) blocks (c.bar.ensures.misnamed c.if-not-bar.true)
 
 pub loop-block-preserved : goal.loop-block-preserved
 loop-block-preserved c next fresh =
     let k = c.loop-block.block-index in
-    let blocks : length c.loop-block.turns ≡ c.args.geometry.now.blocks = omega (arith, c.loop-block.auto.turns, c.requires.blocks) in
+    let blocks : length c.loop-block.next_pages ≡ c.args.geometry.now.blocks = omega (arith, c.loop-block.auto.next_pages, c.requires.blocks) in
     let h = c.bar.ensures.named c.if-not-bar.false in
-    named_more c.args.geometry.now next c.args.bad.now k (get_or c.args.bad.now k 0) (length c.loop-block.turns) (map turn_of c.loop-block.turns) (map turn_of c.bar.new.turns) (c.loop-block.invariant next fresh) c.loop-block-test.true
+    named_more c.args.geometry.now next c.args.bad.now k (get_or c.args.bad.now k 0) (length c.loop-block.next_pages) (map next_page_of c.loop-block.next_pages) (map next_page_of c.bar.new.next_pages) (c.loop-block.invariant next fresh) c.loop-block-test.true
     (get_or_default c.args.bad.now k 0 (get_or c.args.bad.now k 0) c.loop-block-test.true) blocks h.0 h.1 h.2
 
 pub returns-clause-named : goal.returns-clause-named
 returns-clause-named c next fresh = named_all c.args.geometry.now next c.args.bad.now c.loop-block.block-index _ (c.loop-block.invariant next fresh) c.loop-block-test.false
 
-pub returns-clause-turns : goal.returns-clause-turns
-returns-clause-turns c next fresh = (c.loop-block.invariant next fresh).turns_so ∙ ap (first_turns c.args.geometry.now next) (take_all c.loop-block.block-index c.args.bad.now c.loop-block-test.false)
+pub returns-clause-next_pages : goal.returns-clause-next_pages
+returns-clause-next_pages c next fresh = (c.loop-block.invariant next fresh).turns_so ∙ ap (first_next_pages c.args.geometry.now next) (take_all c.loop-block.block-index c.args.bad.now c.loop-block-test.false)

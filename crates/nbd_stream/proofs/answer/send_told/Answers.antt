@@ -2,14 +2,14 @@ use Rattle.std.proofs.Common.{◌≡◌, ℕ, Bool, List, [], ◌++◌, sym, ap,
 use Rattle.request_stream.specs.Frames.{SendsBytes}
 use Rattle.nbd_stream.specs.declared.export.Export.{Export}
 use Rattle.nbd_stream.specs.declared.answer.Answer.TheVariants.{Told}
-use Rattle.nbd_stream.specs.Options.{answer_bytes, option_reply_header, export_info, block_info}
+use Rattle.nbd_stream.specs.Options.{option_answer_bytes, option_reply_header, export_info, block_info}
 use Rattle.nbd_stream.proofs.answer.send_told.Goals as goal
 
 three_replies : (a b c d e : List ℕ) → a ++ (b ++ (c ++ (d ++ (e ++ [])))) ≡ (a ++ b) ++ ((c ++ d) ++ (e ++ []))
 three_replies a b c d e = sym (append_assoc a b (c ++ (d ++ (e ++ [])))) ∙ ap (λ (l : List ℕ). (a ++ b) ++ l) (sym (append_assoc c d (e ++ [])))
 
 told_bytes : (x : Export) (no_zeroes : Bool) (code : ℕ) (a b c d e : List ℕ) → a ≡ option_reply_header code 3 12 → b ≡ export_info x → c ≡ option_reply_header code 3 14 → d ≡ block_info x → e ≡ option_reply_header code 1 0
-    → a ++ (b ++ (c ++ (d ++ (e ++ [])))) ≡ answer_bytes x no_zeroes code Told
+    → a ++ (b ++ (c ++ (d ++ (e ++ [])))) ≡ option_answer_bytes x no_zeroes code Told
 told_bytes x no_zeroes code a b c d e pa pb pc pd pe =
     three_replies a b c d e
     ∙ ap (λ (l : List ℕ). (l ++ b) ++ ((c ++ d) ++ (e ++ []))) pa

@@ -1,14 +1,14 @@
 use Rattle.std.proofs.Common.{◌≡◌, ℕ, List, [], ◌++◌, Result, Ok, Err, ap, ◌∙◌, subst, append-nil}
 use Rattle.request_stream.specs.Frames.{SendsBytes}
 use Rattle.nbd_stream.specs.declared.reply.RequestError.{RequestError}
-use Rattle.nbd_stream.specs.Frames.{reply_bytes, reply_header_bytes, error_number_of}
+use Rattle.nbd_stream.specs.Frames.{simple_reply_bytes, reply_header_bytes, error_number_of}
 use Rattle.nbd_stream.proofs.reply.send_reply.Goals as goal
 
-done_bytes : (cookie : ℕ) (done : Result (Unit {0}) RequestError) (x : Unit {0}) (header bytes : List ℕ) → done ≡ Ok x → header ≡ reply_header_bytes (error_number_of done) cookie → header ++ (bytes ++ []) ≡ reply_bytes cookie done bytes
+done_bytes : (cookie : ℕ) (done : Result (Unit {0}) RequestError) (x : Unit {0}) (header bytes : List ℕ) → done ≡ Ok x → header ≡ reply_header_bytes (error_number_of done) cookie → header ++ (bytes ++ []) ≡ simple_reply_bytes cookie done bytes
 done_bytes cookie (Ok y) x header bytes is head = ap (λ (l : List ℕ). l ++ (bytes ++ [])) head ∙ ap (λ (l : List ℕ). reply_header_bytes 0 cookie ++ l) (append-nil bytes)
 done_bytes cookie (Err e) x header bytes is head = (let no : ⊥ = cc in absurd no)
 
-refused_bytes : (cookie : ℕ) (done : Result (Unit {0}) RequestError) (e : RequestError) (header bytes : List ℕ) → done ≡ Err e → header ≡ reply_header_bytes (error_number_of done) cookie → header ++ [] ≡ reply_bytes cookie done bytes
+refused_bytes : (cookie : ℕ) (done : Result (Unit {0}) RequestError) (e : RequestError) (header bytes : List ℕ) → done ≡ Err e → header ≡ reply_header_bytes (error_number_of done) cookie → header ++ [] ≡ simple_reply_bytes cookie done bytes
 refused_bytes cookie (Ok y) e header bytes is head = (let no : ⊥ = cc in absurd no)
 refused_bytes cookie (Err f) e header bytes is head = append-nil header ∙ head
 

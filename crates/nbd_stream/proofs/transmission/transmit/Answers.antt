@@ -2,7 +2,7 @@ use Rattle.std.proofs.Common.{◌≡◌, ◌≤◌, ◌∙◌, inl, inr, length,
 use Rattle.std.proofs.lemmas.Result.{err_from_is_err_and}
 use Rattle.nbd_stream.proofs.ThroughLemmas.{joined, none}
 use Rattle.nbd_stream.proofs.Serving.{counted_out, finished, serving_none, serving_on, stopped}
-use Rattle.nbd_stream.specs.Frames.{request_bytes}
+use Rattle.nbd_stream.specs.Frames.{nbd_request_bytes}
 use Rattle.nbd_stream.proofs.StreamEnds.{long_request, more_read, none_read}
 use Rattle.nbd_stream.proofs.transmission.transmit.Goals as goal
 
@@ -16,7 +16,7 @@ loop-preserved g c =
       long,
       serving_on g.D.Disk.contents g.D.Disk.honest g.D.Disk.calm g.D.Disk.does g.D.Disk.rests c.args.export.now c.args.disk.now c.loop.disk _ _ _ _ c.loop.invariant.1 c.serve_next.new.disk _ _ one,
       λ reads. joined g.D.Disk.leaves c.args.disk.now c.loop.disk c.serve_next.new.disk (c.loop.invariant.2 reads) (c.in_ok-serve_next.ensures.leaves reads),
-      more_read c.loop.counter _ _ _ (request_bytes one.round.exchange.request) c.loop.invariant.3 (long_request one.round.exchange.request) one.read,
+      more_read c.loop.counter _ _ _ (nbd_request_bytes one.round.exchange.request) c.loop.invariant.3 (long_request one.round.exchange.request) one.read,
     )
 
 pub serve_next-requires-clause-size : goal.serve_next-requires-clause-size

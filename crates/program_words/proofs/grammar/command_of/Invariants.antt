@@ -6,6 +6,6 @@ use Rattle.program_words.proofs.grammar.command_of.Given as goal
 
 abbrev pub invariant-loop-place : goal.invariant-loop-place
 invariant-loop-place l = record {
-  told : app_of l.command ≡ told.alone (told.command_of l.rule.name.now (map told.word_rule (take l.place l.rule.words.now)));
+  told : app_of l.command ≡ told.alone (told.command_with_words l.rule.name.now (map told.word_rule (take l.place l.rule.words.now)));
   local : (out-Command l.command).has_globals ≡ false;
 }

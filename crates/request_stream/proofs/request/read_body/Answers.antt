@@ -7,7 +7,7 @@ use Rattle.promises.specs.Stream.{body_length}
 use Rattle.promises.specs.contracts.stream.Op.{the_type}
 use Rattle.promises.specs.declared.stream.Op.{Op}
 use Rattle.promises.specs.declared.stream.Op.TheVariants.{Write}
-use Rattle.request_stream.specs.Frames.{body_at}
+use Rattle.request_stream.specs.Frames.{body_in_buffer}
 use Rattle.request_stream.proofs.Reading.{none_follows}
 use Rattle.request_stream.proofs.request.read_body.Goals as goal
 
@@ -45,4 +45,4 @@ returns-else-filled-body g c =
     let from = g.R.Read.remaining c.args.reader.now in
     let to = g.R.Read.remaining c.fill-filled.new.reader in
     let write = differs_false the_type tt c.args.header.op Write (sym c.ne.ensures ∙ c.if-ne.false) in
-    (refl, subst (λ (o : Op). Consumes from to (body_at o bytes)) (sym write) (subst (Consumes from to) (take_all n bytes c.if-filled-body.false) its.read))
+    (refl, subst (λ (o : Op). Consumes from to (body_in_buffer o bytes)) (sym write) (subst (Consumes from to) (take_all n bytes c.if-filled-body.false) its.read))

@@ -3,14 +3,14 @@ use Rattle.std.specs.Prelude.{All, count_by}
 use Rattle.std.specs.List.{range_with_len}
 use Rattle.allocation.specs.declared.fill.Fill.{Fill}
 use Rattle.bad_blocks.specs.declared.table.TableRow.{TableRow}
-use Rattle.bad_blocks.specs.Table.{IsCounted}
+use Rattle.bad_blocks.specs.Table.{HasFittingWear}
 use Rattle.allocation.specs.Begun.{unused}
 use Rattle.allocation.proofs.BegunLemmas.{counted_rows, safe_begun_read}
 use Rattle.allocation.proofs.blocks.Blocks.new.Goals as goal
 
 pub new-requires-clause-counted : goal.new-requires-clause-counted
 new-requires-clause-counted c =
-    subst (λ (x : List TableRow). All IsCounted x) (sym (c.deref.ensures.value ∙ c.in_ok-begun_rows.ensures)) (counted_rows c.args.states.now)
+    subst (λ (x : List TableRow). All HasFittingWear x) (sym (c.deref.ensures.value ∙ c.in_ok-begun_rows.ensures)) (counted_rows c.args.states.now)
 
 pub invariant_of-result : goal.invariant_of-result
 invariant_of-result c =

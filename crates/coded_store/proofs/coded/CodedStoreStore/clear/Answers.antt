@@ -3,7 +3,7 @@ use Rattle.std.specs.Result.{is_ok}
 use Rattle.page_layout.specs.declared.geometry.Geometry.{Geometry}
 use Rattle.file_die.specs.Store.{Clears}
 use Rattle.file_die.specs.Rows.{held_in}
-use Rattle.coded_store.specs.Reading.{shown_by}
+use Rattle.coded_store.specs.Reading.{page_as_read}
 use Rattle.coded_store.proofs.StoreLemmas.{coded_reading}
 use Rattle.coded_store.proofs.coded.CodedStoreStore.clear.Goals as goal
 
@@ -11,5 +11,5 @@ pub returns-clause-clears : goal.returns-clause-clears
 returns-clause-clears g c e =
     let old = c.self.inside.rows in
     let held = g.F.ByteFile.held in
-    rw (← c.self.view_is) (subst (λ (z : Geometry). Clears (held_in held (shown_by old.geometry) old) c.args.block (is_ok c.erase.result) (held_in held (shown_by z) c.erase.new.self)) (sym c.erase.ensures.counts.geometry)
-    (c.erase.ensures.clears (shown_by old.geometry) (coded_reading old.geometry old.size c.self.invariant.sized) (rw (← c.self.view_is) at e)))
+    rw (← c.self.view_is) (subst (λ (z : Geometry). Clears (held_in held (page_as_read old.geometry) old) c.args.block (is_ok c.erase.result) (held_in held (page_as_read z) c.erase.new.self)) (sym c.erase.ensures.counts.geometry)
+    (c.erase.ensures.clears (page_as_read old.geometry) (coded_reading old.geometry old.size c.self.invariant.sized) (rw (← c.self.view_is) at e)))

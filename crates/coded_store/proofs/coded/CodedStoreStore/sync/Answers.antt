@@ -3,7 +3,7 @@ use Rattle.std.specs.Result.{is_ok}
 use Rattle.page_layout.specs.declared.geometry.Geometry.{Geometry}
 use Rattle.file_die.specs.Store.{Syncs}
 use Rattle.file_die.specs.Rows.{held_in}
-use Rattle.coded_store.specs.Reading.{shown_by}
+use Rattle.coded_store.specs.Reading.{page_as_read}
 use Rattle.coded_store.proofs.StoreLemmas.{coded_reading}
 use Rattle.coded_store.proofs.coded.CodedStoreStore.sync.Goals as goal
 
@@ -11,5 +11,5 @@ pub returns-clause-syncs : goal.returns-clause-syncs
 returns-clause-syncs g c e =
     let old = c.self.inside.rows in
     let held = g.F.ByteFile.held in
-    rw (← c.self.view_is) (subst (λ (z : Geometry). Syncs (held_in held (shown_by old.geometry) old) (is_ok c.sync.result) (held_in held (shown_by z) c.sync.new.self)) (sym c.sync.ensures.counts.geometry)
-    (c.sync.ensures.syncs (shown_by old.geometry) (coded_reading old.geometry old.size c.self.invariant.sized) (rw (← c.self.view_is) at e)))
+    rw (← c.self.view_is) (subst (λ (z : Geometry). Syncs (held_in held (page_as_read old.geometry) old) (is_ok c.sync.result) (held_in held (page_as_read z) c.sync.new.self)) (sym c.sync.ensures.counts.geometry)
+    (c.sync.ensures.syncs (page_as_read old.geometry) (coded_reading old.geometry old.size c.self.invariant.sized) (rw (← c.self.view_is) at e)))

@@ -5,8 +5,8 @@ use Rattle.collection.specs.Truth.{IsTrue}
 use Rattle.collection.specs.Acts.{EngineActs}
 use Rattle.collection.specs.Results.{Goes}
 use Rattle.collection.specs.Collect.{waiting, KeepsKeys, Refreshes}
-use Rattle.collection.specs.Left.{HasPassed}
-use Rattle.collection.specs.Whole.{HasRead, IsUnderWay}
+use Rattle.collection.specs.Left.{HasPassedNoNewest}
+use Rattle.collection.specs.Whole.{HasReadFewPages, IsUnderWay}
 use Rattle.collection.specs.Stops.{IsLeftByStop, Stops}
 use Rattle.collection.proofs.engine.Engine.collect_from.Given as goal
 
@@ -20,12 +20,12 @@ invariant-steps g l = record {
   pinned : l.self.pinned ≡ Some (record { block = l.fn.pinned.block; first = l.first });
   room : length l.self.mapping.moved ≤ waiting (ram l.self) + l.first;
   closed : is_closed (ram l.self).blocks l.fn.pinned.block ≡ true;
-  reads : HasRead l.flushing l.fn.pinned.first l.first (ram l.fn.self) (ram l.self) (g.N.PageSource.view.reads l.fn.self.nand) (g.N.PageSource.view.reads l.self.nand);
+  reads : HasReadFewPages l.flushing l.fn.pinned.first l.first (ram l.fn.self) (ram l.self) (g.N.PageSource.view.reads l.fn.self.nand) (g.N.PageSource.view.reads l.self.nand);
   under_way : IsUnderWay l.flushing l.fn.pinned.block l.first (ram l.fn.self) (ram l.self)
       ((g.N.PageSource.view.honest l.fn.self.nand ≡ true) × IsTrue None (ram l.fn.self) (image_in g.N.PageSource.view.flash l.fn.self)
-      × HasPassed (ram l.fn.self) (image_in g.N.PageSource.view.flash l.fn.self) l.fn.pinned) (image_in g.N.PageSource.view.flash l.fn.self)
+      × HasPassedNoNewest (ram l.fn.self) (image_in g.N.PageSource.view.flash l.fn.self) l.fn.pinned) (image_in g.N.PageSource.view.flash l.fn.self)
       (image_in g.N.PageSource.view.flash l.self);
-  stops : g.N.PageSource.view.honest l.fn.self.nand ≡ true → IsTrue None (ram l.fn.self) (image_in g.N.PageSource.view.flash l.fn.self) → HasPassed (ram l.fn.self) (image_in g.N.PageSource.view.flash l.fn.self) l.fn.pinned
+  stops : g.N.PageSource.view.honest l.fn.self.nand ≡ true → IsTrue None (ram l.fn.self) (image_in g.N.PageSource.view.flash l.fn.self) → HasPassedNoNewest (ram l.fn.self) (image_in g.N.PageSource.view.flash l.fn.self) l.fn.pinned
       → Stops g.N.PageSource.view (IsLeftByStop (ram l.fn.self) (image_in g.N.PageSource.view.flash l.fn.self) (image_in g.N.PageSource.view.flash l.self)) l.fn.self l.self;
 }
 

@@ -2,7 +2,7 @@ use Rattle.std.proofs.Common.{◌∙◌, ap, sym, subst, ◌<◌}
 use Rattle.std.proofs.lemmas.Result.{err_from_is_err_and}
 use Rattle.page_layout.specs.Key.{key_of}
 use Rattle.budget.specs.Stream.{stream_of}
-use Rattle.collection.specs.Safe.{ram, page_in}
+use Rattle.collection.specs.Safe.{ram, page_in_buffer}
 use Rattle.collection.proofs.Copies.{may_copy, moved_out, renewed_by, renewed_marked, marked_at, last_marked, goes_marked, cost_marked, refreshes_marked, moved_marked, place_any, keys_set, keys_same, refreshes_same, fault_costs}
 use Rattle.collection.proofs.Copies.{pin_marked, followed, moves_one}
 use Rattle.collection.proofs.Lefts.{copied_touches}
@@ -103,7 +103,7 @@ returns g c =
                 let follows = followed c.args.flushing (key_of rec) row' r b _ marked e.goes.geometry e.pin e.mapping in
                 rw m.nand (copied_touches c.args.flushing (key_of rec) c.args.row row' r _ old new
                 c.requires.safe.memory c.requires.key live.newest follows shut out.same.leaves out.gone (moves_one (key_of rec) row' _ _ follows.mapping));
-            programmed = last_marked rec.kind rec.number b _ _ _ (ap (λ r. r.next) m.marked) (ap page_in m.page) e.programmed;
+            programmed = last_marked rec.kind rec.number b _ _ _ (ap (λ r. r.next) m.marked) (ap page_in_buffer m.page) e.programmed;
             truth = λ honest w shut live.
                 let out = moved_out r b old new c.args.row row' rec body c.requires.safe.memory e.acts.safe.memory e.goes.geometry w live c.requires.key c.requires.row shut e.row
                 (e.truth honest (may_copy r old c.args.row rec body w c.requires.key live)) in

@@ -1,5 +1,5 @@
 use Rattle.std.proofs.Common.{◌∙◌, sym, subst}
-use Rattle.collection.specs.Safe.{page_in}
+use Rattle.collection.specs.Safe.{page_in_buffer}
 use Rattle.collection.specs.Live.{LooksAt}
 use Rattle.collection.proofs.Renews.{due_page, no_due_page, none_at}
 use Rattle.std.proofs.lemmas.Result.{err_from_is_err_and}
@@ -17,7 +17,7 @@ returns-then-is_due g c = record {
       let image = (g.N.PageSource.view.flash c.args.self.now.nand).image in
       let page = c.live_record.new.self.page in
       let live = subst (LooksAt c.args.row page.body.items image) c.in-Some.is (c.in_ok-live.ensures.truth honest w) in
-      due_page image c.args.row (page_in page) c.in-Some.found page.body.items (c.in_ok-live.ensures.stands honest) live (sym c.is_due.ensures ∙ c.if-is_due.true);
+      due_page image c.args.row (page_in_buffer page) c.in-Some.found page.body.items (c.in_ok-live.ensures.stands honest) live (sym c.is_due.ensures ∙ c.if-is_due.true);
 }
 
 pub returns-else-is_due : goal.returns-else-is_due
@@ -28,7 +28,7 @@ returns-else-is_due g c = record {
       let image = (g.N.PageSource.view.flash c.args.self.now.nand).image in
       let page = c.live_record.new.self.page in
       let live = subst (LooksAt c.args.row page.body.items image) c.in-Some.is (c.in_ok-live.ensures.truth honest w) in
-      no_due_page image c.args.row (page_in page) c.in-Some.found page.body.items (c.in_ok-live.ensures.stands honest) live (sym c.is_due.ensures ∙ c.if-is_due.false);
+      no_due_page image c.args.row (page_in_buffer page) c.in-Some.found page.body.items (c.in_ok-live.ensures.stands honest) live (sym c.is_due.ensures ∙ c.if-is_due.false);
 }
 
 pub returns-in_err-live : goal.returns-in_err-live

@@ -1,6 +1,6 @@
 use Rattle.std.proofs.Common.{◌∙◌, ap, Some, sym, refl}
 use Rattle.std.proofs.lemmas.Result.{err_from_is_err_and}
-use Rattle.collection.specs.Safe.{ram, page_in}
+use Rattle.collection.specs.Safe.{ram, page_in_buffer}
 use Rattle.collection.specs.Pages.{newest_row}
 use Rattle.collection.proofs.Acts.{looks_then, looks_ok, looks_err}
 use Rattle.collection.proofs.Looks.{none_from, ok_not_bus}
@@ -23,7 +23,7 @@ returns-else-eq g c = record {
   looks = looks_then _ _ _ _ _ c.in_ok-taken.ensures.looks (looks_ok _ _ _ _ c.in_ok-newest.ensures.looks);
   reads = reads_two _ _ _ c.take_page.ensures.reads c.find_newest.ensures.reads;
   checked = λ _ is. absurd (none_not_some _ is);
-  stands = λ honest. c.in_ok-taken.ensures.stands honest ∙ ap (λ b. Some (page_in b)) (sym c.find_newest.ensures.page);
+  stands = λ honest. c.in_ok-taken.ensures.stands honest ∙ ap (λ b. Some (page_in_buffer b)) (sym c.find_newest.ensures.page);
   truth = λ honest w.
       let taken = c.in_ok-taken.ensures.truth honest in
       let still = ap (λ f. f.image) (c.in_ok-taken.ensures.looks.same honest (ok_not_bus _)) in
@@ -51,9 +51,9 @@ returns-then-eq g c = record {
   looks = looks_then _ _ _ _ _ c.in_ok-taken.ensures.looks (looks_ok _ _ _ _ c.in_ok-newest.ensures.looks);
   reads = reads_two _ _ _ c.take_page.ensures.reads c.find_newest.ensures.reads;
   checked = found_here c.args.row c.in-Some.found c.in_ok-taken.taken c.key-key.result c.in_ok-newest.newest c.eq.result c.in-Some.is c.key-key.ensures c.eq.ensures c.if-eq.true
-      (ram c.args.self.now) (ram c.take_page.new.self) _ _ _ c.take_page.ensures.looks.memory c.in_ok-taken.ensures.sound (ap (λ b. page_in b) c.find_newest.ensures.page)
+      (ram c.args.self.now) (ram c.take_page.new.self) _ _ _ c.take_page.ensures.looks.memory c.in_ok-taken.ensures.sound (ap (λ b. page_in_buffer b) c.find_newest.ensures.page)
       (c.if-not-has_key.ensures.0 refl) c.in_ok-newest.ensures.points;
-  stands = λ honest. c.in_ok-taken.ensures.stands honest ∙ ap (λ b. Some (page_in b)) (sym c.find_newest.ensures.page);
+  stands = λ honest. c.in_ok-taken.ensures.stands honest ∙ ap (λ b. Some (page_in_buffer b)) (sym c.find_newest.ensures.page);
   truth = λ honest w.
       let still = ap (λ f. f.image) (c.in_ok-taken.ensures.looks.same honest (ok_not_bus _)) in
       let found = still_newest (ram c.args.self.now) (ram c.take_page.new.self) _ _ c.key-key.result c.in_ok-newest.newest w c.take_page.ensures.looks.memory still (c.in_ok-newest.ensures.truth (c.take_page.ensures.looks.only_reads.honest_is ∙ honest)) in

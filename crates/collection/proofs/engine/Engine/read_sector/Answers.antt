@@ -1,7 +1,7 @@
 use Rattle.std.proofs.Common.{slice_get, Some, refl, ap, sym, subst, ◌∙◌, ◌<◌, ◌≡◌, None, Ok}
 use Rattle.std.proofs.lemmas.Result.{err_from_is_err_and}
 use Rattle.page_layout.specs.Page.{page}
-use Rattle.collection.specs.Safe.{ram, page_in}
+use Rattle.collection.specs.Safe.{ram, page_in_buffer}
 use Rattle.collection.specs.Looks.{FindsRow}
 use Rattle.collection.proofs.Acts.{looks_read, looks_then, looks_ok, looks_err}
 use Rattle.collection.proofs.Looks.{none_from, ok_not_bus, read_none, read_some, gives_none, gives_some, finds_row}
@@ -22,9 +22,9 @@ returns-in_default g c = record {
   unmapped = λ unknown is. (refl, (c.in_ok-found.ensures.unmapped unknown is).1);
   looked_up =
       let none = none_from c.in_ok-found.found c.in_default.not-Some in
-      rw (← none) (finds_row (ram c.args.self.now) c.args.sector (page_in c.row_of_sector.new.self.scratch) c.in_ok-found.found c.in_ok-found.ensures.hit c.in_ok-found.ensures.checked);
+      rw (← none) (finds_row (ram c.args.self.now) c.args.sector (page_in_buffer c.row_of_sector.new.self.scratch) c.in_ok-found.found c.in_ok-found.ensures.hit c.in_ok-found.ensures.checked);
   refused = tt;
-  checked = gives_none c.args.self.now.geometry c.args.sector _ (page_in c.row_of_sector.new.self.page) _ c.clear.ensures c.requires.whole;
+  checked = gives_none c.args.self.now.geometry c.args.sector _ (page_in_buffer c.row_of_sector.new.self.page) _ c.clear.ensures c.requires.whole;
   truth = λ honest w. read_none c.args.self.now.geometry _ c.args.sector c.in_ok-found.found _ _ (c.in_ok-found.ensures.truth honest w) (none_from c.in_ok-found.found c.in_default.not-Some) c.clear.ensures c.requires.whole;
 }
 
@@ -40,10 +40,10 @@ returns g c = record {
   unwritten = λ is. found_apart c.in_ok-found.found c.in-Some.row (c.in_ok-found.ensures.hit None is).0 c.in-Some.is;
   unmapped = λ unknown is. found_apart c.in_ok-found.found c.in-Some.row (c.in_ok-found.ensures.unmapped unknown is).0 c.in-Some.is;
   looked_up =
-      let found = finds_row (ram c.args.self.now) c.args.sector (page_in c.row_of_sector.new.self.scratch) c.in_ok-found.found c.in_ok-found.ensures.hit c.in_ok-found.ensures.checked in
-      subst (FindsRow (ram c.args.self.now) c.args.sector (page_in c.row_of_sector.new.self.scratch)) c.in-Some.is found;
+      let found = finds_row (ram c.args.self.now) c.args.sector (page_in_buffer c.row_of_sector.new.self.scratch) c.in_ok-found.found c.in_ok-found.ensures.hit c.in_ok-found.ensures.checked in
+      subst (FindsRow (ram c.args.self.now) c.args.sector (page_in_buffer c.row_of_sector.new.self.scratch)) c.in-Some.is found;
   refused = tt;
-  checked = gives_some c.args.self.now.geometry c.args.sector c.in-Some.row (Some c.in-Some.row) (page_in c.read_of.new.buffer)
+  checked = gives_some c.args.self.now.geometry c.args.sector c.in-Some.row (Some c.in-Some.row) (page_in_buffer c.read_of.new.buffer)
       c.in_ok-written.written _ c.deref.result.now _ refl c.in_ok-written.ensures.checked c.deref.ensures.value c.copy_sector.ensures.sector
       c.copy_sector.ensures.others c.requires.whole;
   truth = λ honest w.

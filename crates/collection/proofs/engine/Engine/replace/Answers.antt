@@ -9,7 +9,7 @@ use Rattle.collection.proofs.HalfPuts.{put_cut}
 use Rattle.collection.proofs.Steps.{err_same}
 use Rattle.collection.proofs.Looks.{ok_not_bus}
 use Rattle.collection.proofs.Costs.{not_bus}
-use Rattle.collection.specs.Safe.{ram, page_in}
+use Rattle.collection.specs.Safe.{ram, page_in_buffer}
 use Rattle.promises.specs.Stop.{LeavesOnly}
 use Rattle.collection.specs.Stops.{IsKeptOr}
 use Rattle.collection.proofs.Ledgers.{sets_share}
@@ -106,7 +106,7 @@ pub returns-clause-mapping : goal.returns-clause-mapping
 returns-clause-mapping g c = subst (λ m. SetsMapping (key_from c.args.kind c.args.number) c.in_ok-row.row m c.settle.new.self.mapping) c.put_page.ensures.goes.mapping c.settle.ensures.settles.mapping
 
 pub returns-clause-programmed : goal.returns-clause-programmed
-returns-clause-programmed g c = last_marked c.args.kind c.args.number (ram c.put_page.new.self) (ram c.settle.new.self) _ _ c.settle.ensures.settles.next (ap page_in c.settle.ensures.page) c.in_ok-row.ensures.programmed
+returns-clause-programmed g c = last_marked c.args.kind c.args.number (ram c.put_page.new.self) (ram c.settle.new.self) _ _ c.settle.ensures.settles.next (ap page_in_buffer c.settle.ensures.page) c.in_ok-row.ensures.programmed
 
 pub returns-clause-goes : goal.returns-clause-goes
 returns-clause-goes g c = settled_goes _ _ _ (key_from c.args.kind c.args.number) c.in_ok-row.row c.put_page.ensures.goes.goes c.settle.ensures.settles

@@ -1,7 +1,7 @@
 use Rattle.std.proofs.Common.{◌∙◌, ap, refl, sym, subst, ◌<◌}
 use Rattle.std.proofs.lemmas.List.{with_items_is}
 use Rattle.std.proofs.lemmas.Result.{err_from_is_err_and}
-use Rattle.collection.specs.Safe.{ram, page_in}
+use Rattle.collection.specs.Safe.{ram, page_in_buffer}
 use Rattle.collection.proofs.Looks.{ok_not_bus}
 use Rattle.collection.proofs.WriteBacks.{filled_at, brought_at, may_write_back, cleans_by, written_back_by}
 use Rattle.collection.proofs.Copies.{moved_written}
@@ -43,7 +43,7 @@ returns g c =
       padded = subst (IsPadded c.args.self.now.geometry c.args.t)
           (sym (ap (λ b. b.items) c.replace.ensures.page ∙ with_items_is c.args.self.now.page.body c.fill_entries.new.body (c.fill_entries.auto.body ∙ c.deref_mut.ensures.len)))
           c.fill_entries.ensures.padded;
-      checked = λ starts. brought_at c.args.t c.args.row c.args.self.now.geometry c.args.self.now.mapping (page_in c.args.self.now.page) _
+      checked = λ starts. brought_at c.args.t c.args.row c.args.self.now.geometry c.args.self.now.mapping (page_in_buffer c.args.self.now.page) _
           c.deref_mut.result.now c.fill_entries.new.body
           (ap (λ b. b.items) c.replace.ensures.page ∙ with_items_is c.args.self.now.page.body c.fill_entries.new.body (c.fill_entries.auto.body ∙ c.deref_mut.ensures.len))
           c.deref_mut.ensures.value starts c.fill_entries.ensures.rows;

@@ -1,14 +1,14 @@
 use Rattle.std.proofs.Common.{◌*◌, [], false, inr, refl, subst, sym}
 use Rattle.nbd_stream.specs.declared.task.Task.TheVariants.{Read}
 use Rattle.nbd_stream.specs.Disk.{PerformsTask, answer_from}
-use Rattle.disk_server.specs.Reopened.{AreParts}
+use Rattle.disk_server.specs.Reopened.{AreReopenedParts}
 use Rattle.disk_server.proofs.ReopenedLemmas.{at, given_of, going, goes_on, parts_on}
 use Rattle.disk_server.proofs.reopened.ReopenedDeviceSectors.read_sector.Goals as goal
 
 pub invariant_of-self-2 : goal.invariant_of-self-2
 invariant_of-self-2 g c =
     let was = sym c.in-Some.ensures.value in
-    subst (λ device. AreParts c.self.inside.size c.self.inside.count c.self.inside.capacity device) (sym c.replace.ensures.after)
+    subst (λ device. AreReopenedParts c.self.inside.size c.self.inside.count c.self.inside.capacity device) (sym c.replace.ensures.after)
     (parts_on _ _ _ _ c.in-Some.device c.read_sector-answer.new.self was c.self.invariant c.read_sector-answer.ensures.size c.read_sector-answer.ensures.count)
 
 pub returns-clause-performs : goal.returns-clause-performs

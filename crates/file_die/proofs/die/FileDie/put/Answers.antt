@@ -7,5 +7,5 @@ invariant_of-self g c =
     let i = c.self.inside in
     let asks = c.program.ensures.asks in
     let given = c.given_up-self-inside.ensures in
-    parts_asked (g.S.Store.held i.store) (g.S.Store.held c.program.new.store) (g.S.Store.honest i.store) (g.S.Store.honest c.program.new.store) i.geometry i.register.items i.page.items i.page.items i.page_row i.turns.items i.bus_state c.given_up-self-inside.result c.self.invariant
+    parts_asked (g.S.Store.held i.store) (g.S.Store.held c.program.new.store) (g.S.Store.honest i.store) (g.S.Store.honest c.program.new.store) i.geometry i.register.items i.page.items i.page.items i.page_row i.next_pages.items i.bus_state c.given_up-self-inside.result c.self.invariant
     asks.geometry asks.as_honest (λ h. (c.program.ensures.programs h).puts.whole) refl (given.within i.geometry) (given.phase i.register.items)

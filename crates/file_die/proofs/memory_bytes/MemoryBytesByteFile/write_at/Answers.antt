@@ -1,7 +1,7 @@
 use Rattle.std.proofs.Common.{◌≡◌, ◌∙◌, List, ℕ, ap, sym, subst, length}
 use Rattle.std.specs.Prelude.{Ok}
 use Rattle.std.proofs.lemmas.List.{with_items_is}
-use Rattle.file_die.specs.Bytes.{WritesBytes, Tells, over}
+use Rattle.file_die.specs.Bytes.{WritesBytes, KeepsTold, over}
 use Rattle.file_die.proofs.BytesLemmas.{standing_bytes, all_at_once, told_at_once}
 use Rattle.file_die.proofs.memory_bytes.MemoryBytesByteFile.write_at.Goals as goal
 
@@ -21,4 +21,4 @@ returns-clause-told c honest start size reads tells =
     let new : List ℕ = c.paste.new.bytes in
     let is : new ≡ over c.args.at given old.items = c.paste.ensures ∙ ap (over c.args.at given) c.deref_mut.ensures.value in
     let stands = with_items_is old new (c.paste.auto.bytes ∙ c.deref_mut.ensures.len) ∙ is in
-    subst (λ (xs : List ℕ). Tells size reads (over c.args.at given old.items) (standing_bytes old.items) (standing_bytes xs)) (sym stands) (told_at_once size reads old.items (over c.args.at given old.items))
+    subst (λ (xs : List ℕ). KeepsTold size reads (over c.args.at given old.items) (standing_bytes old.items) (standing_bytes xs)) (sym stands) (told_at_once size reads old.items (over c.args.at given old.items))

@@ -1,6 +1,6 @@
 use Rattle.std.proofs.Common.{subst, arith}
 use Rattle.std.specs.Io.KnownBytes.{Appends}
-use Rattle.lab_commands.specs.Reports.{line_at, size_of}
+use Rattle.lab_commands.specs.Reports.{line_at, line_count}
 use Rattle.lab_commands.specs.Document.{StopsPrinting, if_text, text_below}
 use Rattle.lab_commands.proofs.PrintLemmas.{failed, none_below, one_more, stops_below}
 use Rattle.lab_commands.proofs.document.Printer.list.Goals as goal
@@ -25,7 +25,7 @@ returns-in_err-line g c =
     let e = c.in_err-line.field-0.0 in
     let broke = g.W.Output.failed c.line-in-loop-number.new.out in
     failed e c.from_residual.result broke a d _ c.from_residual.ensures.1
-    (stops_below e broke form (line_at c.args.list.now) c.loop-number.number (size_of c.args.list.now) a b d (omega arith) c.loop-number.invariant
+    (stops_below e broke form (line_at c.args.list.now) c.loop-number.number (line_count c.args.list.now) a b d (omega arith) c.loop-number.invariant
     (subst (λ l. StopsPrinting e broke b d (if_text form l)) c.line.ensures c.in_err-line.ensures))
 
 pub returns : goal.returns

@@ -3,7 +3,7 @@ use Rattle.std.specs.Prelude.{is_some}
 use Rattle.page_layout.specs.Block.{is_broken}
 use Rattle.page_layout.specs.Page.{page}
 use Rattle.page_layout.specs.Sound.{record_of}
-use Rattle.lab_dump.specs.History.{Shows}
+use Rattle.lab_dump.specs.History.{ShowsHistory}
 use Rattle.lab_dump.proofs.HistoryLemmas.{one_unsound, pages_noted, room_more, room_same, same_unsound, unsound_more, unsound_same}
 use Rattle.lab_dump.proofs.WritingLemmas.{sound_whole}
 use Rattle.lab_dump.proofs.history.RecallingTaker.take.Goals as goal
@@ -22,7 +22,7 @@ returns-in-Some c = record {
       let p = page c.args.areas.body.now c.args.areas.spare.now in
       let after = c.note.new.self in
       let says : record_of p ≡ Some c.in-Some.found = sym c.read_record.ensures ∙ c.in-Some.is in
-      subst (λ (n : ℕ). Shows n (row + 1) image after.pages.items after.unsound) (sym c.note.ensures.sector) (record {
+      subst (λ (n : ℕ). ShowsHistory n (row + 1) image after.pages.items after.unsound) (sym c.note.ensures.sector) (record {
         pages_are = pages_noted image c.args.self.now.sector row p (Some c.in-Some.found) c.args.self.now.pages.items after.pages.items at says shown.pages_are c.note.ensures.noted;
         unsound_is = c.note.ensures.unsound ∙ unsound_same image row p c.args.self.now.unsound at (sound_whole p c.in-Some.found says) shown.unsound_is;
       });

@@ -1,6 +1,6 @@
 use Rattle.std.proofs.Common.{◌∙◌, refl, sym, subst, ◌+◌, set}
 use Rattle.page_layout.specs.Array.{content_of_kind}
-use Rattle.lab_dump.specs.Writing.{Shows}
+use Rattle.lab_dump.specs.Writing.{ShowsSectorPieces}
 use Rattle.lab_dump.proofs.WritingLemmas.{other_none, unmarked_none, nothing_noted, said_noted, says_sector, stands_after, within_is}
 use Rattle.lab_dump.proofs.writing.Writing.take_said.Goals as goal
 
@@ -30,7 +30,7 @@ returns-in-Ok g c = record {
       let noted = said_noted geo c.args.row image said reads c.args.self.now.held.items pieces says (content_of_kind geo says.kind c.args.body.now) n
       c.index.result.now c.step_said-held.result.0 change shown stands.sized stands.size its.1 unmarked mark its.0 here c.index.ensures
       c.step_said-held.ensures.tells c.step_said-held.ensures.moves in
-      subst (λ ps. Shows geo (c.args.row + 1) image said reads (set c.args.self.now.held.items n c.step_said-held.result.0) ps) (sym c.in-Ok.ensures.written) noted;
+      subst (λ ps. ShowsSectorPieces geo (c.args.row + 1) image said reads (set c.args.self.now.held.items n c.step_said-held.result.0) ps) (sym c.in-Ok.ensures.written) noted;
   until = refl;
   doubting = refl;
   failed = tt;

@@ -2,7 +2,7 @@ use Rattle.std.proofs.Common.{◌∙◌, refl, sym, ap, subst, ◌+◌, set}
 use Rattle.page_layout.specs.Array.{content_of_kind, zeros}
 use Rattle.page_layout.proofs.ArrayLemmas.{mark-page}
 use Rattle.lab_dump.specs.Held.{pieces_after}
-use Rattle.lab_dump.specs.Writing.{Shows}
+use Rattle.lab_dump.specs.Writing.{ShowsSectorPieces}
 use Rattle.lab_dump.proofs.WritingLemmas.{other_none, unmarked_none, nothing_noted, sound_noted, holds, stands_after, within_is}
 use Rattle.lab_dump.proofs.writing.Writing.take_sound.Goals as goal
 
@@ -30,7 +30,7 @@ returns-in-Ok g c = record {
       let change = c.step-held.result.1 in
       let pieces = g.T.Pieces.pieces c.args.self.now.target in
       let noted = sound_noted geo c.args.row image said reads c.args.self.now.held.items pieces p found n c.index.result.now c.step-held.result.0 change shown stands.sized stands.size its.1 at says its.0 unsaid c.index.ensures c.step-held.ensures.tells c.step-held.ensures.moves in
-      subst (λ ps. Shows geo (c.args.row + 1) image said reads (set c.args.self.now.held.items n c.step-held.result.0) ps)
+      subst (λ ps. ShowsSectorPieces geo (c.args.row + 1) image said reads (set c.args.self.now.held.items n c.step-held.result.0) ps)
       (ap (λ xs. pieces_after change n (content_of_kind geo found.kind xs) (zeros geo) pieces) (sym body) ∙ sym c.in-Ok.ensures.written) noted;
   until = refl;
   doubting = refl;

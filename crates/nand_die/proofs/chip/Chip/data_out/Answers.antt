@@ -1,8 +1,8 @@
 use Rattle.std.proofs.Common.{refl, subst, ℕ, List, length}
 use Rattle.onfi_cycles.specs.Cycles.{Ready, data_out_due}
 use Rattle.nand_die.specs.contracts.chip.Chip.{the_view}
-use Rattle.nand_die.specs.BusState.{Shows, phase_of, output_of}
-use Rattle.nand_die.specs.Turns.{flash_of}
+use Rattle.nand_die.specs.BusState.{ShowsPagePutOut, phase_of, output_of}
+use Rattle.nand_die.specs.NextPages.{flash_of}
 use Rattle.nand_die.proofs.ActLemmas.{acts_moves, fields_whole}
 use Rattle.nand_die.proofs.chip.Chip.data_out.Goals as goal
 
@@ -15,6 +15,6 @@ returns-in-Ok-clause-acts c =
 pub returns-in-Ok-clause-out : goal.returns-in-Ok-clause-out
 returns-in-Ok-clause-out c =
     let i = c.self.inside in
-    let turns = i.turns.items in
-    rw (← c.self.view_is) (c.in-Ok.ensures.bytes i.register.items (flash_of i.geometry i.bytes.items turns i.counts.abuse) (phase_of i.register.items i.bus_state) (λ out at.
-    subst (λ bytes. Shows (flash_of i.geometry bytes turns i.counts.abuse) out c.page_put_out.result.now) c.as_slice.ensures.value (c.page_put_out.ensures.shows turns i.counts.abuse out at)))
+    let next_pages = i.next_pages.items in
+    rw (← c.self.view_is) (c.in-Ok.ensures.bytes i.register.items (flash_of i.geometry i.bytes.items next_pages i.counts.abuse) (phase_of i.register.items i.bus_state) (λ out at.
+    subst (λ bytes. ShowsPagePutOut (flash_of i.geometry bytes next_pages i.counts.abuse) out c.page_put_out.result.now) c.as_slice.ensures.value (c.page_put_out.ensures.shows next_pages i.counts.abuse out at)))

@@ -5,9 +5,9 @@ use Rattle.std.specs.Vec.{with_items}
 use Rattle.page_layout.specs.Raw.{raw_image}
 use Rattle.page_layout.specs.Flash.{may_program}
 use Rattle.onfi_cycles.specs.Cycles.{page_of}
-use Rattle.nand_die.specs.declared.change.BlockTurn.{BlockTurn}
+use Rattle.nand_die.specs.declared.change.NextPage.{NextPage}
 use Rattle.nand_die.specs.contracts.chip.Chip.{the_view}
-use Rattle.nand_die.specs.Turns.{flash_of}
+use Rattle.nand_die.specs.NextPages.{flash_of}
 use Rattle.nand_die.specs.ChipValue.{ChipValue}
 use Rattle.nand_die.specs.Stopping.{torn_image, with_image}
 use Rattle.nand_die.proofs.ActLemmas.{pages_changed}
@@ -36,7 +36,7 @@ returns-then-program_is_due c =
     let now : raw_image g (with_items i.bytes torn.new.bytes).items ≡ slice_set (raw_image g i.bytes.items) c.in-Programs.row left
     = ap (raw_image g) is_bytes ∙ (torn.ensures.image ∙ ap (λ bs. slice_set (raw_image g bs) c.in-Programs.row left) c.deref_mut.ensures.value) in
     let may : true ≡ may_program d.state.flash c.in-Programs.row
-    = c.if-program_is_due.ensures i.bytes.items i.counts.abuse ∙ ap (λ (ts : List BlockTurn). may_program (flash_of g i.bytes.items ts i.counts.abuse) c.in-Programs.row) c.deref.ensures.value in
+    = c.if-program_is_due.ensures i.bytes.items i.counts.abuse ∙ ap (λ (ts : List NextPage). may_program (flash_of g i.bytes.items ts i.counts.abuse) c.in-Programs.row) c.deref.ensures.value in
     let due = c.in-Programs.ensures.due i.register.items in
     let is = ap (λ b. if b then slice_set d.state.flash.image c.in-Programs.row left else d.state.flash.image) may ∙ ap (λ u. torn_image u d.state.flash left) due in
     rw (← c.self.view_is) (ap (λ image. with_image image d) (now ∙ is))
@@ -48,7 +48,7 @@ returns-else-program_is_due c =
     let d : ChipValue = the_view i in
     let left = page_of g c.args.page.now in
     let may : false ≡ may_program d.state.flash c.in-Programs.row
-    = c.if-program_is_due.ensures i.bytes.items i.counts.abuse ∙ ap (λ (ts : List BlockTurn). may_program (flash_of g i.bytes.items ts i.counts.abuse) c.in-Programs.row) c.deref.ensures.value in
+    = c.if-program_is_due.ensures i.bytes.items i.counts.abuse ∙ ap (λ (ts : List NextPage). may_program (flash_of g i.bytes.items ts i.counts.abuse) c.in-Programs.row) c.deref.ensures.value in
     let due = c.in-Programs.ensures.due i.register.items in
     let is = ap (λ b. if b then slice_set d.state.flash.image c.in-Programs.row left else d.state.flash.image) may ∙ ap (λ u. torn_image u d.state.flash left) due in
     rw (← c.self.view_is) (ap (λ image. with_image image d) is)

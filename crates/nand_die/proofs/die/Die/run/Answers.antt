@@ -6,7 +6,7 @@ use Rattle.onfi_cycles.specs.Cycles.{Command, Programs, page_of}
 use Rattle.nand_die.specs.contracts.die.Die.{the_view}
 use Rattle.nand_die.specs.ChipValue.{Acts}
 use Rattle.nand_die.specs.Stopping.{IsStop}
-use Rattle.nand_die.specs.Tape.{IsTapeOf, free_in, next_record, pages_of, told_by}
+use Rattle.nand_die.specs.Tape.{IsTapeOf, tape_room_left, next_record, pages_of, told_by}
 use Rattle.nand_die.specs.DieValue.{DieValue, chip_of, die_of, done_as, due_now}
 use Rattle.nand_die.proofs.StopLemmas.{run_erase, run_other, run_program}
 use Rattle.nand_die.proofs.die.Die.run.Goals as goal
@@ -62,11 +62,11 @@ returns-in-Program c =
     let is = c.in-Program.ensures.0 ∙ ap (λ (h : Geometry). Programs row (page_of h handed)) (sym c.geometry-geometry.ensures) in
     let is_left = c.page-left.ensures.page ∙ ap (λ (h : Geometry). page_of h left) (c.command-answer.ensures.same ∙ sym c.geometry-geometry.ensures) in
     let told = c.note_program.ensures.told handed c.keep_page.ensures.kept
-    ∙ (ap (λ (k : ℕ). next_record k op (told_by c.keep_page.new.tape)) c.keep_page.ensures.free ∙ ap (next_record (free_in i.tape) op) c.keep_page.ensures.told) in
+    ∙ (ap (λ (k : ℕ). next_record k op (told_by c.keep_page.new.tape)) c.keep_page.ensures.free ∙ ap (next_record (tape_room_left i.tape) op) c.keep_page.ensures.told) in
     let free = c.note_program.ensures.free ∙ ap (λ (k : ℕ). k - 1) c.keep_page.ensures.free in
     record {
-      new = subst (λ (x : DieValue). die_of c.command-answer.new.self i.stop i.left i.stopped i.failures (told_by c.note_program.new.tape) (free_in c.note_program.new.tape) ≡ done_as x (due_now x (Command c.args.code)) x.left) c.self.view_is
-          (run_program d (due_now d (Command c.args.code)) row (page_of g handed) (page_of g left) c.command-answer.new.self (told_by c.note_program.new.tape) (free_in c.note_program.new.tape) passed
+      new = subst (λ (x : DieValue). die_of c.command-answer.new.self i.stop i.left i.stopped i.failures (told_by c.note_program.new.tape) (tape_room_left c.note_program.new.tape) ≡ done_as x (due_now x (Command c.args.code)) x.left) c.self.view_is
+          (run_program d (due_now d (Command c.args.code)) row (page_of g handed) (page_of g left) c.command-answer.new.self (told_by c.note_program.new.tape) (tape_room_left c.note_program.new.tape) passed
           runs is c.command-answer.ensures.does c.passed-passed.ensures is_left told free);
       acts = subst (λ (x : DieValue). Acts (due_now x (Command c.args.code)) (chip_of x) c.command-answer.new.self c.command-answer.result) c.self.view_is c.command-answer.ensures;
     }
@@ -82,8 +82,8 @@ returns-in-Erase c =
     let runs : i.stopped ≡ false = ap (λ (x : DieValue). x.stopped) c.self.view_is ∙ c.requires in
     let is_left = c.block-left.ensures.pages ∙ ap (λ (h : Geometry). pages_of h h.pages c.block-left.result.now) (done.ensures.same ∙ sym c.geometry-geometry.ensures) in
     record {
-      new = subst (λ (x : DieValue). die_of done.new.self i.stop i.left i.stopped i.failures (told_by tape) (free_in tape) ≡ done_as x (due_now x (Command c.args.code)) x.left) c.self.view_is
-          (run_erase d (due_now d (Command c.args.code)) c.in-Erase.block left done.new.self (told_by tape) (free_in tape) c.passed-passed-in-Erase.result
+      new = subst (λ (x : DieValue). die_of done.new.self i.stop i.left i.stopped i.failures (told_by tape) (tape_room_left tape) ≡ done_as x (due_now x (Command c.args.code)) x.left) c.self.view_is
+          (run_erase d (due_now d (Command c.args.code)) c.in-Erase.block left done.new.self (told_by tape) (tape_room_left tape) c.passed-passed-in-Erase.result
           runs c.in-Erase.ensures.0 done.ensures.does c.passed-passed-in-Erase.ensures is_left c.note_erase.ensures.told c.note_erase.ensures.free);
       acts = subst (λ (x : DieValue). Acts (due_now x (Command c.args.code)) (chip_of x) done.new.self done.result) c.self.view_is done.ensures;
     }
@@ -94,7 +94,7 @@ returns-in-Other c =
     let d : DieValue = the_view i in
     let runs : i.stopped ≡ false = ap (λ (x : DieValue). x.stopped) c.self.view_is ∙ c.requires in
     record {
-      new = subst (λ (x : DieValue). die_of c.command.new.self i.stop i.left i.stopped i.failures (told_by i.tape) (free_in i.tape) ≡ done_as x (due_now x (Command c.args.code)) x.left) c.self.view_is
+      new = subst (λ (x : DieValue). die_of c.command.new.self i.stop i.left i.stopped i.failures (told_by i.tape) (tape_room_left i.tape) ≡ done_as x (due_now x (Command c.args.code)) x.left) c.self.view_is
           (run_other d (due_now d (Command c.args.code)) c.command.new.self runs c.in-Other.ensures c.command.ensures.does);
       acts = subst (λ (x : DieValue). Acts (due_now x (Command c.args.code)) (chip_of x) c.command.new.self c.command.result) c.self.view_is c.command.ensures;
     }

@@ -4,17 +4,17 @@ use Rattle.page_layout.specs.declared.geometry.Geometry.{Geometry}
 use Rattle.page_layout.specs.Page.{Page}
 use Rattle.page_layout.specs.Raw.{raw_image}
 use Rattle.page_layout.specs.Change.{erased_page}
-use Rattle.page_layout.specs.Flash.{Flash, TurnState}
+use Rattle.page_layout.specs.Flash.{Flash, NextState}
 use Rattle.onfi_cycles.specs.Cycles.{page_of}
-use Rattle.nand_die.specs.declared.change.BlockTurn.{BlockTurn}
+use Rattle.nand_die.specs.declared.change.NextPage.{NextPage}
 
--- the turn that a block's fields say
-abbrev pub turn_of : BlockTurn → TurnState
-turn_of t = record { next = t.next; barred = t.barred; programs = t.programs; erases = t.erases }
+-- the next page that a block's fields say
+abbrev pub next_page_of : NextPage → NextState
+next_page_of t = record { next = t.next; barred = t.barred; programs = t.programs; erases = t.erases }
 
 -- the flash that a die's fields say
-abbrev pub flash_of : Geometry → List ℕ → List BlockTurn → ℕ → Flash
-flash_of g bytes turns abuse = record { geometry = g; image = raw_image g bytes; turns = map turn_of turns; abuse = abuse }
+abbrev pub flash_of : Geometry → List ℕ → List NextPage → ℕ → Flash
+flash_of g bytes next_pages abuse = record { geometry = g; image = raw_image g bytes; next_pages = map next_page_of next_pages; abuse = abuse }
 
 -- What a program leaves in its page: the page handed in where it passed. Where it was legal and failed, the bytes of the fault that
 -- struck it, or what was there where the fault has none. Where it was illegal, what was there.

@@ -1,15 +1,15 @@
 use Rattle.page_layout.proofs.FlashLemmas.{program_fair, erase_fair, program_refused, erase_refused}
-use Rattle.page_layout.proofs.TurnLemmas.{program_turn, program_count, erase_turn, erase_count}
-use Rattle.page_layout.proofs.laws.turn_laws.Goals as goal
+use Rattle.page_layout.proofs.NextPageLemmas.{program_next, program_count, erase_next, erase_count}
+use Rattle.page_layout.proofs.laws.next_page_laws.Goals as goal
 
 pub returns-clause-program : goal.returns-clause-program
-returns-clause-program c = program_turn
+returns-clause-program c = program_next
 
 pub returns-clause-fair_program : goal.returns-clause-fair_program
 returns-clause-fair_program c = program_fair
 
 pub returns-clause-erase : goal.returns-clause-erase
-returns-clause-erase c = erase_turn
+returns-clause-erase c = erase_next
 
 pub returns-clause-fair_erase : goal.returns-clause-fair_erase
 returns-clause-fair_erase c = erase_fair

@@ -1,5 +1,0 @@
-use Rattle.nand_die.proofs.MakeLemmas.{new_turns_so}
-use Rattle.nand_die.proofs.make.new_turns.Goals as goal
-
-pub returns-in-Ok-clause-ok : goal.returns-in-Ok-clause-ok
-returns-in-Ok-clause-ok c = new_turns_so c.args.geometry.now _ c.blocks-2.result c.turn_from.result (c.in-Ok.ensures.items_if_clones_equal (λ y e. e)) c.turn_from.ensures c.blocks-2.ensures
