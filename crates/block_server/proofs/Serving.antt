@@ -14,7 +14,7 @@ use Rattle.promises.specs.declared.stream.End.TheVariants.{Boundary, Unfinished,
 use Rattle.promises.proofs.StreamLemmas.{replies_join}
 use Rattle.request_stream.specs.declared.reply.ServeFault.{ServeFault}
 use Rattle.request_stream.specs.declared.reply.ServeFault.TheVariants as fault
-use Rattle.request_stream.specs.Frames.{AppendsFront, known_bytes_left, last_count, Rests}
+use Rattle.request_stream.specs.Frames.{AppendsFront, HasReadNoRequest, known_bytes_left, last_count, Rests}
 use Rattle.request_stream.proofs.Writing.{front_more}
 use Rattle.ftl_device.specs.declared.device.Device.{Device}
 use Rattle.ftl_device.specs.Device.{IsDevice}
@@ -22,7 +22,7 @@ use Rattle.command_queue.specs.Exchanges.{Exchange, reply_in, commands_in, repli
 use Rattle.command_queue.specs.Told.{WasTold}
 use Rattle.command_queue.proofs.ToldLemmas.{all_more, told_none, told_more}
 use Rattle.block_server.specs.declared.server.Served.{Served}
-use Rattle.block_server.specs.Session.{ReadsRequests, Session, HasServed, HasToldNoCommand, ServesNextCommand}
+use Rattle.block_server.specs.Session.{ReadsRequests, Session, HasServed, ServesNextCommand}
 
 abbrev failure : ServeFault → Result Served ServeFault
 failure e = Err e
@@ -133,7 +133,7 @@ module _ {N : Type 0} (view : View N) (old : Device N) where
       stream = ([], so_far.read, inl (lit< tt), so_far.written);
     }
 
-    module _ (new : Device N) (w d a : Option (List ℕ)) (end : End) (none : HasToldNoCommand mid new v w c d (λ tail. Rests mid.engine.geometry.data_bytes end tail w)) where
+    module _ (new : Device N) (w d a : Option (List ℕ)) (end : End) (none : HasReadNoRequest mid new v w c d (λ tail. Rests mid.engine.geometry.data_bytes end tail w)) where
       rests : Rests old.engine.geometry.data_bytes end none.tail w
       rests = subst (λ k. Rests k end none.tail w) size_is none.is
 

@@ -9,7 +9,7 @@ use Rattle.promises.specs.declared.stream.End.{End}
 use Rattle.promises.specs.declared.stream.End.TheVariants.{BadFrame}
 use Rattle.request_stream.specs.declared.reply.ServeFault.{ServeFault}
 use Rattle.request_stream.specs.declared.reply.ServeFault.TheVariants as fault
-use Rattle.request_stream.specs.Frames.{AppendsFront, known_bytes_left, last_count, Rests, SendsBytes}
+use Rattle.request_stream.specs.Frames.{AppendsFront, HasReadNoRequest, known_bytes_left, last_count, Rests, SendsBytes}
 use Rattle.ftl_device.specs.declared.device.Device.{Device}
 use Rattle.command_queue.specs.declared.command.Command.{Command}
 use Rattle.command_queue.specs.declared.command.Command.TheVariants as told
@@ -81,18 +81,10 @@ pub record HasServed {N : Type 0} (view : View N)
   pub tells : Tells view old exchange new
   pub written : writes (reply_bytes request (reply_in exchange))
 
--- no request was read whole
-pub record HasToldNoCommand {N : Type 0} (old new : Device N) (unread left before after : Option (List ℕ)) (P : List ℕ → Type 0) : Type 0 where
-  pub tail : List ℕ
-  pub is : P tail
-  pub read : Consumes unread left tail
-  pub same : new ≡ old
-  pub kept : after ≡ before
-
 abbrev pub ServesNextCommand : {N : Type 0} → (view : View N) → (old new : Device N)
     → (unread left before after : Option (List ℕ)) → Result (Option End) ServeFault → Type 0
 ServesNextCommand view old new unread left before after (Ok None) = HasServed view old new unread left (Appends before after)
-ServesNextCommand view old new unread left before after (Ok (Some end)) = HasToldNoCommand old new unread left before after (λ tail. Rests old.engine.geometry.data_bytes end tail left)
-ServesNextCommand view old new unread left before after (Err fault.Read) = HasToldNoCommand old new unread left before after (IsBeginning old.engine.geometry.data_bytes)
+ServesNextCommand view old new unread left before after (Ok (Some end)) = HasReadNoRequest old new unread left before after (λ tail. Rests old.engine.geometry.data_bytes end tail left)
+ServesNextCommand view old new unread left before after (Err fault.Read) = HasReadNoRequest old new unread left before after (IsBeginning old.engine.geometry.data_bytes)
 ServesNextCommand view old new unread left before after (Err fault.Write) = HasServed view old new unread left (AppendsFront before after)
 ServesNextCommand view old new unread left before after (Err fault.OutOfMemory) = ⊥

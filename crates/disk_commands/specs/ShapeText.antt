@@ -1,5 +1,5 @@
 -- The file beside a disk: one JSON object with the members of its version, and a line feed.
-use Rattle.std.specs.Prelude.{◌≡◌, ◌≢◌, ◌⊎◌, ℕ, ◌≤◌, ◌==◌, Bool, true, false, if◌then◌else◌, List, [], ◌∷◌, ◌++◌, codes, Option, Some, None, option_map, IsUtf8, decimal}
+use Rattle.std.specs.Prelude.{◌≡◌, ◌≢◌, ◌⊎◌, ℕ, ◌≤◌, Bool, true, false, List, [], ◌∷◌, ◌++◌, codes, Option, Some, None, option_map, IsUtf8, decimal}
 use Rattle.std.specs.Option.{option_and_then}
 use Rattle.serde_json.specs.Data.{Data, boolean, no_members, member, number, object, string, unsigned}
 use Rattle.serde_json.specs.Events.{members_len}
@@ -47,12 +47,6 @@ abbrev pub listed_text : DiskShape → List ℕ
 listed_text s = compact_text (shape_data s true) ++ (10 ∷ [])
 
 -- ---- what is read
-
--- the text without the line feed that it ends with, if it does
-abbrev pub without_feed : List ℕ → List ℕ
-without_feed [] = []
-without_feed (c ∷ []) = if c == 10 then [] else (c ∷ [])
-without_feed (c ∷ d ∷ cs) = c ∷ without_feed (d ∷ cs)
 
 abbrev pub member_words : declared.Member → List ℕ
 member_words name.Cache = codes "cache"
@@ -128,7 +122,7 @@ pub record TellsText (d : Data) (t : DiskText) : Type 0 where
 -- the text is such an object
 pub record IsShapeText (text : List ℕ) (t : DiskText) : Type 0 where
   pub body : Data
-  pub reads : read (without_feed text) ≡ Some body
+  pub reads : read text ≡ Some body
   pub tells : TellsText body t
 
 -- ---- why it is none
@@ -166,6 +160,6 @@ TellsNone d fault.OutOfMemory = ⊥
 
 -- what is wrong with the text; a growth may have been refused whatever it says
 abbrev pub IsNoShape : List ℕ → ShapeFault → Type 0
-IsNoShape text fault.NotJson = IsUtf8 (without_feed text) → read (without_feed text) ≡ None
+IsNoShape text fault.NotJson = IsUtf8 text → read text ≡ None
 IsNoShape text fault.OutOfMemory = Unit {0}
-IsNoShape text f = (d : Data) × (read (without_feed text) ≡ Some d) × TellsNone d f
+IsNoShape text f = (d : Data) × (read text ≡ Some d) × TellsNone d f

@@ -4,7 +4,7 @@ ghost use Rattle.serde_json.specs.View.{view};
 ghost use Rattle.disk_commands.specs.declared.shape_text.Member.{Member};
 ghost use Rattle.disk_commands.specs.ShapeText.{IsGeometryTold, IsNoShape, IsShapeText, IsTextMember, IsCacheSize, TellsLater, TellsLaterBy, TellsNone};
 ghost use Rattle.disk_commands.specs.ShapeText.{TellsShape, TellsText, code_words, flag_at, geometry_words, listed_text, number_at, shape_data};
-ghost use Rattle.disk_commands.specs.ShapeText.{shape_text, members_of, member_count, text_at, shape_version_of, without_feed};
+ghost use Rattle.disk_commands.specs.ShapeText.{shape_text, members_of, member_count, text_at, shape_version_of};
 ghost use Rattle.disk_commands.specs.Shapes.{IsShareFor};
 
 use crate::shape_words::{GeometryText, GeometryWordFault, geometry_from};
@@ -172,16 +172,6 @@ pub fn write_listed_shape(alloc: Global, shape: &DiskShape) -> Result<String, Al
     let mut text = shape_value(alloc, shape, true)?.to_string(alloc)?;
     text.push('\n')?;
     Ok(text)
-}
-
-// A text without its line feed.
-fn without_line_feed(text: &[u8]) -> &[u8]
-    ensures { result.now ≡ without_feed text.now }
-{
-    match text.split_last() {
-        Some((last, front)) if *last == b'\n' => front,
-        _ => text,
-    }
 }
 
 // The number of a member.
@@ -397,7 +387,7 @@ fn text_told(value: &Value) -> Result<DiskText, ShapeFault>
     })
 }
 
-/// What the bytes of the file beside a disk tell: one JSON object with the members of its version and no other, and a line feed behind it or none.
+/// What the bytes of the file beside a disk tell: one JSON object with the members of its version and no other. Blanks and line feeds around it do not count.
 ///
 /// # Errors
 ///
@@ -409,7 +399,7 @@ pub fn read_shape(alloc: Global, bytes: &[u8]) -> Result<DiskText, ShapeFault>
     ensures ok { IfOk result (IsShapeText bytes.now) }
     ensures fault { IfErr result (IsNoShape bytes.now) }
 {
-    match Value::from_slice(alloc, without_line_feed(bytes)) {
+    match Value::from_slice(alloc, bytes) {
         Ok(value) => text_told(&value),
         Err(error) if error.is_memory() => Err(ShapeFault::OutOfMemory),
         Err(_) => Err(ShapeFault::NotJson),

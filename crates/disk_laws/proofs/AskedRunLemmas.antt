@@ -18,7 +18,7 @@ use Rattle.onfi_cycles.specs.Sent.{Operates}
 use Rattle.onfi_cycles.specs.Spelling.{erase_cycles, program_cycles}
 use Rattle.promises.specs.Step as step
 use Rattle.promises.specs.Step.{Command}
-use Rattle.file_die.specs.Die.{FileState, shown}
+use Rattle.file_die.specs.Die.{ActsOnCycle, FileState, shown}
 use Rattle.file_die.specs.Store.{Held}
 use Rattle.nbd_stream.specs.declared.fault.DiskFault.{DiskFault}
 use Rattle.ftl_device.specs.declared.device.Device.{Device}
@@ -26,7 +26,7 @@ use Rattle.disk_server.specs.Asked.{AsksCall}
 use Rattle.disk_server.specs.Disk.{AsksChange, AsksClear, ChangesOne}
 use Rattle.disk_server.specs.Opened.{view_in}
 use Rattle.disk_laws.specs.AskedRuns.{AsksDriverLaw, IsInCall, IsInRun, IsInTrim, IsOnTheWay, RunAsksLaw}
-use Rattle.disk_laws.specs.Driven.{ActsOnCycle, AsksErase, AsksPage, AsksProgram, BlockErased, DriverCalls, NothingAsked, PageProgrammed, PageRead, StandsReady}
+use Rattle.disk_laws.specs.Driven.{AsksErase, AsksPage, AsksProgram, BlockErased, DriverCalls, NothingAsked, PageProgrammed, PageRead, StandsReady}
 use Rattle.disk_laws.specs.Runs.{DeviceCalls, IsDiskCall, NoCall, OneMore}
 use Rattle.disk_laws.proofs.CallLemmas.{asked_erase, asked_program, erase_stands, page_stands, program_stands}
 use Rattle.disk_laws.proofs.DrivenLemmas.{calls_then, page_spared, tells, took_erase, took_program}

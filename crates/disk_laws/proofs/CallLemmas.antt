@@ -15,9 +15,9 @@ use Rattle.onfi_cycles.specs.Sent.{Operates, SendsRead}
 use Rattle.onfi_cycles.specs.Spelling.{done, erase_cycles, program_cycles, read_cycles}
 use Rattle.onfi_cycles.proofs.Operations.{erase_broke, erase_did, program_broke, program_did, read_broke, read_did}
 use Rattle.onfi_cycles.proofs.Resets.{reset_does}
-use Rattle.file_die.specs.Die.{FileState, shown}
+use Rattle.file_die.specs.Die.{ActsOnCycle, FileState, shown}
 use Rattle.file_die.specs.Store.{Held}
-use Rattle.disk_laws.specs.Driven.{ActsOnCycle, AsksErase, AsksPage, AsksProgram, LeavesStore, StandsReady, store_behind}
+use Rattle.disk_laws.specs.Driven.{AsksErase, AsksPage, AsksProgram, LeavesStore, StandsReady, store_behind}
 use Rattle.disk_laws.proofs.DrivenLemmas.{page_spared, stopped_erase, stopped_program, took_erase, took_program}
 use Rattle.disk_laws.proofs.SentLemmas.{sent_taken, until_fails}
 

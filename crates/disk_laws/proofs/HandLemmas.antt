@@ -15,10 +15,10 @@ use Rattle.onfi_cycles.specs.Driver.{DriverState, cut_in, flash_by, gained}
 use Rattle.onfi_cycles.specs.Outcomes.{is_passed}
 use Rattle.onfi_cycles.specs.Sent.{Operates}
 use Rattle.onfi_cycles.specs.Spelling.{erase_cycles, program_cycles}
-use Rattle.file_die.specs.Die.{FileState, shown}
+use Rattle.file_die.specs.Die.{ActsOnCycle, FileState, shown}
 use Rattle.file_die.specs.Store.{Held}
 use Rattle.disk_laws.specs.Cut.{CallsToFault}
-use Rattle.disk_laws.specs.Driven.{ActsOnCycle, AsksErase, AsksPage, AsksProgram, DriverCalls, DriverFails, EraseFails, NothingAsked, PageRead, ProgramFails, ReadFails, StandsReady}
+use Rattle.disk_laws.specs.Driven.{AsksErase, AsksPage, AsksProgram, DriverCalls, DriverFails, EraseFails, NothingAsked, PageRead, ProgramFails, ReadFails, StandsReady}
 use Rattle.disk_laws.proofs.AskedRunLemmas.{Called, Driven, driven, no_cons, no_more}
 use Rattle.disk_laws.proofs.CallLemmas.{asked_erase, asked_program, erase_stands, page_stands, program_stands}
 use Rattle.disk_laws.proofs.DrivenLemmas.{calls_then, page_spared, tells}

@@ -8,9 +8,8 @@ use Rattle.onfi_cycles.specs.Spelling.{FailsIn, Taken, confirm_cycles}
 use Rattle.onfi_cycles.proofs.Leads.{LeadTo, moved}
 use Rattle.onfi_cycles.proofs.Noting.{sent_split}
 use Rattle.onfi_cycles.proofs.Operations.{IsConfirm, confirm_ready, status_leads}
-use Rattle.file_die.specs.Die.{ActsOverStore, FileState, Leaves, shown}
+use Rattle.file_die.specs.Die.{ActsOnCycle, ActsOverStore, FileState, Leaves, shown}
 use Rattle.file_die.specs.Store.{Held}
-use Rattle.disk_laws.specs.Driven.{ActsOnCycle}
 
 -- cycles up to one that was refused, in two parts
 until_split : {B : Type 0} → (called : B → Cycle → Result (Unit {0}) BusFault → List ℕ → B → Type 0) (a c : B) (xs ys : List Cycle) (fault : BusFault) → SentUntil called a (xs ++ ys) fault c

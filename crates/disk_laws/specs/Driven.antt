@@ -9,19 +9,15 @@ use Rattle.page_layout.specs.Flash.{Operation, Program, Erase, Steps, block_at, 
 use Rattle.page_layout.specs.Recording.{Records, asked_erase, asked_program, image_after}
 use Rattle.onfi_cycles.specs.declared.nand.BusFault.{BusFault}
 use Rattle.onfi_cycles.specs.declared.nand.Outcome.{Outcome}
-use Rattle.onfi_cycles.specs.Cycles.{Cycle, Due, due_of}
+use Rattle.onfi_cycles.specs.Cycles.{Due}
 use Rattle.onfi_cycles.specs.Driver.{DriverState, IsReady, cut_in, flash_by, gained}
 use Rattle.onfi_cycles.specs.Outcomes.{is_passed}
 use Rattle.onfi_cycles.specs.Sent.{Operates, SendsRead}
 use Rattle.onfi_cycles.specs.Spelling.{erase_cycles, program_cycles, read_cycles}
 use Rattle.promises.specs.Stop.{MayLeave}
-use Rattle.file_die.specs.Die.{ActsOverStore, FileState, Leaves, shown}
+use Rattle.file_die.specs.Die.{ActsOnCycle, FileState, Leaves, shown}
 use Rattle.file_die.specs.Store.{Held, AreImages, page_in}
 use Rattle.disk_laws.specs.Lost.{MayLose}
-
--- what a die in a store says of one cycle: its bus's own word of it, `called`
-abbrev pub ActsOnCycle : {S : Type 0} → (S → Held) → (honest : S → Bool) → (failed : S → ℕ) → FileState S → Cycle → Result (Unit {0}) BusFault → List ℕ → FileState S → Type 0
-ActsOnCycle held honest failed old cycle answer out new = ActsOverStore held honest failed (due_of (held old.store).geometry old.phase cycle) old new answer
 
 -- the store behind a driver
 abbrev pub store_behind : {S : Type 0} → (S → Held) → DriverState (FileState S) → Held

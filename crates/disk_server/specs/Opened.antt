@@ -8,12 +8,11 @@ use Rattle.page_layout.specs.Counter.{HasRisen}
 use Rattle.page_layout.specs.Flash.{Flash}
 use Rattle.page_layout.specs.Recording.{Recording}
 use Rattle.onfi_cycles.specs.Called.{driver_called}
-use Rattle.onfi_cycles.specs.Cycles.{due_of}
 use Rattle.onfi_cycles.specs.Driver.{DriverState, flash_by}
 use Rattle.file_die.specs.Store.{Held}
 use Rattle.nand_die.specs.Made.{first_next_pages, next_in}
 use Rattle.file_die.specs.declared.die.SyncWhen.{SyncWhen}
-use Rattle.file_die.specs.Die.{ActsOverStore, FileState, flash_over, shown, syncs_always}
+use Rattle.file_die.specs.Die.{ActsOnCycle, FileState, flash_over, shown, syncs_always}
 use Rattle.disk_server.specs.Flat.{flat}
 use Rattle.certificate.specs.Claim.{Claim}
 use Rattle.image_check.specs.declared.refusal.Refusal.{Refusal}
@@ -72,7 +71,7 @@ view_in held honest failed = record {
   programs = λ d. d.programs;
   erases = λ d. d.erases;
   failed = λ d. d.failures;
-  called = driver_called (shown held) (λ d. honest d.store) (λ old cycle answer out new. ActsOverStore held honest failed (due_of (held old.store).geometry old.phase cycle) old new answer);
+  called = driver_called (shown held) (λ d. honest d.store) (ActsOnCycle held honest failed);
 }
 
 -- it syncs as it was to

@@ -5,7 +5,7 @@ use Rattle.page_layout.specs.Geometry.{page_bytes}
 use Rattle.page_layout.specs.Page.{Page}
 use Rattle.page_layout.specs.Flash.{Flash, NextState, IsWhole, may_program, may_erase}
 use Rattle.page_layout.specs.Counter.{counted, HasRisen}
-use Rattle.onfi_cycles.specs.Cycles.{DieState, Phase, Due, Moves, Resets, Programs, Erases, Refuses, Follows, IsCounted, IsUncounted, Ready, NoOutput, page_of, given_up, status_of}
+use Rattle.onfi_cycles.specs.Cycles.{Cycle, DieState, Phase, Due, due_of, Moves, Resets, Programs, Erases, Refuses, Follows, IsCounted, IsUncounted, Ready, NoOutput, page_of, given_up, status_of}
 use Rattle.onfi_cycles.specs.declared.nand.BusFault.{BusFault}
 use Rattle.onfi_cycles.specs.declared.nand.BusFault.TheVariants.{Device}
 use Rattle.nand_die.specs.declared.bus_state.BusState.{BusState}
@@ -129,3 +129,7 @@ pub record ActsOverStore {S : Type 0} (held : S → Held) (honest : S → Bool) 
   pub rose : IfErr result (IsCounted (failed old.store) (failed new.store))
   pub settled : OnOk result (failed new.store ≡ failed old.store)
   pub uncounted : IfErr result (IsUncounted (failed old.store) (failed new.store))
+
+-- so of a cycle, by its bus's own word of it, `called`
+abbrev pub ActsOnCycle : {S : Type 0} → (S → Held) → (honest : S → Bool) → (failed : S → ℕ) → FileState S → Cycle → Result (Unit {0}) BusFault → List ℕ → FileState S → Type 0
+ActsOnCycle held honest failed old cycle answer out new = ActsOverStore held honest failed (due_of (held old.store).geometry old.phase cycle) old new answer

@@ -342,8 +342,7 @@ impl<S: Store> FileDie<S> {
 }
 
 impl<S: Store> Bus for FileDie<S> {
-    ghost use Rattle.onfi_cycles.specs.Cycles.{due_of};
-    ghost use Rattle.file_die.specs.Die.{ActsOverStore, shown, syncs_always};
+    ghost use Rattle.file_die.specs.Die.{ActsOnCycle, shown, syncs_always};
 
     ghost die = { λ d. shown S.held d };
 
@@ -355,7 +354,7 @@ impl<S: Store> Bus for FileDie<S> {
     ghost calm = { λ d. syncs_always d.sync_when };
 
     /// Each call is what was due: over any store, honest or not, its faults are counted, and over an honest one its pages are told.
-    ghost called = { λ old cycle answer out new. ActsOverStore S.held S.honest S.failed (due_of (S.held old.store).geometry old.phase cycle) old new answer };
+    ghost called = { ActsOnCycle S.held S.honest S.failed };
 
     fn command(&mut self, code: u8) -> Result<(), BusFault> {
         self.take_command(code)

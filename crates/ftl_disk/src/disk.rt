@@ -42,10 +42,7 @@ pub(crate) fn way_to(link: &Descriptors, geometry: Geometry) -> Descriptors
 pub fn open(alloc: Global, shape: &Shape, input: i32, output: i32) -> Result<FtlDisk, u32>
     ensures { MatchResult result (Opens shape.now input output) (IsUnplanned shape.now) }
 {
-    let plan = match shape.plan() {
-        Ok(plan) => plan,
-        Err(number) => return Err(number),
-    };
+    let plan = shape.plan()?;
     let link = Descriptors {
         input,
         output,

@@ -64,10 +64,7 @@ impl Shape {
         if !geometry.is_capacity(cache) {
             return Err(CACHE);
         }
-        let chip = match chip_for(&geometry, self.codes) {
-            Ok(chip) => chip,
-            Err(number) => return Err(number),
-        };
+        let chip = chip_for(&geometry, self.codes)?;
         Ok(Plan {
             geometry,
             cache,

@@ -31,7 +31,8 @@ use Rattle.lab_dump.specs.declared.history.SectorPage.{SectorPage}
 use Rattle.lab_dump.specs.declared.history.Wrote.{Wrote}
 use Rattle.lab_dump.specs.contracts.history.SectorPageOrd.TheImpl as ranked
 use Rattle.lab_dump.proofs.CountLemmas.{count_more}
-use Rattle.lab_dump.specs.History.{AreNewestFirst, ComesBefore, FirstLaw, HasHistoryRoom, HistoryLaw, IsHistoryOf, TellsSectorPage, ShowsHistory, page_by, page_in_row, pages_below, sector_pages_of, told_page, wrote_of}
+use Rattle.lab_dump.specs.History.{AreNewestFirst, ComesBefore, FirstLaw, HistoryLaw, IsHistoryOf, TellsSectorPage, ShowsHistory, page_by, page_in_row, pages_below, sector_pages_of, told_page, wrote_of}
+use Rattle.lab_dump.specs.Rooms.{HasRowRoom}
 
 -- ---- one row more
 
@@ -204,13 +205,13 @@ history_of g n pages h bytes taken moved order =
     }
 
 -- no page has passed, and none is listed
-pub nothing_listed : (all capacity : ℕ) (pages : List SectorPage) → pages ≡ [] → all ≤ capacity → HasHistoryRoom all 0 pages capacity × (0 ≤ 0)
+pub nothing_listed : (all capacity : ℕ) (pages : List SectorPage) → pages ≡ [] → all ≤ capacity → HasRowRoom all 0 pages capacity × (0 ≤ 0)
 nothing_listed all capacity pages none room = (record { few = subst (λ (ps : List SectorPage). length ps ≤ 0) (sym none) (omega arith); room = room }, omega arith)
 
-pub room_more : (all row capacity kept : ℕ) (old new : List SectorPage) → HasHistoryRoom all row old capacity → length new ≤ length old + 1 → kept ≡ capacity → HasHistoryRoom all (row + 1) new kept
+pub room_more : (all row capacity kept : ℕ) (old new : List SectorPage) → HasRowRoom all row old capacity → length new ≤ length old + 1 → kept ≡ capacity → HasRowRoom all (row + 1) new kept
 room_more all row capacity kept old new h one same = record { few = (let few = h.few in omega arith); room = (let room = h.room in omega arith) }
 
-pub room_same : (all row capacity : ℕ) (pages : List SectorPage) → HasHistoryRoom all row pages capacity → HasHistoryRoom all (row + 1) pages capacity
+pub room_same : (all row capacity : ℕ) (pages : List SectorPage) → HasRowRoom all row pages capacity → HasRowRoom all (row + 1) pages capacity
 room_same all row capacity pages h = record { few = (let few = h.few in omega arith); room = h.room }
 
 pub same_unsound : (row old new : ℕ) → old ≤ row → new ≡ old → new ≤ row + 1

@@ -74,11 +74,6 @@ pub record IsHistoryOf (g : Geometry) (n : ℕ) (h : History) (bytes : List ℕ)
 
 -- ---- while pages pass
 
--- no more pages are listed than rows have passed, and there is room for a page of each row
-pub record HasHistoryRoom (all rows : ℕ) (pages : List SectorPage) (capacity : ℕ) : Type 0 where
-  pub few : length pages ≤ rows
-  pub room : all ≤ capacity
-
 -- those of the first rows were noted
 pub record ShowsHistory (n rows : ℕ) (image : Image) (pages : List SectorPage) (unsound : ℕ) : Type 0 where
   pub pages_are : pages ≡ pages_below image n rows

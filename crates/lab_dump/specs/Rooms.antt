@@ -21,6 +21,11 @@ pub record HasPageRoom (g : Geometry) (body spare : List ℕ) : Type 0 where
   pub body_size : length body ≡ g.data_bytes
   pub spare_size : length spare ≡ g.spare_bytes
 
+-- of no more rows than have passed there is one in a list, and the list has room for one of each row
+pub record HasRowRoom {A : Type 0} (all passed : ℕ) (items : List A) (capacity : ℕ) : Type 0 where
+  pub few : length items ≤ passed
+  pub room : all ≤ capacity
+
 -- nothing was seen yet of a die of this geometry
 pub record IsSurveyRoom (g : Geometry) (room : SurveyRoom) : Type 0 where
   pub page : HasPageRoom g room.body.items room.spare.items

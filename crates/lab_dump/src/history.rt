@@ -100,11 +100,12 @@ impl Taker for Recalling {
     ghost use Rattle.std.specs.Prelude.{◌≡◌, ◌<◌, ◌≤◌, ◌+◌, ℕ, length, slice_get, vec_capacity, OnOk, OnErr, Some};
     ghost use Rattle.page_layout.specs.Geometry.{row_count};
     ghost use Rattle.page_layout.specs.Page.{Image, page};
-    ghost use Rattle.lab_dump.specs.History.{HasHistoryRoom, ShowsHistory};
+    ghost use Rattle.lab_dump.specs.History.{ShowsHistory};
+    ghost use Rattle.lab_dump.specs.Rooms.{HasRowRoom, IsHistoryRoom};
 
     ghost fixed = { λ s. Some s.sector };
 
-    ghost stands = { λ s g rows. HasHistoryRoom (row_count g) rows s.pages.items (vec_capacity s.pages) × (s.unsound ≤ rows) };
+    ghost stands = { λ s g rows. HasRowRoom (row_count g) rows s.pages.items (vec_capacity s.pages) × (s.unsound ≤ rows) };
 
     ghost shows = { λ s g rows image. ShowsHistory s.sector rows image s.pages.items s.unsound };
 
@@ -133,7 +134,6 @@ pub struct HistoryRoom {
 
 impl HistoryRoom {
     ghost use Rattle.std.specs.Prelude.{IfOk};
-    ghost use Rattle.lab_dump.specs.Rooms.{IsHistoryRoom};
 
     /// All the memory that the history of a sector takes, of a die of this geometry: a page, and 16 bytes a row.
     ///

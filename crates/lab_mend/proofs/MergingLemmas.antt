@@ -44,10 +44,9 @@ use
       AreListed,
       AreTried,
       IsTallyWithin,
-      HasConflictRoom,
-      HasTriedRoom,
       MergingStands,
     }
+use Rattle.lab_dump.specs.Rooms.{HasRowRoom}
 use Rattle.lab_mend.proofs.MajorityLemmas.{range_more}
 
 -- ---- the rows that are named
@@ -148,7 +147,7 @@ few_tried : (tried : List TriedRow) (o : Option TriedRow) → length (with_tried
 few_tried tried None = omega arith
 few_tried tried (Some r) = omega (arith, length-append tried (r ∷ []))
 
-pub room_tried : (all n : ℕ) (tried new : List TriedRow) (o : Origin) (old_room new_room : ℕ) → HasTriedRoom all n tried old_room → new ≡ with_tried tried (tried_row n o) → new_room ≡ old_room → HasTriedRoom all (n + 1) new new_room
+pub room_tried : (all n : ℕ) (tried new : List TriedRow) (o : Origin) (old_room new_room : ℕ) → HasRowRoom all n tried old_room → new ≡ with_tried tried (tried_row n o) → new_room ≡ old_room → HasRowRoom all (n + 1) new new_room
 room_tried all n tried new o old_room new_room h is same = record {
   few = (let size = ap length is in let more = few_tried tried (tried_row n o) in let few = h.few in omega arith);
   room = (let room = h.room in omega arith);
@@ -235,7 +234,7 @@ unsound_listed_more n rows Unsound h = listed_push n rows h
 pub unsound_listed_next : (n : ℕ) (old new : List ℕ) (o : Origin) → new ≡ with_unsound old n o → AreListed n old → AreListed (n + 1) new
 unsound_listed_next n old new o is h = subst (AreListed (n + 1)) (sym is) (unsound_listed_more n old o h)
 
-pub room_named : (all n : ℕ) (rows new : List ℕ) (o : Origin) (old_room new_room : ℕ) → HasConflictRoom all n rows old_room → new ≡ named rows n o → new_room ≡ old_room → HasConflictRoom all (n + 1) new new_room
+pub room_named : (all n : ℕ) (rows new : List ℕ) (o : Origin) (old_room new_room : ℕ) → HasRowRoom all n rows old_room → new ≡ named rows n o → new_room ≡ old_room → HasRowRoom all (n + 1) new new_room
 room_named all n rows new o old_room new_room h is same = record { few = (let size = ap length is in let more = by o in let few = h.few in omega arith); room = (let room = h.room in omega arith) }
   where
     by : (x : Origin) → length (named rows n x) ≤ length rows + 1
@@ -246,7 +245,7 @@ room_named all n rows new o old_room new_room h is same = record { few = (let si
     by Erased = omega arith
     by Unsound = omega arith
 
-pub room_unsound : (all n : ℕ) (rows new : List ℕ) (o : Origin) (old_room new_room : ℕ) → HasConflictRoom all n rows old_room → new ≡ with_unsound rows n o → new_room ≡ old_room → HasConflictRoom all (n + 1) new new_room
+pub room_unsound : (all n : ℕ) (rows new : List ℕ) (o : Origin) (old_room new_room : ℕ) → HasRowRoom all n rows old_room → new ≡ with_unsound rows n o → new_room ≡ old_room → HasRowRoom all (n + 1) new new_room
 room_unsound all n rows new o old_room new_room h is same = record { few = (let size = ap length is in let more = by o in let few = h.few in omega arith); room = (let room = h.room in omega arith) }
   where
     by : (x : Origin) → length (with_unsound rows n x) ≤ length rows + 1
@@ -259,7 +258,7 @@ room_unsound all n rows new o old_room new_room h is same = record { few = (let 
     by Erased = omega arith
     by Unsound = omega (arith, length-append rows (n ∷ []))
 
-pub room_first : (all capacity : ℕ) (rows : List ℕ) → rows ≡ [] → all ≤ capacity → HasConflictRoom all 0 rows capacity
+pub room_first : (all capacity : ℕ) (rows : List ℕ) → rows ≡ [] → all ≤ capacity → HasRowRoom all 0 rows capacity
 room_first all capacity rows none room = record { few = (let size = ap length none in omega arith); room = room }
 
 pub none_listed : AreListed 0 []

@@ -16,7 +16,8 @@ use Rattle.lab_dump.proofs.ScanLemmas.{if_more}
 use Rattle.lab_mend.specs.declared.pairs.BitTurn.{BitTurn}
 use Rattle.lab_mend.specs.declared.repairing.Mend.{Mend}
 use Rattle.lab_mend.specs.declared.repairing.RepairAsked.{RepairAsked}
-use Rattle.lab_mend.specs.Repairing.{as_mend, turn_at, mend_in, mends_with_row, mends_below, piece_to_write, AreMendedBelow, ShowsRepair, named_turn, IsOwn, AreOwn, AreListed, HasMendRoom, RepairingStands}
+use Rattle.lab_mend.specs.Repairing.{as_mend, turn_at, mend_in, mends_with_row, mends_below, piece_to_write, AreMendedBelow, ShowsRepair, named_turn, IsOwn, AreOwn, AreListed, RepairingStands}
+use Rattle.lab_dump.specs.Rooms.{HasRowRoom}
 
 -- ---- the list of an image
 
@@ -148,7 +149,7 @@ shows_more g asked row image p ms scratch pieces within stands h at is = record 
       (λ ps own each. subst (λ x. AreMendedBelow asked image (row + 1) (set ps row x)) (sym is) (mended_more asked image row p ps at (let size = own.size in omega arith) each));
 }
 
-pub room_more : (all rows : ℕ) (ms new : List Mend) (o : Option BitTurn) (capacity after : ℕ) → HasMendRoom all rows ms capacity → new ≡ mends_with_row ms rows o → after ≡ capacity → HasMendRoom all (rows + 1) new after
+pub room_more : (all rows : ℕ) (ms new : List Mend) (o : Option BitTurn) (capacity after : ℕ) → HasRowRoom all rows ms capacity → new ≡ mends_with_row ms rows o → after ≡ capacity → HasRowRoom all (rows + 1) new after
 room_more all rows ms new o capacity after h is same = record { few = (let size = ap length is in let more = by o in let few = h.few in omega arith); room = (let room = h.room in omega arith) }
   where
     by : (x : Option BitTurn) → length (mends_with_row ms rows x) ≤ length ms + 1

@@ -134,15 +134,6 @@ pub record AreTried (n : ℕ) (tried : List TriedRow) : Type 0 where
   pub within : All (λ r. r.row < n) tried
   pub rising : AllPairs (λ a b. a.row < b.row) tried
 
--- so many rows at most are named, and there is room for all of the die's
-pub record HasConflictRoom (rows n : ℕ) (named : List ℕ) (capacity : ℕ) : Type 0 where
-  pub few : length named ≤ n
-  pub room : rows ≤ capacity
-
-pub record HasTriedRoom (rows n : ℕ) (tried : List TriedRow) (capacity : ℕ) : Type 0 where
-  pub few : length tried ≤ n
-  pub room : rows ≤ capacity
-
 pub record IsTallyWithin (n : ℕ) (tally : RowTally) : Type 0 where
   pub sound : tally.sound ≤ n
   pub majority : tally.majority ≤ n

@@ -98,11 +98,6 @@ pub record RepairingStands (g : Geometry) (asked : RepairAsked) (rows : ℕ) (me
   pub listed : AreListed rows mends
   pub own : IfSome pieces (AreOwn g asked rows mends)
 
--- no more than the rows are listed, and there is room for all of the die's
-pub record HasMendRoom (all rows : ℕ) (mends : List Mend) (capacity : ℕ) : Type 0 where
-  pub few : length mends ≤ rows
-  pub room : all ≤ capacity
-
 -- ---- law
 
 -- what is told of a page that was written: its bits that were turned are bits of it, and it is sound or erased; or it is neither

@@ -4,7 +4,8 @@ ghost use Rattle.page_layout.specs.Geometry.{page_bytes, row_count};
 ghost use Rattle.page_layout.specs.Page.{Page};
 ghost use Rattle.lab_dump.specs.Scan.{image_bytes, Tell};
 ghost use Rattle.lab_mend.specs.InStep.{AreAt};
-ghost use Rattle.lab_mend.specs.Merging.{AreListed, AreTried, HasConflictRoom, HasTriedRoom, MergingStands, ShowsMerge, tried_below, unsound_rows_below};
+ghost use Rattle.lab_mend.specs.Merging.{AreListed, AreTried, MergingStands, ShowsMerge, tried_below, unsound_rows_below};
+ghost use Rattle.lab_dump.specs.Rooms.{HasRowRoom};
 ghost use Rattle.lab_mend.specs.Tried.{IsTrialRoom};
 ghost use Rattle.lab_mend.specs.Merged.{IsMerged, IsOfReading, IsOwnMerge, IsPinned, IsUnmerged, pages_of_row};
 ghost use Rattle.lab_mend.specs.Rooms.{IsMergeRoom};
@@ -105,9 +106,9 @@ fn merge_rows<R: DumpReader, T: PageTarget>(
     requires none { merging.old.unsound.items ≡ [] }
     requires none_tried { merging.old.tried.items ≡ [] }
     requires room { IsTrialRoom geometry.now (length readers.old) merging.old.room }
-    requires conflicts_room { HasConflictRoom (row_count geometry.now) 0 merging.old.conflicts.items (vec_capacity merging.old.conflicts) }
-    requires unsound_room { HasConflictRoom (row_count geometry.now) 0 merging.old.unsound.items (vec_capacity merging.old.unsound) }
-    requires tried_room { HasTriedRoom (row_count geometry.now) 0 merging.old.tried.items (vec_capacity merging.old.tried) }
+    requires conflicts_room { HasRowRoom (row_count geometry.now) 0 merging.old.conflicts.items (vec_capacity merging.old.conflicts) }
+    requires unsound_room { HasRowRoom (row_count geometry.now) 0 merging.old.unsound.items (vec_capacity merging.old.unsound) }
+    requires tried_room { HasRowRoom (row_count geometry.now) 0 merging.old.tried.items (vec_capacity merging.old.tried) }
     requires shows { (rows : ℕ → List Page) → ShowsMerge geometry.now rows 0 merging.old.conflicts.items merging.old.tally (T.pieces merging.old.target) }
     ensures stands { OnOk result (MergingStands geometry.now (row_count geometry.now) merging.new.conflicts.items merging.new.tally merging.new.scratch.items (T.pieces merging.new.target)) }
     ensures shows { OnOk result ((files : List (List ℕ)) → AreAt (map R.remaining readers.old) files 0
@@ -145,9 +146,9 @@ fn merge_all<R: DumpReader, T: PageTarget>(
     requires none { merging.old.unsound.items ≡ [] }
     requires none_tried { merging.old.tried.items ≡ [] }
     requires room { IsTrialRoom geometry.now (length readers.old) merging.old.room }
-    requires conflicts_room { HasConflictRoom (row_count geometry.now) 0 merging.old.conflicts.items (vec_capacity merging.old.conflicts) }
-    requires unsound_room { HasConflictRoom (row_count geometry.now) 0 merging.old.unsound.items (vec_capacity merging.old.unsound) }
-    requires tried_room { HasTriedRoom (row_count geometry.now) 0 merging.old.tried.items (vec_capacity merging.old.tried) }
+    requires conflicts_room { HasRowRoom (row_count geometry.now) 0 merging.old.conflicts.items (vec_capacity merging.old.conflicts) }
+    requires unsound_room { HasRowRoom (row_count geometry.now) 0 merging.old.unsound.items (vec_capacity merging.old.unsound) }
+    requires tried_room { HasRowRoom (row_count geometry.now) 0 merging.old.tried.items (vec_capacity merging.old.tried) }
     requires shows { (rows : ℕ → List Page) → ShowsMerge geometry.now rows 0 merging.old.conflicts.items merging.old.tally (T.pieces merging.old.target) }
     ensures ok { OnOk result ((files : List (List ℕ)) → Tell (map R.remaining readers.old) files → IsMerged geometry.now files merging.new.conflicts.items merging.new.unsound.items merging.new.tried.items merging.new.tally (T.pieces merging.new.target)) }
     ensures own { OnOk result (IsOwnMerge geometry.now merging.new.conflicts.items merging.new.unsound.items merging.new.tried.items (T.pieces merging.new.target)) }

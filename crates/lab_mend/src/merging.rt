@@ -3,7 +3,8 @@ ghost use Rattle.std.specs.Prelude.{◌≡◌, ◌<◌, ◌+◌, ◌*◌, ◌^�
 ghost use Rattle.page_layout.specs.Geometry.{page_bytes, row_count};
 ghost use Rattle.page_layout.specs.Page.{Page};
 ghost use Rattle.lab_mend.specs.Pages.{pages_in};
-ghost use Rattle.lab_mend.specs.Merging.{AreListed, AreTried, HasConflictRoom, HasTriedRoom, MergingStands, ShowsMerge, with_origin_counted, named, tried_below, tried_row, unsound_rows_below, with_tried, with_unsound};
+ghost use Rattle.lab_mend.specs.Merging.{AreListed, AreTried, MergingStands, ShowsMerge, with_origin_counted, named, tried_below, tried_row, unsound_rows_below, with_tried, with_unsound};
+ghost use Rattle.lab_dump.specs.Rooms.{HasRowRoom};
 ghost use Rattle.lab_mend.specs.Tried.{IsTrialRoom};
 
 use crate::choice::{Origin, choose};
@@ -132,14 +133,14 @@ impl<T: PageTarget> Merging<T> {
         requires row_in { row < row_count geometry.now }
         requires some { 0 < count }
         requires whole { length pages.now ≡ count * page_bytes geometry.now }
-        requires conflicts_room { HasConflictRoom (row_count geometry.now) row self.old.conflicts.items (vec_capacity self.old.conflicts) }
-        requires unsound_room { HasConflictRoom (row_count geometry.now) row self.old.unsound.items (vec_capacity self.old.unsound) }
-        requires tried_room { HasTriedRoom (row_count geometry.now) row self.old.tried.items (vec_capacity self.old.tried) }
+        requires conflicts_room { HasRowRoom (row_count geometry.now) row self.old.conflicts.items (vec_capacity self.old.conflicts) }
+        requires unsound_room { HasRowRoom (row_count geometry.now) row self.old.unsound.items (vec_capacity self.old.unsound) }
+        requires tried_room { HasRowRoom (row_count geometry.now) row self.old.tried.items (vec_capacity self.old.tried) }
         requires room { IsTrialRoom geometry.now count self.old.room }
         requires stands { MergingStands geometry.now row self.old.conflicts.items self.old.tally self.old.scratch.items (T.pieces self.old.target) }
-        ensures conflicts_room { HasConflictRoom (row_count geometry.now) (row + 1) self.new.conflicts.items (vec_capacity self.new.conflicts) }
-        ensures unsound_room { HasConflictRoom (row_count geometry.now) (row + 1) self.new.unsound.items (vec_capacity self.new.unsound) }
-        ensures tried_room { HasTriedRoom (row_count geometry.now) (row + 1) self.new.tried.items (vec_capacity self.new.tried) }
+        ensures conflicts_room { HasRowRoom (row_count geometry.now) (row + 1) self.new.conflicts.items (vec_capacity self.new.conflicts) }
+        ensures unsound_room { HasRowRoom (row_count geometry.now) (row + 1) self.new.unsound.items (vec_capacity self.new.unsound) }
+        ensures tried_room { HasRowRoom (row_count geometry.now) (row + 1) self.new.tried.items (vec_capacity self.new.tried) }
         ensures room { IsTrialRoom geometry.now count self.new.room }
         ensures failed { OnErr result (T.failed self.new.target ≡ true) }
         ensures stands { OnOk result (MergingStands geometry.now (row + 1) self.new.conflicts.items self.new.tally self.new.scratch.items (T.pieces self.new.target)) }

@@ -2,7 +2,8 @@
 ghost use Rattle.std.specs.Prelude.{◌≡◌, ◌<◌, ◌+◌, length, true, vec_capacity, OnOk, OnErr, slice_get, Some};
 ghost use Rattle.page_layout.specs.Geometry.{row_count};
 ghost use Rattle.page_layout.specs.Page.{Page, Image};
-ghost use Rattle.lab_mend.specs.Repairing.{HasMendRoom, IsOwn, has_turned_bits, mended_count, mends_with_row, piece_to_write, ShowsRepair, RepairingStands, turn_at};
+ghost use Rattle.lab_mend.specs.Repairing.{IsOwn, has_turned_bits, mended_count, mends_with_row, piece_to_write, ShowsRepair, RepairingStands, turn_at};
+ghost use Rattle.lab_dump.specs.Rooms.{HasRowRoom};
 
 use crate::mending::write_page;
 use crate::pairs::{BitTurn, Watch};
@@ -67,11 +68,11 @@ impl<T: PageTarget, W: Watch> Repairing<T, W> {
     // Lists the row if this was turned of its page, and writes the page.
     fn write(&mut self, geometry: &Geometry, row: u32, turn: Option<BitTurn>) -> Result<(), Stopped>
         requires row_in { row < row_count geometry.now }
-        requires room { HasMendRoom (row_count geometry.now) row self.old.mends.items (vec_capacity self.old.mends) }
+        requires room { HasRowRoom (row_count geometry.now) row self.old.mends.items (vec_capacity self.old.mends) }
         requires stands { RepairingStands geometry.now self.old.asked row self.old.mends.items self.old.scratch.items (T.pieces self.old.target) }
         requires own { IsOwn geometry.now self.old.asked row turn self.old.scratch.items }
         ensures asked { self.new.asked ≡ self.old.asked }
-        ensures room { HasMendRoom (row_count geometry.now) (row + 1) self.new.mends.items (vec_capacity self.new.mends) }
+        ensures room { HasRowRoom (row_count geometry.now) (row + 1) self.new.mends.items (vec_capacity self.new.mends) }
         ensures failed { OnErr result (T.failed self.new.target ≡ true) }
         ensures stands { OnOk result (RepairingStands geometry.now self.old.asked (row + 1) self.new.mends.items self.new.scratch.items (T.pieces self.new.target)) }
         ensures shows { OnOk result ((image : Image) (p : Page) → ShowsRepair self.old.asked row image self.old.mends.items (T.pieces self.old.target) → slice_get image row ≡ Some p
@@ -89,13 +90,14 @@ impl<T: PageTarget, W: Watch> Taker for Repairing<T, W> {
     ghost use Rattle.std.specs.Prelude.{◌≡◌, ◌<◌, ◌+◌, ℕ, length, slice_get, true, vec_capacity, OnOk, OnErr, Some};
     ghost use Rattle.page_layout.specs.Geometry.{row_count};
     ghost use Rattle.page_layout.specs.Page.{Image, page};
-    ghost use Rattle.lab_mend.specs.Repairing.{HasMendRoom, RepairingStands, ShowsRepair};
+    ghost use Rattle.lab_mend.specs.Repairing.{RepairingStands, ShowsRepair};
+    ghost use Rattle.lab_dump.specs.Rooms.{HasRowRoom};
 
     ghost asked = { λ s. s.asked.rows };
 
     ghost fixed = { λ s. Some s.asked.bits };
 
-    ghost stands = { λ s g rows. RepairingStands g s.asked rows s.mends.items s.scratch.items (T.pieces s.target) × HasMendRoom (row_count g) rows s.mends.items (vec_capacity s.mends) };
+    ghost stands = { λ s g rows. RepairingStands g s.asked rows s.mends.items s.scratch.items (T.pieces s.target) × HasRowRoom (row_count g) rows s.mends.items (vec_capacity s.mends) };
 
     ghost shows = { λ s g rows image. ShowsRepair s.asked rows image s.mends.items (T.pieces s.target) };
 

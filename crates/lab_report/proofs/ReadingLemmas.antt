@@ -6,16 +6,16 @@ use Rattle.serde_json.specs.declared.value.Value.{Value}
 use Rattle.serde_json.specs.Data.{Data}
 use Rattle.serde_json.specs.View.{items_of, items_view, view}
 use Rattle.lab_report.specs.declared.reading.ReportFault.{ReportFault}
-use Rattle.lab_report.specs.Reading.{all_in, report_without_feed}
+use Rattle.lab_report.specs.Reading.{all_in, without_feed}
 
 -- a line feed at the end is left out
-pub feed_left_out : (front : List ℕ) → report_without_feed (front ++ (10 ∷ [])) ≡ front
+pub feed_left_out : (front : List ℕ) → without_feed (front ++ (10 ∷ [])) ≡ front
 feed_left_out [] = refl
 feed_left_out (c ∷ []) = refl
 feed_left_out (c ∷ d ∷ cs) = ap (λ l. c ∷ l) (feed_left_out (d ∷ cs))
 
 -- and nothing else is
-pub none_left_out : (front : List ℕ) (last : ℕ) → (last == 10) ≡ false → report_without_feed (front ++ (last ∷ [])) ≡ front ++ (last ∷ [])
+pub none_left_out : (front : List ℕ) (last : ℕ) → (last == 10) ≡ false → without_feed (front ++ (last ∷ [])) ≡ front ++ (last ∷ [])
 none_left_out [] last other = rw other refl
 none_left_out (c ∷ []) last other = ap (λ l. c ∷ l) (none_left_out [] last other)
 none_left_out (c ∷ d ∷ cs) last other = ap (λ l. c ∷ l) (none_left_out (d ∷ cs) last other)

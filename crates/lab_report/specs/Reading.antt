@@ -46,15 +46,15 @@ told_in d =
     (text_in (codes "version") d)) (text_in (codes "program") d)
 
 -- the text without the line feed that it ends with, if it does
-abbrev pub report_without_feed : List ℕ → List ℕ
-report_without_feed [] = []
-report_without_feed (c ∷ []) = if c == 10 then [] else (c ∷ [])
-report_without_feed (c ∷ d ∷ cs) = c ∷ report_without_feed (d ∷ cs)
+abbrev pub without_feed : List ℕ → List ℕ
+without_feed [] = []
+without_feed (c ∷ []) = if c == 10 then [] else (c ∷ [])
+without_feed (c ∷ d ∷ cs) = c ∷ without_feed (d ∷ cs)
 
 -- WHAT A TEXT SAYS AS A REPORT, if it says one
 abbrev pub report_in : List ℕ → Option Told
-report_in text = option_and_then told_in (read (report_without_feed text))
+report_in text = option_and_then told_in (read (without_feed text))
 
 -- it says none: a text that is not UTF-8 is no JSON
 abbrev pub IsNoReport : List ℕ → Type 0
-IsNoReport text = IsUtf8 (report_without_feed text) → report_in text ≡ None
+IsNoReport text = IsUtf8 (without_feed text) → report_in text ≡ None

@@ -4,7 +4,7 @@ ghost use Rattle.std.specs.Option.{option_and_then};
 ghost use Rattle.serde_json.specs.Find.{as_array, as_str, get};
 ghost use Rattle.serde_json.specs.View.{items_view, view};
 ghost use Rattle.lab_report.specs.Note.{named_as, note_of, told_by_report};
-ghost use Rattle.lab_report.specs.Reading.{IsNoReport, all_in, digest_in, each_in, note_in, number_in, report_in, text_in, told_in, report_without_feed};
+ghost use Rattle.lab_report.specs.Reading.{IsNoReport, all_in, digest_in, each_in, note_in, number_in, report_in, text_in, told_in, without_feed};
 
 use crate::content::Content;
 use crate::note::{FileNote, RunReport};
@@ -191,7 +191,7 @@ fn report_at(alloc: Global, value: &Value) -> Result<RunReport, ReportFault>
 
 // A text without its line feed.
 fn without_line_feed(text: &[u8]) -> &[u8]
-    ensures { result.now ≡ report_without_feed text.now }
+    ensures { result.now ≡ without_feed text.now }
 {
     match text.split_last() {
         Some((last, front)) if *last == b'\n' => front,

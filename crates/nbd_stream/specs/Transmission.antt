@@ -2,7 +2,7 @@
 use Rattle.std.specs.Prelude.{◌≡◌, ◌⊎◌, ℕ, Bool, true, List, [], ◌∷◌, ◌++◌, length, Option, Some, None, IfSome, Result, Ok, Err}
 use Rattle.std.specs.List.{flat_map, AllByRecursion}
 use Rattle.std.specs.Io.KnownBytes.{Appends, Consumes}
-use Rattle.request_stream.specs.Frames.{AppendsFront, known_bytes_left, SendsBytes}
+use Rattle.request_stream.specs.Frames.{AppendsFront, HasReadNoRequest, known_bytes_left, SendsBytes}
 use Rattle.request_stream.specs.declared.reply.ServeFault.{ServeFault}
 use Rattle.request_stream.specs.declared.reply.ServeFault.TheVariants as fault
 use Rattle.nbd_stream.specs.declared.export.Export.{Export}
@@ -85,14 +85,6 @@ pub record HasServedRound {D : Type 0} (contents : D → Contents) (honest calm 
   pub tells : TellsRound contents honest calm does rests e old round new
   pub written : writes (reply_bytes_in round.exchange)
   pub has_rested : rested round
-
--- no request was read whole, the disk is as it was, and nothing was written
-pub record HasReadNoRequest {D : Type 0} (old new : D) (unread left before after : Option (List ℕ)) (P : List ℕ → Type 0) : Type 0 where
-  pub tail : List ℕ
-  pub is : P tail
-  pub read : Consumes unread left tail
-  pub same : new ≡ old
-  pub kept : after ≡ before
 
 abbrev pub ServesNext : {D : Type 0} → (D → Contents) → (honest calm : D → Bool)
     → (does : D → Task → Result (Unit {0}) DiskFault → D → Type 0) → (rests : D → Result (Unit {0}) DiskFault → D → Type 0) → Export

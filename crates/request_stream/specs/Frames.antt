@@ -72,6 +72,14 @@ abbrev pub SendsBytes : {T : Type 0} → Option (List ℕ) → Option (List ℕ)
 SendsBytes old new due (Ok x) = Appends old new due
 SendsBytes old new due (Err e) = (e ≡ fault.Write) × AppendsFront old new due
 
+-- of what serves requests: none was read whole, it is as it was, and nothing was written
+pub record HasReadNoRequest {D : Type 0} (old new : D) (unread left before after : Option (List ℕ)) (P : List ℕ → Type 0) : Type 0 where
+  pub tail : List ℕ
+  pub is : P tail
+  pub read : Consumes unread left tail
+  pub same : new ≡ old
+  pub kept : after ≡ before
+
 -- ---- lines
 
 -- a beginning of a line was written, or nothing, and never all of it: some of its bytes are missing

@@ -150,10 +150,7 @@ fn opened<S: Store + Drop>(
 ) -> Result<StoreDisk<S>, S>
     requires { S.honest store ≡ true → Agrees (S.held store).geometry 65536 (S.held store).pages certificate.now }
 {
-    let listed = match list_first(store, keeper, lost) {
-        Ok(listed) => listed,
-        Err(store) => return Err(store),
-    };
+    let listed = list_first(store, keeper, lost)?;
     match recover_listed(
         alloc,
         listed,
