@@ -1,10 +1,11 @@
 #!/usr/bin/env python3
-"""Lists the names that stand for more than one thing: definitions of specs/ and public types of src/ that several crates have.
+"""Lists the names that stand for more than one thing: definitions of specs/ and public types of src/ that several files have.
 
-    bench/names.py            the public types, and the words of docs/PROMISES.md, that several crates have
-    bench/names.py --all      each definition that several crates have, too
+    bench/names.py            the public types, and the words of docs/PROMISES.md, that several files have
+    bench/names.py --all      each definition that several files have, too
 
-A line for each name: how many crates have it, and which. Crates of tests, what makes their images too, and programs count for no type. It changes nothing, and gives no verdict."""
+A line for each name: how many files have it, and of which crates. Crates of tests, what makes their images too, and programs count for no
+type. It changes nothing, and answers 1 where a public type or a word of PROMISES is among them."""
 
 import collections
 import re
@@ -13,19 +14,18 @@ import sys
 from pathlib import Path
 
 TOP = Path(__file__).resolve().parent.parent
-DECLARES = re.compile(r"^(?:pub record|pub data|abbrev pub|unfoldable pub|opaque pub)\s+([A-Za-z_]\w*)", re.MULTILINE)
+DECLARES = re.compile(r"^(?:pub record|pub data|abbrev pub|unfoldable pub|opaque pub)\s+([A-Za-z_][\w']*)", re.MULTILINE)
 TYPE = re.compile(r"^pub (?:struct|enum|trait|type) (\w+)", re.MULTILINE)
 PROGRAMS = {"test_images", "nandctl", "nandlab", "nanddisk", "system_program", "firmware", "ftl_c"}
 
 
 def having(pattern, files):
-    """Of each name that the pattern finds, the crates in whose files it stands."""
-    found = collections.defaultdict(set)
+    """Of each name that the pattern finds more than once, the files in which it stands."""
+    found = collections.defaultdict(list)
     for path in files:
-        crate = path.relative_to(TOP / "crates").parts[0]
         for name in pattern.findall(path.read_text(encoding="utf-8")):
-            found[name].add(crate)
-    return {name: crates for name, crates in found.items() if len(crates) > 1}
+            found[name].append(path)
+    return {name: paths for name, paths in found.items() if len(paths) > 1}
 
 
 def is_library(path):
@@ -35,8 +35,8 @@ def is_library(path):
 
 def show(title, names):
     print(f"{title}: {len(names)}")
-    for name, crates in sorted(names.items(), key=lambda it: (-len(it[1]), it[0])):
-        print(f"  {len(crates)} {name}: {' '.join(sorted(crates))}")
+    for name, paths in sorted(names.items(), key=lambda it: (-len(it[1]), it[0])):
+        print(f"  {len(paths)} {name}: {' '.join(sorted({path.relative_to(TOP / 'crates').parts[0] for path in paths}))}")
 
 
 def main():
@@ -46,11 +46,13 @@ def main():
     types = having(TYPE, [path for path in sorted(TOP.glob("crates/*/src/**/*.rt")) if is_library(path)])
     promised = set(re.findall(r"`(\w+)[`.]", (TOP / "docs/PROMISES.md").read_text(encoding="utf-8")))
     show("public types", types)
-    show("words of PROMISES", {name: crates for name, crates in specs.items() if name in promised})
+    show("words of PROMISES", {name: paths for name, paths in specs.items() if name in promised})
     if sys.argv[1:] == ["--all"]:
         show("definitions", specs)
     else:
         print(f"definitions: {len(specs)}")
+    # a public type or a promise's word of two meanings would be a fault
+    sys.exit(1 if types or any(name in promised for name in specs) else 0)
 
 
 if __name__ == "__main__":

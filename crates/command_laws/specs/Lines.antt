@@ -5,7 +5,7 @@ use Rattle.request_stream.specs.Frames.{AppendsPart}
 use Rattle.commands.specs.declared.text.CommandFault.{CommandFault}
 use Rattle.commands.specs.declared.text.ServeStop.{ServeStop}
 use Rattle.commands.specs.Files.{Stored, written_file, unwritten_file, with_store}
-use Rattle.commands.specs.Lines.{IsUnprinted}
+use Rattle.commands.specs.Lines.{IsLineUnprinted}
 use Rattle.commands.specs.Text.{IsCommandFaultTold, told_line, command_exit_status}
 use Rattle.commands.specs.Serve.{EndsServing}
 
@@ -22,7 +22,7 @@ WholeLineLaw = (fault : CommandFault) (before : List ℕ) (after : Option (List 
 
 -- ON STANDARD OUTPUT too: a line that is told as unprinted does not stand there whole
 abbrev pub UnprintedLaw : Type 0
-UnprintedLaw = (line before : List ℕ) (after : Option (List ℕ)) (stop : CommandFault) → IsUnprinted line (Some before) after stop → ¬ Appends (Some before) after line
+UnprintedLaw = (line before : List ℕ) (after : Option (List ℕ)) (stop : CommandFault) → IsLineUnprinted line (Some before) after stop → ¬ Appends (Some before) after line
 
 -- A STORE THAT FAILED is told as not done
 abbrev pub FailedStoreLaw : Type 0

@@ -21,7 +21,7 @@ use Rattle.commands.specs.Files.{LoadAnswers, IsOpened}
 use Rattle.commands.specs.Inputs.{TellsUnread}
 use Rattle.commands.specs.Check.{AsksForCapacity, HasNoCertificate, HoldsClaim, HoldsNoClaim, IsNoCertificate, LacksCertificate}
 use Rattle.commands.specs.Check.{Accepts, DoesCheck, HasSpelledCertificate, HasFiles, DiffersAs, IsCheckFault, IsHeld, IsHeldAs, IsOutputKept, IsClaimSpelled, IsToldAs, IsUnheld, HasImageLength, accepted_line}
-use Rattle.commands.specs.Lines.{IsUnprinted}
+use Rattle.commands.specs.Lines.{IsLineUnprinted}
 
 -- a count of failures that stays at none did not rise
 pub unrisen : HasRisen 0 0 → ⊥
@@ -85,7 +85,7 @@ unheld_accepts g capacity path known c before after result stop is keeps un =
 
 -- one that was, and then was printed or not
 pub held_accepts : (g : Geometry) (capacity : ℕ) (path : List ℕ) (known : Option (List ℕ)) (c : Claim) (before after : Option (List ℕ)) (result : Result (Unit {0}) CommandFault)
-    → IsHeldAs g capacity known c → OnOk result (Appends before after accepted_line) → IfErr result (IsUnprinted accepted_line before after)
+    → IsHeldAs g capacity known c → OnOk result (Appends before after accepted_line) → IfErr result (IsLineUnprinted accepted_line before after)
     → Accepts g capacity path known c before after result
 held_accepts g capacity path known c before after (Ok done) held told un = (held, told)
 held_accepts g capacity path known c before after (Err stop) held told un = inr (held, un)
@@ -98,7 +98,7 @@ accepted_does gives tells words g capacity known written c before after result f
     has : HasSpelledCertificate gives tells words
     has = record { geometry = g; capacity = capacity; known = known; written = written; claim = c; files = files; spelled = spelled }
 
-    unkept : (stop : CommandFault) → IsUnprinted accepted_line before after stop → IsOutputKept stop before after
+    unkept : (stop : CommandFault) → IsLineUnprinted accepted_line before after stop → IsOutputKept stop before after
     unkept (fault.Write path) is = tt
     unkept _ is = absurd is
 

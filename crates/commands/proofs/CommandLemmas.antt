@@ -20,7 +20,7 @@ use Rattle.commands.specs.Migrate.{DoesMigrate, IsClaimUnmigrated, IsMigrationUn
 use Rattle.commands.specs.Commands.{Obeys, OrderComesTo}
 use Rattle.commands.specs.Files.{LoadAnswers, Left, LeavesUntouched}
 use Rattle.commands.specs.Inputs.{AreNoNumbers, AreNumbers, TellsUnread}
-use Rattle.commands.specs.Sector.{DoesSector, AsksForNumber, HasImage, IsPrintFault, IsUnprinted, IsUnreadable, TellsUnprinted, sector_line}
+use Rattle.commands.specs.Sector.{DoesSector, AsksForNumber, HasImage, IsPrintFault, IsSectorUnprinted, IsUnreadable, TellsUnprinted, sector_line}
 use Rattle.commands.specs.Show.{DoesShow, IsUnshown, ShowsRowLine}
 use Rattle.command_words.specs.Words.{IsOrder}
 use Rattle.commands.proofs.WordLemmas.{asks_for}
@@ -51,7 +51,7 @@ unread_does gives words g n before after _ asked keeps unread = absurd unread
 
 -- so does a sector that was not printed
 pub unprinted_does : (gives : LoadAnswers) (words : ImageWords) (g : Geometry) (n : ℕ) (bytes : List ℕ) (before after : Option (List ℕ)) (why : PrintFault) (stop : CommandFault)
-    → HasImage gives words g n bytes → IsPrintFault g (raw_image g bytes) n why → IsUnprinted (sector_line g (raw_image g bytes) n) why before after → TellsUnprinted why stop
+    → HasImage gives words g n bytes → IsPrintFault g (raw_image g bytes) n why → IsSectorUnprinted (sector_line g (raw_image g bytes) n) why before after → TellsUnprinted why stop
     → DoesSector gives words before after (Err stop)
 unprinted_does gives words g n bytes before after (print.Sector refused) (fault.Sector told) image why un is =
     (un, (g, n, bytes, image, subst (λ f. IsUnreadable g (raw_image g bytes) n f) (sym is) why))

@@ -20,7 +20,7 @@ use Rattle.commands.specs.declared.text.CommandFault.{CommandFault}
 use Rattle.commands.specs.declared.text.CommandFault.TheVariants as fault
 use Rattle.command_words.specs.declared.words.FileWords.{FileWords}
 use Rattle.commands.specs.Files.{LoadAnswers, Left, LeavesUntouched, IsUnstored, with_store, written_file}
-use Rattle.commands.specs.Lines.{IsUnprinted}
+use Rattle.commands.specs.Lines.{IsLineUnprinted}
 use Rattle.commands.specs.Inputs.{TellsUnread}
 use Rattle.commands.specs.Steady.{is_flawless}
 use Rattle.commands.proofs.LogLemmas.{all_passed}
@@ -110,7 +110,7 @@ unstored_formats gives words bytes good before after _ has keeps un = absurd un
 -- the line was printed, or not, after the store
 pub printed_formats : (gives : LoadAnswers) (words : FileWords) (bytes : List ℕ) (good : ℕ) (before after : Left) (result : Result (Unit {0}) CommandFault)
     → HasFormatted gives words bytes good → after.stores ≡ with_store before.stores (written_file words.output.now bytes)
-    → OnOk result (Appends before.out after.out (good_line good)) → IfErr result (IsUnprinted (good_line good) before.out after.out) → DoesFormat gives words before after result
+    → OnOk result (Appends before.out after.out (good_line good)) → IfErr result (IsLineUnprinted (good_line good) before.out after.out) → DoesFormat gives words before after result
 printed_formats gives words bytes good before after (Ok done) has stored told un = (bytes, good, has, stored, told)
 printed_formats gives words bytes good before after (Err (fault.Write path)) has stored told un = (bytes, good, has, inr (un.0, stored, un.1))
 printed_formats gives words bytes good before after (Err _) has stored told un = absurd un

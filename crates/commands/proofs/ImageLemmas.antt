@@ -13,7 +13,7 @@ use Rattle.page_layout.specs.declared.look.PageLook.{PageLook}
 use Rattle.page_layout.specs.PageLook.{look_of}
 use Rattle.page_layout.specs.Sound.{version_of}
 use Rattle.commands.specs.declared.text.CommandFault.TheVariants as fault
-use Rattle.commands.specs.Lines.{IsUnprinted}
+use Rattle.commands.specs.Lines.{IsLineUnprinted}
 use Rattle.page_layout.specs.Page.{Image, Page}
 use Rattle.page_layout.specs.Geometry.{row_count}
 use Rattle.commands.specs.declared.text.CommandFault.{CommandFault}
@@ -33,8 +33,8 @@ pub print_fault_in : (flash : Flash) (g : Geometry) (all bytes : List ℕ) (n : 
 print_fault_in flash g all bytes n why is same = let P : Flash → Type 0 = λ f. IsPrintFault f.geometry f.image n why in subst P (flash_is flash g all bytes is same)
 
 pub unprinted_in : (flash : Flash) (g : Geometry) (all bytes : List ℕ) (n : ℕ) (why : PrintFault) (before after : Option (List ℕ)) → flash ≡ still g (raw_image g all) → all ≡ bytes
-    → Sector.IsUnprinted (sector_line flash.geometry flash.image n) why before after → Sector.IsUnprinted (sector_line g (raw_image g bytes) n) why before after
-unprinted_in flash g all bytes n why before after is same = let P : Flash → Type 0 = λ f. Sector.IsUnprinted (sector_line f.geometry f.image n) why before after in subst P (flash_is flash g all bytes is same)
+    → Sector.IsSectorUnprinted (sector_line flash.geometry flash.image n) why before after → Sector.IsSectorUnprinted (sector_line g (raw_image g bytes) n) why before after
+unprinted_in flash g all bytes n why before after is same = let P : Flash → Type 0 = λ f. Sector.IsSectorUnprinted (sector_line f.geometry f.image n) why before after in subst P (flash_is flash g all bytes is same)
 
 pub shows_in : (flash : Flash) (g : Geometry) (all bytes : List ℕ) (n : ℕ) (before after : Option (List ℕ)) (r : Result (Unit {0}) CommandFault) → flash ≡ still g (raw_image g all) → all ≡ bytes
     → OnOk r (ShowsRowLine flash.geometry flash.image n before after) → OnOk r (ShowsRowLine g (raw_image g bytes) n before after)
@@ -56,7 +56,7 @@ page_shown g image row before after p look version (Ok done) is within same told
 page_shown g image row before after p look version (Err stop) is within same told_version told = tt
 
 pub page_unshown : (g : Geometry) (image : Image) (row : ℕ) (before after : Option (List ℕ)) (p : Page) (look : PageLook) (version : Option ℕ) (r : Result (Unit {0}) CommandFault) → slice_get image row ≡ Some p → row < row_count g
-    → look ≡ look_of p → version ≡ version_of p → IfErr r (IsUnprinted (look_line version look) before after) → IfErr r (IsUnshown g image row before after)
+    → look ≡ look_of p → version ≡ version_of p → IfErr r (IsLineUnprinted (look_line version look) before after) → IfErr r (IsUnshown g image row before after)
 page_unshown g image row before after p look version (Ok done) is within same told_version un = tt
 page_unshown g image row before after p look version (Err (fault.Write path)) is within same told_version un =
     let P : List ℕ → Type 0 = λ l. AppendsPart before after l in

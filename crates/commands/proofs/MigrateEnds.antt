@@ -29,7 +29,7 @@ use Rattle.command_words.specs.declared.words.ServeWords.{ServeWords}
 use Rattle.commands.specs.declared.text.CommandFault.{CommandFault}
 use Rattle.commands.specs.Check.{HasImageLength}
 use Rattle.commands.specs.Files.{LoadAnswers, Left, LeavesUntouched, with_store, written_file}
-use Rattle.commands.specs.Lines.{IsUnprinted}
+use Rattle.commands.specs.Lines.{IsLineUnprinted}
 use Rattle.commands.specs.Steady.{has_spared}
 use Rattle.commands.specs.Serve.{Driver, HasClaim, HasGivenBack, IsDieUnmade, bad_in, failures_of, flash_behind, recorded_of, driver_view}
 use Rattle.commands.specs.Migrate.{DoesMigrate, EndsShort, HasMigrated, IsSettled, IsMigrationUnbegun, IsUnmigratedDie, KeepsAll, MigratesDie, RenewsThenFlushes, StartsOver, migrated_line}
@@ -57,13 +57,13 @@ falls_short gives words before after result stop image came is has short keeps =
 -- the printing, after all that came before it
 pub prints : (gives : LoadAnswers) (words : ServeWords) (before after : Left) (result : Result (Unit {0}) CommandFault) (image : List ℕ) (count : ℕ) (came : Result ℕ DeviceFault) → came ≡ Ok count
     → HasMigrated gives words image came → after.stores ≡ with_store before.stores (written_file words.output.now image)
-    → OnOk result (Appends before.out after.out (migrated_line count)) → IfErr result (IsUnprinted (migrated_line count) before.out after.out) → DoesMigrate gives words before after result
+    → OnOk result (Appends before.out after.out (migrated_line count)) → IfErr result (IsLineUnprinted (migrated_line count) before.out after.out) → DoesMigrate gives words before after result
 prints gives words before after result image count came is has stored ok failed = go result ok failed
   where
     done : HasMigrated gives words image (Ok count)
     done = subst (λ (r : Result ℕ DeviceFault). HasMigrated gives words image r) is has
 
-    go : (r : Result (Unit {0}) CommandFault) → OnOk r (Appends before.out after.out (migrated_line count)) → IfErr r (IsUnprinted (migrated_line count) before.out after.out) → DoesMigrate gives words before after r
+    go : (r : Result (Unit {0}) CommandFault) → OnOk r (Appends before.out after.out (migrated_line count)) → IfErr r (IsLineUnprinted (migrated_line count) before.out after.out) → DoesMigrate gives words before after r
     go (Ok _) told told_not = (image, count, done, stored, told)
     go (Err stop) told told_not = inr (inr (image, count, done, stored, told_not))
 

@@ -7,7 +7,7 @@ use Rattle.commands.specs.declared.text.CommandFault.{CommandFault}
 use Rattle.command_words.specs.declared.words.CertificateWords.{CertificateWords}
 use Rattle.commands.specs.Check.{AsksForCapacity}
 use Rattle.commands.specs.Files.{LoadAnswers, IsUnstored, Left, LeavesUntouched, with_store, written_file}
-use Rattle.commands.specs.Lines.{IsUnprinted}
+use Rattle.commands.specs.Lines.{IsLineUnprinted}
 use Rattle.commands.specs.Mount.{DoesMount, HasMounted, IsMountedAs, IsUncertified, Stores, certified_line, mounted_line}
 
 -- a step before the storing that ended the command
@@ -35,7 +35,7 @@ unstored gives words g capacity bytes spelled m before after result stop asked g
 pub prints : (gives : LoadAnswers) (words : CertificateWords) (g : Geometry) (capacity : ℕ) (bytes spelled : List ℕ) (m : Mounted) (before after : Left) (result : Result (Unit {0}) CommandFault)
     → AsksForCapacity words g capacity → gives words.image.now (Ok bytes) → IsMountedAs g capacity bytes m → spelled ≡ m.written.items
     → after.stores ≡ with_store before.stores (written_file words.certificate.now spelled)
-    → OnOk result (Appends before.out after.out (mounted_line m.next m.good m.stale)) → IfErr result (IsUnprinted (mounted_line m.next m.good m.stale) before.out after.out)
+    → OnOk result (Appends before.out after.out (mounted_line m.next m.good m.stale)) → IfErr result (IsLineUnprinted (mounted_line m.next m.good m.stale) before.out after.out)
     → DoesMount gives words before after result
 prints gives words g capacity bytes spelled m before after result asked given mounted same stored ok failed = go result ok failed
   where
@@ -49,6 +49,6 @@ prints gives words g capacity bytes spelled m before after result asked given mo
     line = λ i. mounted_line (mounted.next_is i) (mounted.good_is i) (mounted.stale_is i)
 
     go : (r : Result (Unit {0}) CommandFault) → OnOk r (Appends before.out after.out (mounted_line m.next m.good m.stale))
-        → IfErr r (IsUnprinted (mounted_line m.next m.good m.stale) before.out after.out) → DoesMount gives words before after r
+        → IfErr r (IsLineUnprinted (mounted_line m.next m.good m.stale) before.out after.out) → DoesMount gives words before after r
     go (Ok done) told told_not = let P : List ℕ → Type 0 = λ l. Appends before.out after.out l in (has, stores, subst P line told)
-    go (Err stop) told told_not = let P : List ℕ → Type 0 = λ l. IsUnprinted l before.out after.out stop in inr (inr (has, stores, subst P line told_not))
+    go (Err stop) told told_not = let P : List ℕ → Type 0 = λ l. IsLineUnprinted l before.out after.out stop in inr (inr (has, stores, subst P line told_not))

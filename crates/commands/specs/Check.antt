@@ -17,7 +17,7 @@ use Rattle.commands.specs.declared.text.CommandFault.{CommandFault}
 use Rattle.commands.specs.declared.text.CommandFault.TheVariants as fault
 use Rattle.command_words.specs.declared.words.CertificateWords.{CertificateWords}
 use Rattle.commands.specs.Files.{LoadAnswers, IsOpened}
-use Rattle.commands.specs.Lines.{IsUnprinted}
+use Rattle.commands.specs.Lines.{IsLineUnprinted}
 use Rattle.commands.specs.Inputs.{TellsUnread}
 use Rattle.program_words.specs.Numbers.{SpellsGeometry, number_of}
 
@@ -113,7 +113,7 @@ accepted_line = codes "accepted" ++ (10 ∷ [])
 abbrev pub Accepts : Geometry → ℕ → (path : List ℕ) → (known : Option (List ℕ)) → Claim → (before after : Option (List ℕ)) → Result (Unit {0}) CommandFault → Type 0
 Accepts g capacity path known c before after (Ok done) = IsHeldAs g capacity known c × Appends before after accepted_line
 Accepts g capacity path known c before after (Err stop) =
-    (Keeps before after × IsUnheld g capacity path known c stop) ⊎ (IsHeldAs g capacity known c × IsUnprinted accepted_line before after stop)
+    (Keeps before after × IsUnheld g capacity path known c stop) ⊎ (IsHeldAs g capacity known c × IsLineUnprinted accepted_line before after stop)
 
 -- nothing was written to standard output, unless it is what failed
 abbrev pub IsOutputKept : CommandFault → Option (List ℕ) → Option (List ℕ) → Type 0
@@ -174,7 +174,7 @@ IsCheckFault gives tells words before after stop =
     ⊎ LacksCertificate gives tells words stop
     ⊎ HasNoCertificate gives tells words stop
     ⊎ ((has : HasSpelledCertificate gives tells words) × HoldsNot has stop)
-    ⊎ ((has : HasSpelledCertificate gives tells words) × CertificateHolds has × IsUnprinted accepted_line before after stop)
+    ⊎ ((has : HasSpelledCertificate gives tells words) × CertificateHolds has × IsLineUnprinted accepted_line before after stop)
 
 -- What the command came to, with the bytes of standard output before and after.
 abbrev pub DoesCheck : LoadAnswers → Bool → CertificateWords → Option (List ℕ) → Option (List ℕ) → Result (Unit {0}) CommandFault → Type 0

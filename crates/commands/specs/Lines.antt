@@ -5,6 +5,6 @@ use Rattle.commands.specs.declared.text.CommandFault.{CommandFault}
 use Rattle.commands.specs.declared.text.CommandFault.TheVariants.{Write}
 
 -- standard output could not be written: a beginning of the line stands there, or nothing, and never all of it
-abbrev pub IsUnprinted : List ℕ → Option (List ℕ) → Option (List ℕ) → CommandFault → Type 0
-IsUnprinted line before after (Write path) = (path.now ≡ codes "-") × AppendsPart before after line
-IsUnprinted line before after _ = ⊥
+abbrev pub IsLineUnprinted : List ℕ → Option (List ℕ) → Option (List ℕ) → CommandFault → Type 0
+IsLineUnprinted line before after (Write path) = (path.now ≡ codes "-") × AppendsPart before after line
+IsLineUnprinted line before after _ = ⊥

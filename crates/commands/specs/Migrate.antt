@@ -39,7 +39,7 @@ use Rattle.commands.specs.declared.text.CommandFault.{CommandFault}
 use Rattle.commands.specs.declared.text.CommandFault.TheVariants as fault
 use Rattle.commands.specs.Check.{HasImageLength}
 use Rattle.commands.specs.Files.{LoadAnswers, Left, LeavesUntouched, Stored, with_store, written_file, unwritten_file}
-use Rattle.commands.specs.Lines.{IsUnprinted}
+use Rattle.commands.specs.Lines.{IsLineUnprinted}
 use Rattle.commands.specs.Serve.{Driver, HasClaim, IsDieUnmade, IsUnclaimed, bad_in}
 use Rattle.commands.specs.Serve.{flash_behind, recorded_of, driver_view}
 
@@ -225,4 +225,4 @@ DoesMigrate gives words before after (Err stop) =
     ⊎ ((image : List ℕ) × (came : Result ℕ DeviceFault) × HasMigrated gives words image came × EndsShort words.output.now image came before.stores after.stores stop
     × Keeps before.out after.out)
     ⊎ ((image : List ℕ) × (count : ℕ) × HasMigrated gives words image (Ok count) × (after.stores ≡ with_store before.stores (written_file words.output.now image))
-    × IsUnprinted (migrated_line count) before.out after.out stop)
+    × IsLineUnprinted (migrated_line count) before.out after.out stop)

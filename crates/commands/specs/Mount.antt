@@ -16,7 +16,7 @@ use Rattle.commands.specs.declared.text.CommandFault.TheVariants as fault
 use Rattle.command_words.specs.declared.words.CertificateWords.{CertificateWords}
 use Rattle.commands.specs.Check.{AsksForCapacity, IsImageUnopened, IsUnasked, HasImageLength}
 use Rattle.commands.specs.Files.{LoadAnswers, IsUnstored, Left, LeavesUntouched, with_store, written_file}
-use Rattle.commands.specs.Lines.{IsUnprinted}
+use Rattle.commands.specs.Lines.{IsLineUnprinted}
 
 -- the bytes are an image, and this is its certificate
 pub record IsCertified (g : Geometry) (capacity : ℕ) (bytes : List ℕ) (c : Claim) : Type 0 where
@@ -94,4 +94,4 @@ DoesMount gives words before after (Ok done) = (has : HasMounted gives words) ×
 DoesMount gives words before after (Err stop) =
     (LeavesUntouched before after × IsUncertified gives words stop)
     ⊎ ((has : HasMounted gives words) × StoresNot has before after stop × Keeps before.out after.out)
-    ⊎ ((has : HasMounted gives words) × Stores has before after × IsUnprinted (certified_line has) before.out after.out stop)
+    ⊎ ((has : HasMounted gives words) × Stores has before after × IsLineUnprinted (certified_line has) before.out after.out stop)

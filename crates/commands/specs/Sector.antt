@@ -44,10 +44,10 @@ IsPrintFault g image n print.Write = IsReadable g image n
 IsPrintFault g image n print.OutOfMemory = IsReadable g image n
 
 -- nothing was written, or a part of the line where it was the writer that failed, and not all of it
-abbrev pub IsUnprinted : List ℕ → PrintFault → Option (List ℕ) → Option (List ℕ) → Type 0
-IsUnprinted line print.Write before after = AppendsPart before after line
-IsUnprinted line (print.Sector fault) before after = Keeps before after
-IsUnprinted line print.OutOfMemory before after = Keeps before after
+abbrev pub IsSectorUnprinted : List ℕ → PrintFault → Option (List ℕ) → Option (List ℕ) → Type 0
+IsSectorUnprinted line print.Write before after = AppendsPart before after line
+IsSectorUnprinted line (print.Sector fault) before after = Keeps before after
+IsSectorUnprinted line print.OutOfMemory before after = Keeps before after
 
 -- ---- the command
 

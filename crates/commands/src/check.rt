@@ -2,7 +2,7 @@
 ghost use Rattle.std.specs.Prelude.{◌≡◌, OnOk, IfOk, IfErr};
 ghost use Rattle.std.specs.Io.KnownBytes.{Appends};
 ghost use Rattle.commands.specs.Check.{Accepts, DoesCheck, HoldsClaim, HoldsNoClaim, IsHeldAs, IsNoCertificate, IsClaimSpelled, IsToldAs, IsUnheld, accepted_line};
-ghost use Rattle.commands.specs.Lines.{IsUnprinted};
+ghost use Rattle.commands.specs.Lines.{IsLineUnprinted};
 
 use crate::files::FileStore;
 use crate::inputs::{CacheAsked, cache_asked, load};
@@ -71,7 +71,7 @@ fn hold<'a, R: Read>(
 // Prints that the certificate was accepted.
 fn print_accepted<'a, W: Write>(out: &mut W) -> Result<(), CommandFault<'a>>
     ensures ok { OnOk result (Appends (W.contents out.old) (W.contents out.new) accepted_line) }
-    ensures fault { IfErr result (IsUnprinted accepted_line (W.contents out.old) (W.contents out.new)) }
+    ensures fault { IfErr result (IsLineUnprinted accepted_line (W.contents out.old) (W.contents out.new)) }
 {
     print(out, &["accepted\n"])
 }

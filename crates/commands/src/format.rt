@@ -4,7 +4,7 @@ ghost use Rattle.std.specs.Io.KnownBytes.{Appends};
 ghost use Rattle.onfi_cycles.specs.Driver.{seen};
 ghost use Rattle.commands.specs.Format.{DoesFormat, IsFormattedImage, IsImageUnformatted, good_line};
 ghost use Rattle.commands.specs.Files.{left_behind};
-ghost use Rattle.commands.specs.Lines.{IsUnprinted};
+ghost use Rattle.commands.specs.Lines.{IsLineUnprinted};
 ghost use Rattle.commands.specs.Steady.{is_flawless, is_steady};
 
 use crate::files::FileStore;
@@ -72,7 +72,7 @@ pub fn format_image<'a>(
 // Prints how many good blocks a die has.
 fn print_good<'a, W: Write>(good: u32, out: &mut W) -> Result<(), CommandFault<'a>>
     ensures ok { OnOk result (Appends (W.contents out.old) (W.contents out.new) (good_line good)) }
-    ensures fault { IfErr result (IsUnprinted (good_line good) (W.contents out.old) (W.contents out.new)) }
+    ensures fault { IfErr result (IsLineUnprinted (good_line good) (W.contents out.old) (W.contents out.new)) }
 {
     let mut digits = Buffer::new();
     print(out, &["good ", digits.format(good), "\n"])

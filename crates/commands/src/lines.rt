@@ -4,7 +4,7 @@ ghost use Rattle.std.specs.List.{concat};
 ghost use Rattle.std.specs.Io.KnownBytes.{Appends};
 ghost use Rattle.request_stream.specs.Frames.{SendsLine};
 ghost use Rattle.command_words.specs.Words.{texts};
-ghost use Rattle.commands.specs.Lines.{IsUnprinted};
+ghost use Rattle.commands.specs.Lines.{IsLineUnprinted};
 ghost use Rattle.commands.specs.Text.{device_start, device_words};
 
 use crate::text::CommandFault;
@@ -120,7 +120,7 @@ pub fn send_device<'a, W: Write>(
 /// `Write` of `-` where a write failed, was interrupted or took nothing: a beginning of the line is out.
 pub fn print<'a, W: Write>(out: &mut W, parts: &[&str]) -> Result<(), CommandFault<'a>>
     ensures ok { OnOk result (Appends (W.contents out.old) (W.contents out.new) (concat (texts parts.now))) }
-    ensures fault { IfErr result (IsUnprinted (concat (texts parts.now)) (W.contents out.old) (W.contents out.new)) }
+    ensures fault { IfErr result (IsLineUnprinted (concat (texts parts.now)) (W.contents out.old) (W.contents out.new)) }
 {
     match send_parts(out, parts) {
         Ok(()) => Ok(()),

@@ -4,7 +4,7 @@ ghost use Rattle.std.specs.Io.KnownBytes.{Appends};
 ghost use Rattle.onfi_cycles.specs.Driver.{flash_by};
 ghost use Rattle.commands.specs.Check.{HasImageLength};
 ghost use Rattle.commands.specs.Files.{left_behind, with_store, written_file};
-ghost use Rattle.commands.specs.Lines.{IsUnprinted};
+ghost use Rattle.commands.specs.Lines.{IsLineUnprinted};
 ghost use Rattle.commands.specs.Migrate.{DoesMigrate, EndsShort, IsUnmigratedDie, MigratesDie, StartsOver, migrated_line};
 
 use crate::claimed::{claim, driver_over};
@@ -102,7 +102,7 @@ fn finish<'a, F: FileStore>(
 // Prints how many pages were brought forward.
 fn print_migrated<'a, W: Write>(count: u32, out: &mut W) -> Result<(), CommandFault<'a>>
     ensures ok { OnOk result (Appends (W.contents out.old) (W.contents out.new) (migrated_line count)) }
-    ensures fault { IfErr result (IsUnprinted (migrated_line count) (W.contents out.old) (W.contents out.new)) }
+    ensures fault { IfErr result (IsLineUnprinted (migrated_line count) (W.contents out.old) (W.contents out.new)) }
 {
     let mut digits = Buffer::new();
     print(out, &["migrated ", digits.format(count), "\n"])

@@ -3,7 +3,7 @@ ghost use Rattle.std.specs.Prelude.{◌≡◌, ◌≤◌, OnOk, IfOk, IfErr};
 ghost use Rattle.std.specs.Io.KnownBytes.{Appends};
 ghost use Rattle.certificate.specs.Spelling.{certificate_bytes};
 ghost use Rattle.commands.specs.Files.{left_behind};
-ghost use Rattle.commands.specs.Lines.{IsUnprinted};
+ghost use Rattle.commands.specs.Lines.{IsLineUnprinted};
 ghost use Rattle.commands.specs.Mount.{DoesMount, IsImageUnmounted, IsMountedAs, IsUnspelled, mounted_line};
 
 use crate::files::FileStore;
@@ -71,7 +71,7 @@ fn mount_bytes<'a>(
 // Prints what is told of a certificate.
 fn print_mounted<'a, W: Write>(mounted: &Mounted, out: &mut W) -> Result<(), CommandFault<'a>>
     ensures ok { OnOk result (Appends (W.contents out.old) (W.contents out.new) (mounted_line mounted.now.next mounted.now.good mounted.now.stale)) }
-    ensures fault { IfErr result (IsUnprinted (mounted_line mounted.now.next mounted.now.good mounted.now.stale) (W.contents out.old) (W.contents out.new)) }
+    ensures fault { IfErr result (IsLineUnprinted (mounted_line mounted.now.next mounted.now.good mounted.now.stale) (W.contents out.old) (W.contents out.new)) }
 {
     let (mut next, mut good, mut stale) = (Buffer::new(), Buffer::new(), Buffer::new());
     let line = [

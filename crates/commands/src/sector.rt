@@ -2,7 +2,7 @@
 ghost use Rattle.std.specs.Prelude.{◌≡◌, ◌≢◌, ◌∷◌, [], ◌++◌, OnOk, IfOk, IfErr, string_bytes};
 ghost use Rattle.std.specs.Io.KnownBytes.{Appends};
 ghost use Rattle.hex.specs.Hex.{encode_lower};
-ghost use Rattle.commands.specs.Sector.{DoesSector, IsPrintFault, IsReadable, IsUnprinted, TellsUnprinted};
+ghost use Rattle.commands.specs.Sector.{DoesSector, IsPrintFault, IsReadable, IsSectorUnprinted, TellsUnprinted};
 
 use crate::files::FileStore;
 use crate::inputs::{load, numbered_by};
@@ -94,7 +94,7 @@ pub fn print_sector<W: Write>(
     ensures ok { OnOk result (Appends (W.contents out.old) (W.contents out.new) (Rattle.commands.specs.Sector.sector_line image.now.flash.geometry image.now.flash.image sector)) }
     ensures readable { OnOk result (IsReadable image.now.flash.geometry image.now.flash.image sector) }
     ensures fault { IfErr result (IsPrintFault image.now.flash.geometry image.now.flash.image sector) }
-    ensures unprinted { IfErr result (λ fault. IsUnprinted (Rattle.commands.specs.Sector.sector_line image.now.flash.geometry image.now.flash.image sector) fault
+    ensures unprinted { IfErr result (λ fault. IsSectorUnprinted (Rattle.commands.specs.Sector.sector_line image.now.flash.geometry image.now.flash.image sector) fault
         (W.contents out.old) (W.contents out.new)) }
 {
     let line = sector_line(alloc, image, sector)?;

@@ -1,7 +1,7 @@
 //! The command `show GEOM IMAGE ROW`.
 ghost use Rattle.std.specs.Prelude.{◌≡◌, length, IfErr, OnOk};
 ghost use Rattle.std.specs.Io.KnownBytes.{Appends};
-ghost use Rattle.commands.specs.Lines.{IsUnprinted};
+ghost use Rattle.commands.specs.Lines.{IsLineUnprinted};
 ghost use Rattle.commands.specs.Show.{DoesShow, IsUnshown, ShowsRowLine, look_line};
 
 use crate::files::FileStore;
@@ -45,7 +45,7 @@ fn print_record<'a, W: Write>(
     out: &mut W,
 ) -> Result<(), CommandFault<'a>>
     ensures ok { OnOk result (Appends (W.contents out.old) (W.contents out.new) (look_line version (PageLook.Sound found.now))) }
-    ensures fault { IfErr result (IsUnprinted (look_line version (PageLook.Sound found.now)) (W.contents out.old) (W.contents out.new)) }
+    ensures fault { IfErr result (IsLineUnprinted (look_line version (PageLook.Sound found.now)) (W.contents out.old) (W.contents out.new)) }
 {
     let (mut number, mut sequence, mut wear) = (Buffer::new(), Buffer::new(), Buffer::new());
     let line = [
@@ -69,7 +69,7 @@ fn print_look<'a, W: Write>(
     out: &mut W,
 ) -> Result<(), CommandFault<'a>>
     ensures ok { OnOk result (Appends (W.contents out.old) (W.contents out.new) (look_line version look.now)) }
-    ensures fault { IfErr result (IsUnprinted (look_line version look.now) (W.contents out.old) (W.contents out.new)) }
+    ensures fault { IfErr result (IsLineUnprinted (look_line version look.now) (W.contents out.old) (W.contents out.new)) }
 {
     match look {
         PageLook::Sound(record) => print_record(record, version, out),

@@ -1,7 +1,7 @@
 use Rattle.std.proofs.Common.{◌≡◌, ◌++◌, ◌∷◌, [], codes, ℕ, List, IfErr, OnOk, subst}
 use Rattle.std.specs.Io.KnownBytes.{Appends}
 use Rattle.std.specs.Fmt.{decimal}
-use Rattle.commands.specs.Lines.{IsUnprinted}
+use Rattle.commands.specs.Lines.{IsLineUnprinted}
 use Rattle.commands.specs.Mount.{mounted_line}
 use Rattle.commands.proofs.mount_image.print_mounted.Goals as goal
 
@@ -21,5 +21,5 @@ pub returns-clause-fault : goal.returns-clause-fault
 returns-clause-fault g c =
     let m = c.args.mounted.now in
     let line = line_by_texts m.next m.good m.stale _ _ _ c.format.ensures.text c.format-2.ensures.text c.format-3.ensures.text in
-    let P : List ℕ → Type 0 = λ l. IfErr c.print.result (IsUnprinted l (g.W.Write.contents c.args.out.now) (g.W.Write.contents c.print.new.out)) in
+    let P : List ℕ → Type 0 = λ l. IfErr c.print.result (IsLineUnprinted l (g.W.Write.contents c.args.out.now) (g.W.Write.contents c.print.new.out)) in
     subst P line c.print.ensures.fault
