@@ -4,12 +4,15 @@
     bench/edits.py                  looks at all of them
     bench/edits.py FOLDER EDIT      plants one in a copy of its crate, which stands in FOLDER
 
-Of each edit in crates/*/must-fail and planted/*: its file is there, and each text to be replaced stands in it just
-once, after the pairs before it were applied. Prints those that don't fit, and answers 1 if there are any.
+Of each edit in crates/*/must-fail and planted/*, and of each bend in bench/bends: its file is there, and each text to
+be replaced stands in it just once, after the pairs before it were applied. Prints those that don't fit, and answers 1
+if there are any.
 """
 
 import pathlib
+import re
 import sys
+import tempfile
 
 TOP = pathlib.Path(__file__).resolve().parent.parent
 
@@ -54,6 +57,22 @@ def texts_of(crate, edit):
     return texts
 
 
+def pieces_of(file):
+    """The edits of one file of bends, each its name and its text."""
+    pieces = (piece.partition("\n") for piece in re.split(r"^# ", file.read_text(encoding="utf-8"), flags=re.MULTILINE)[1:])
+    return [(name.strip(), text) for name, _, text in pieces]
+
+
+def bends_of(file, room):
+    """The edits of one file, as files of their own."""
+    found = []
+    for name, text in pieces_of(file):
+        path = room / f"{name}.edit"
+        path.write_text(text, encoding="utf-8")
+        found.append(path)
+    return found
+
+
 def fits(crate, edit):
     """Whether an edit fits its crate; says why not."""
     try:
@@ -77,12 +96,16 @@ def main():
     if len(sys.argv) == 3:
         return plant(pathlib.Path(sys.argv[1]), pathlib.Path(sys.argv[2]))
     edits = sorted(TOP.glob("crates/*/must-fail/*.edit")) + sorted(TOP.glob("planted/*/*.edit"))
-    faults = 0
+    count, faults = len(edits), 0
     for edit in edits:
         folder = edit.parent.parent if edit.parent.name == "must-fail" else edit.parent
-        if not fits(TOP / "crates" / folder.name, edit):
-            faults += 1
-    print(f"{len(edits)} edits, {faults} that don't fit")
+        faults += not fits(TOP / "crates" / folder.name, edit)
+    for bends in sorted(TOP.glob("bench/bends/*.txt")):
+        with tempfile.TemporaryDirectory(prefix=f"{bends.stem}-") as room:
+            for edit in bends_of(bends, pathlib.Path(room)):
+                count += 1
+                faults += not fits(TOP / "crates" / bends.stem, edit)
+    print(f"{count} edits, {faults} that don't fit")
     return 1 if faults else 0
 
 

@@ -35,6 +35,7 @@ import sys
 import tempfile
 
 import edits
+from edits import bends_of, pieces_of
 
 TOP = edits.TOP
 TABLE = TOP / "bench" / "planted.tsv"
@@ -123,22 +124,6 @@ def try_edit(room, name, pairs_file, first):
     for other in bent | {name}:
         restore(room, other)
     return verdict, why
-
-
-def pieces_of(file):
-    """The edits of one file of bends, each its name and its text."""
-    pieces = (piece.partition("\n") for piece in re.split(r"^# ", file.read_text(encoding="utf-8"), flags=re.MULTILINE)[1:])
-    return [(name.strip(), text) for name, _, text in pieces]
-
-
-def bends_of(file, room):
-    """The edits of one file, as files of their own."""
-    found = []
-    for name, text in pieces_of(file):
-        path = room / f"{name}.edit"
-        path.write_text(text, encoding="utf-8")
-        found.append(path)
-    return found
 
 
 def wanted(words, room):
