@@ -5,7 +5,7 @@
     bench/names.py --all      each definition that several files have, too
 
 A line for each name: how many files have it, and of which crates. Crates of tests, what makes their images too, and programs count for no
-type. It changes nothing, and answers 1 where a public type or a word of PROMISES is among them."""
+type. It changes nothing, and answers 1 where there is any."""
 
 import collections
 import re
@@ -51,8 +51,7 @@ def main():
         show("definitions", specs)
     else:
         print(f"definitions: {len(specs)}")
-    # a public type or a promise's word of two meanings would be a fault
-    sys.exit(1 if types or any(name in promised for name in specs) else 0)
+    sys.exit(1 if types or specs else 0)
 
 
 if __name__ == "__main__":

@@ -31,6 +31,26 @@ pub enum CertFault {
     OutOfMemory,
 }
 
+impl CertFault {
+    ghost use Rattle.std.specs.Prelude.{◌≡◌};
+    ghost use Rattle.certificate.specs.Faults.{certificate_words};
+
+    /// The fault's number and its name, as a program's line says them. (This project's.)
+    pub fn words(self) -> &'static str
+        ensures { result.now ≡ certificate_words self }
+    {
+        match self {
+            CertFault::Magic => "1 Magic",
+            CertFault::Short => "2 Short",
+            CertFault::Long => "3 Long",
+            CertFault::Limit => "4 Limit",
+            CertFault::RowRange => "5 RowRange",
+            CertFault::ClassRange => "6 ClassRange",
+            CertFault::OutOfMemory => "7 OutOfMemory",
+        }
+    }
+}
+
 impl From<AllocError> for CertFault {
     ghost from_gives = { λ _ fault. fault ≡ OutOfMemory };
 

@@ -46,7 +46,7 @@ due_program s accounts row page left passed agree due =
 pub due_erase : (s : Flash) (accounts : List Account) (block : ℕ) (passed : Bool) (left : List Page) → Agree s accounts → IsDue s.geometry.pages accounts (Erase block passed left) → may_erase s block ≡ true
 due_erase s accounts block passed left agree due = ap not (agree block due.good).0
 
--- the account of the block of an operation that was due has it account_after
+-- the account of the block of an operation that was due has it after
 pub noted_there : (pages : ℕ) (op : Operation) (accounts : List Account) (b : ℕ) → IsDue pages accounts op → b ≡ block_of pages op
     → account_at (accounted pages accounts op) b ≡ account_after (account_at accounts (block_of pages op)) op
 noted_there pages op accounts b asked e =

@@ -32,13 +32,7 @@ pub enum Said<'a> {
 pub fn of_geometry<'a>(fault: GeometryFault) -> Said<'a>
     ensures { said_bytes result ≡ broken_limit_words fault }
 {
-    Said::Text(match fault {
-        GeometryFault::DataSize => "1 DataSize",
-        GeometryFault::SpareSize => "2 SpareSize",
-        GeometryFault::PagesPerBlock => "3 PagesPerBlock",
-        GeometryFault::Blocks => "4 Blocks",
-        GeometryFault::Sectors => "5 Sectors",
-    })
+    Said::Text(fault.words())
 }
 
 pub fn of_sector<'a>(fault: SectorFault) -> Said<'a>
@@ -81,15 +75,7 @@ pub fn of_format<'a>(fault: FormatFault) -> Said<'a>
 pub fn of_certificate<'a>(fault: CertFault) -> Said<'a>
     ensures { said_bytes result ≡ certificate_words fault }
 {
-    Said::Text(match fault {
-        CertFault::Magic => "1 Magic",
-        CertFault::Short => "2 Short",
-        CertFault::Long => "3 Long",
-        CertFault::Limit => "4 Limit",
-        CertFault::RowRange => "5 RowRange",
-        CertFault::ClassRange => "6 ClassRange",
-        CertFault::OutOfMemory => "7 OutOfMemory",
-    })
+    Said::Text(fault.words())
 }
 
 pub fn of_refusal<'a>(refusal: Refusal) -> Said<'a>

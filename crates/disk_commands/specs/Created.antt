@@ -17,7 +17,7 @@ use Rattle.disk_server.specs.declared.opened.OpenStoreFault.TheVariants as open_
 use Rattle.disk_server.specs.declared.format.CreateFault.{CreateFault}
 use Rattle.disk_server.specs.declared.format.CreateFault.TheVariants as create
 use Rattle.disk_server.specs.Made.{IsDiskMade, IsDiskUnmade}
-use Rattle.disk_server.specs.Opened.{IsUnopened}
+use Rattle.disk_server.specs.Opened.{IsStoreUnopened}
 use Rattle.disk_commands.specs.declared.text.DiskCommandFault.{DiskCommandFault}
 use Rattle.disk_commands.specs.declared.files.DiskFileFault.TheVariants as file
 use Rattle.disk_commands.specs.declared.text.DiskCommandFault.TheVariants as fault
@@ -91,7 +91,7 @@ IsNewDieUnformatted held honest failed a path shape bad told = IsFaultAt a path 
 -- a dump was not copied, or is no die with a device on it
 abbrev pub IsNoDump : {S : Type 0} → (S → Held) → (honest : S → Bool) → (failed : S → ℕ) → DiskFileAnswers → (path dump : List ℕ) → DiskShape → DiskCommandFault → Type 0
 IsNoDump {S} held honest failed a path dump shape (fault.Open told why) =
-    (told.now ≡ dump) × ((store given : S) × a.holds dump (held store) × ((held store).geometry ≡ shape.geometry) × IsUnopened held honest failed store shape.cache given why)
+    (told.now ≡ dump) × ((store given : S) × a.holds dump (held store) × ((held store).geometry ≡ shape.geometry) × IsStoreUnopened held honest failed store shape.cache given why)
 IsNoDump held honest failed a path dump shape told = IsCopyFault a path dump (row_count shape.geometry * page_bytes shape.geometry) told
 
 abbrev pub IsUnmadeFor : {S : Type 0} → (S → Held) → (honest : S → Bool) → (failed : S → ℕ) → DiskFileAnswers → (path : List ℕ) → MakeWords → DiskShape → (bad : List ℕ) → DiskCommandFault → Type 0

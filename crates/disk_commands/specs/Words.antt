@@ -89,7 +89,7 @@ pub record IsServeAt (rows : List Row) (read : DiskServeWords) : Type 0 where
   pub wait_is : seconds (first_of (codes "wait") rows) ≡ Some read.wait
 
 -- those of the words of `info` or `check` are these
-pub record IsInfoAt (rows : List Row) (read : InfoWords) : Type 0 where
+pub record IsInfoCommandAt (rows : List Row) (read : InfoWords) : Type 0 where
   pub disk_is : first_of (codes "DISK") rows ≡ Some read.disk.now
   pub json_is : once (count_of (codes "json") rows) ≡ Some read.json
 
@@ -97,8 +97,8 @@ pub record IsInfoAt (rows : List Row) (read : InfoWords) : Type 0 where
 abbrev pub IsDiskCommandAt : List ℕ → List Row → DiskWords → Type 0
 IsDiskCommandAt name rows (asked.Create read) = (name ≡ codes "create") × IsCreateAt rows read
 IsDiskCommandAt name rows (asked.Serve read) = (name ≡ codes "serve") × IsServeAt rows read
-IsDiskCommandAt name rows (asked.Info read) = (name ≡ codes "info") × IsInfoAt rows read
-IsDiskCommandAt name rows (asked.Check read) = (name ≡ codes "check") × IsInfoAt rows read
+IsDiskCommandAt name rows (asked.Info read) = (name ≡ codes "info") × IsInfoCommandAt rows read
+IsDiskCommandAt name rows (asked.Check read) = (name ≡ codes "check") × IsInfoCommandAt rows read
 IsDiskCommandAt name rows (asked.Text text) = ⊥
 
 -- Of the words as `clap` reads them: they name a command, with these words, or they ask for help or for the version.

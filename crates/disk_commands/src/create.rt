@@ -3,7 +3,7 @@ ghost use Rattle.std.specs.Prelude.{◌≡◌, ◌≤◌, true, false, IfOk, IfE
 ghost use Rattle.disk_commands.specs.ShapeText.{IsCacheSize, shape_text};
 ghost use Rattle.nand_die.specs.Made.{AreNames};
 ghost use Rattle.disk_commands.specs.Created.{HasCreated, IsDieAskedFor, IsDieOf, IsNewDie, IsNoDump, IsUncreated, IsNewDieUnformatted, IsDieUnplaced, IsUnmadeFor, Mounts};
-ghost use Rattle.disk_server.specs.Opened.{IsUnopened};
+ghost use Rattle.disk_server.specs.Opened.{IsStoreUnopened};
 ghost use Rattle.disk_commands.specs.Files.{FailsNoMore, with_kept_disk};
 
 use crate::asked::shape_of;
@@ -71,7 +71,7 @@ fn mountable<S: Store + Drop>(alloc: Global, store: S, capacity: u32) -> Result<
     requires most { capacity ≤ 65536 }
     ensures mounts { IfOk result (λ same. S.honest store ≡ true → Mounts (S.held store) capacity (S.held same)) }
     ensures honest { IfOk result (λ same. S.honest same ≡ S.honest store) }
-    ensures fault { IfErr result (λ why. (given : S) × IsUnopened S.held S.honest S.failed store capacity given why) }
+    ensures fault { IfErr result (λ why. (given : S) × IsStoreUnopened S.held S.honest S.failed store capacity given why) }
 {
     match mount_store(alloc, store, capacity) {
         Ok((store, _)) => Ok(store),

@@ -6,7 +6,7 @@ ghost use Rattle.disk_commands.specs.declared.words.DiskWords.{DiskWords};
 ghost use Rattle.disk_commands.specs.declared.words.InfoWords.{InfoWords};
 ghost use Rattle.disk_commands.specs.declared.words.MakeWords.{MakeWords};
 ghost use Rattle.disk_commands.specs.declared.words.DiskServeWords.{DiskServeWords};
-ghost use Rattle.disk_commands.specs.Words.{AsksDiskProgram, IsDiskCommandAt, IsCreateAt, IsInfoAt, IsMakeAt, IsNoDiskCommand, IsServeAt};
+ghost use Rattle.disk_commands.specs.Words.{AsksDiskProgram, IsDiskCommandAt, IsCreateAt, IsInfoCommandAt, IsMakeAt, IsNoDiskCommand, IsServeAt};
 
 use crate::grammar::grammar;
 use crate::shapes::Code;
@@ -163,8 +163,8 @@ fn serve_words<'a>(found: &CommandWords<'a>) -> Option<DiskServeWords<'a>>
 
 // The words of the command `info` or `check`, where they are given.
 fn info_words<'a>(found: &CommandWords<'a>) -> Option<InfoWords<'a>>
-    ensures some { IfSome result (IsInfoAt (command_entries found.now)) }
-    ensures none { result ≡ None → (read : InfoWords) → ¬ IsInfoAt (command_entries found.now) read }
+    ensures some { IfSome result (IsInfoCommandAt (command_entries found.now)) }
+    ensures none { result ≡ None → (read : InfoWords) → ¬ IsInfoCommandAt (command_entries found.now) read }
 {
     Some(InfoWords {
         disk: found.word("DISK")?,

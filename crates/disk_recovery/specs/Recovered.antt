@@ -5,7 +5,7 @@ use Rattle.file_die.specs.Store.{Held}
 use Rattle.crash_recovery.specs.Taken.{Recovers, RecoversSome}
 use Rattle.disk_server.specs.declared.opened.OpenStoreFault.{OpenStoreFault}
 use Rattle.disk_server.specs.declared.opened.OpenStoreFault.TheVariants.{Device, OutOfMemory}
-use Rattle.disk_server.specs.Opened.{HasCome, IsUnopened, bytes_of}
+use Rattle.disk_server.specs.Opened.{HasCome, IsStoreUnopened, bytes_of}
 use Rattle.disk_server.specs.Stopped.{IsUnopenedLater}
 
 -- a store that was mounted was recovered once, by whether anything was torn
@@ -34,7 +34,7 @@ pub record IsNotTaken {S : Type 0} (held : S → Held) (honest : S → Bool) (fa
 -- nor once more: it was not mounted for the largest cache, or came back of that and was not recovered
 abbrev pub IsNotAgain : {S : Type 0} → (S → Held) → (honest : S → Bool) → (failed : S → ℕ) → (mark : ℕ) → S → OpenStoreFault → Type 0
 IsNotAgain {S} held honest failed mark store fault =
-    ((given : S) × IsUnopened held honest failed store 65536 given fault)
+    ((given : S) × IsStoreUnopened held honest failed store 65536 given fault)
     ⊎ ((mounted given : S) × HasCome held honest store mounted × IsNotTaken held honest failed mark mounted given fault)
 
 -- why there is no disk of a store that was mounted: it was not recovered; or what was torn was taken away, and it was not recovered once more; or what was left was not opened

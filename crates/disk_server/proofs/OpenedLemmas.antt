@@ -21,7 +21,7 @@ use Rattle.disk_server.specs.declared.open.OpenFault.TheVariants.{Refused, Start
 use Rattle.disk_server.specs.Open.{nand_of}
 use Rattle.mount.specs.Mounted.{Refuses}
 use Rattle.disk_server.proofs.FaultLemmas.{handed_on}
-use Rattle.disk_server.specs.Opened.{ComesBack, HasCome, IsUnmounted, IsUnopened, IsUnopenedAt, IsUnstarted, bytes_of, flash_in, is_honest_in, why_of, view_in}
+use Rattle.disk_server.specs.Opened.{ComesBack, HasCome, IsUnmounted, IsStoreUnopened, IsUnopenedAt, IsUnstarted, bytes_of, flash_in, is_honest_in, why_of, view_in}
 
 -- a driver that was made over a store
 pub record IsOver {S : Type 0} (held : S → Held) (honest : S → Bool) (store : S) (d : DriverState (FileState S)) : Type 0 where
@@ -96,7 +96,7 @@ unopened_so held honest failed store d capacity share (Start e) given over unmou
 
 -- what kept a store from being a die is told as it is
 pub before : {S : Type 0} (held : S → Held) (honest : S → Bool) (failed : S → ℕ) (store : S) (capacity : ℕ) (given : S) (fault : OpenStoreFault)
-    → IsUnopenedAt held honest failed store given fault → IsUnopened held honest failed store capacity given fault
+    → IsUnopenedAt held honest failed store given fault → IsStoreUnopened held honest failed store capacity given fault
 before held honest failed store capacity given why.OutOfMemory is = is
 before held honest failed store capacity given why.Device is = is
 before held honest failed store capacity given why.Reset is = is
@@ -106,8 +106,8 @@ before held honest failed store capacity given (why.Mount refusal) is = absurd i
 
 -- and so where it is handed on
 pub unbegun : {S T : Type 0} (held : S → Held) (honest : S → Bool) (failed : S → ℕ) (store : S) (capacity : ℕ) (r : Result T (S × OpenStoreFault)) (told : S × OpenStoreFault) → IsErrAnd r (λ e. e ≡ told)
-    → IsUnopenedAt held honest failed store told.0 told.1 → IfErr r (λ e. IsUnopened held honest failed store capacity e.0 e.1)
-unbegun held honest failed store capacity r told is unopened = handed_on (λ e. IsUnopened held honest failed store capacity e.0 e.1) r told is (before held honest failed store capacity told.0 told.1 unopened)
+    → IsUnopenedAt held honest failed store told.0 told.1 → IfErr r (λ e. IsStoreUnopened held honest failed store capacity e.0 e.1)
+unbegun held honest failed store capacity r told is unopened = handed_on (λ e. IsStoreUnopened held honest failed store capacity e.0 e.1) r told is (before held honest failed store capacity told.0 told.1 unopened)
 
 -- the same where a device was to be started
 before_start : {S : Type 0} (held : S → Held) (honest : S → Bool) (failed : S → ℕ) (store : S) (capacity share : ℕ) (given : S) (fault : OpenStoreFault)

@@ -24,6 +24,6 @@ pub record IsCheckedUnstarted {N : Type 0} (view : View N) (nand : N) (g : Geome
   pub agrees : view.honest nand ≡ true → Agrees g capacity (view.flash nand).image c
   pub same : view.honest nand ≡ true → view.flash given ≡ view.flash nand
 
-abbrev pub IsUnopened : {N : Type 0} → (view : View N) → N → Geometry → (capacity : ℕ) → Claim → OpenFault N → Type 0
-IsUnopened view nand g capacity c (Refused why given) = IsCertificateRefused view nand g capacity c why given
-IsUnopened view nand g capacity c (Start given) = IsCheckedUnstarted view nand g capacity c given
+abbrev pub IsDeviceUnopened : {N : Type 0} → (view : View N) → N → Geometry → (capacity : ℕ) → Claim → OpenFault N → Type 0
+IsDeviceUnopened view nand g capacity c (Refused why given) = IsCertificateRefused view nand g capacity c why given
+IsDeviceUnopened view nand g capacity c (Start given) = IsCheckedUnstarted view nand g capacity c given

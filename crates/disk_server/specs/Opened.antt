@@ -110,11 +110,11 @@ IsUnopenedAt held honest failed store given why.Share = ⊥
 IsUnopenedAt held honest failed store given (why.Mount refusal) = ⊥
 
 -- and after: what keeps the pages from being mounted is so of an honest store
-abbrev pub IsUnopened : {S : Type 0} → (S → Held) → (honest : S → Bool) → (failed : S → ℕ) → S → (capacity : ℕ) → S → OpenStoreFault → Type 0
-IsUnopened held honest failed store capacity given (why.Mount refusal) = honest store ≡ true → Refuses (held store).geometry capacity (held store).pages refusal
-IsUnopened held honest failed store capacity given fault = IsUnopenedAt held honest failed store given fault
+abbrev pub IsStoreUnopened : {S : Type 0} → (S → Held) → (honest : S → Bool) → (failed : S → ℕ) → S → (capacity : ℕ) → S → OpenStoreFault → Type 0
+IsStoreUnopened held honest failed store capacity given (why.Mount refusal) = honest store ≡ true → Refuses (held store).geometry capacity (held store).pages refusal
+IsStoreUnopened held honest failed store capacity given fault = IsUnopenedAt held honest failed store given fault
 
 -- and where a device was to be started on it: its geometry has no such share
 abbrev pub IsUnstarted : {S : Type 0} → (S → Held) → (honest : S → Bool) → (failed : S → ℕ) → S → (capacity share : ℕ) → S → OpenStoreFault → Type 0
 IsUnstarted held honest failed store capacity share given why.Share = (¬ IsShare (held store).geometry share) × (given ≡ store)
-IsUnstarted held honest failed store capacity share given fault = IsUnopened held honest failed store capacity given fault
+IsUnstarted held honest failed store capacity share given fault = IsStoreUnopened held honest failed store capacity given fault

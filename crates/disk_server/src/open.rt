@@ -5,7 +5,7 @@ ghost use Rattle.page_layout.specs.Geometry.{IsShare};
 ghost use Rattle.page_layout.specs.OnlyReads.{OnlyReads};
 ghost use Rattle.ftl_device.specs.Calls.{array_in};
 ghost use Rattle.disk_server.specs.Disk.{holds};
-ghost use Rattle.disk_server.specs.Open.{IsUnopened, nand_of};
+ghost use Rattle.disk_server.specs.Open.{IsDeviceUnopened, nand_of};
 
 use crate::device_disk::DeviceDisk;
 use certificate::Certificate;
@@ -51,7 +51,7 @@ pub fn open_checked<N: Nand>(
     ensures honest { IfOk result (λ d. holds N.view.honest d ≡ N.view.honest nand) }
     ensures array { IfOk result (λ d. N.view.honest nand ≡ true → array_in N.view.flash d ≡ array_of geometry.now (N.view.flash nand).image) }
     ensures reads { IfOk result (λ d. OnlyReads N.view nand d.engine.nand) }
-    ensures unopened { IfErr result (IsUnopened N.view nand geometry.now capacity certificate.now) }
+    ensures unopened { IfErr result (IsDeviceUnopened N.view nand geometry.now capacity certificate.now) }
     ensures fault { IfErr result (λ fault. OnlyReads N.view nand (nand_of fault)) }
 {
     let accepted = match check(alloc, &mut nand, geometry, capacity, certificate) {

@@ -2,7 +2,7 @@
 ghost use Rattle.std.specs.Prelude.{◌≡◌, ◌≤◌, ℕ, true, IfOk, IfErr};
 ghost use Rattle.mount.specs.Mounted.{IsMounted};
 ghost use Rattle.disk_server.specs.Disk.{contents_of, holds};
-ghost use Rattle.disk_server.specs.Opened.{bytes_of, flash_in, flash_as_opened, is_honest_in, ComesBack, HasCome, IsUnopened, IsUnopenedAt, IsUnstarted, SyncsWhen, why_of, view_in};
+ghost use Rattle.disk_server.specs.Opened.{bytes_of, flash_in, flash_as_opened, is_honest_in, ComesBack, HasCome, IsStoreUnopened, IsUnopenedAt, IsUnstarted, SyncsWhen, why_of, view_in};
 ghost use Rattle.disk_server.specs.Open.{nand_of};
 
 use crate::device_disk::DeviceDisk;
@@ -125,7 +125,7 @@ pub fn mount_store<S: Store + Drop>(
     requires most { capacity ≤ 65536 }
     ensures mounted { IfOk result (λ made. S.honest store ≡ true → IsMounted (S.held store).geometry capacity (S.held store).pages made.1) }
     ensures back { IfOk result (λ made. HasCome S.held S.honest store made.0) }
-    ensures fault { IfErr result (λ e. IsUnopened S.held S.honest S.failed store capacity e.0 e.1) }
+    ensures fault { IfErr result (λ e. IsStoreUnopened S.held S.honest S.failed store capacity e.0 e.1) }
     ensures given { IfErr result (λ e. ComesBack S.held S.honest store e.1 e.0) }
 {
     let geometry = store.geometry();

@@ -24,7 +24,7 @@ use Rattle.image_check.specs.Survey.{pair_of, pairs_below}
 use Rattle.image_check.proofs.PartLemmas.{in_rows, next_holds, next_needs}
 use Rattle.image_check.specs.Surveyed.{SurveysPairs}
 use Rattle.image_check.specs.Pairs.{IsInOrder, AreInOrder, DifferBelow, IsLowestBelow}
-use Rattle.image_check.specs.Refused.{IsRepeated, IsFirstRepeated, IsWrong, Sequences}
+use Rattle.image_check.specs.Refused.{RepeatsSequence, IsFirstRepeated, IsWrong, Sequences}
 use Rattle.image_check.specs.declared.refusal.Refusal.TheVariants.{SequenceRepeated}
 use Rattle.certificate.specs.Claim.{Claim}
 
@@ -102,7 +102,7 @@ stands g image old new row r whole is moved e =
     record { place = found.0; within = found.1; is = get_or_default new found.0 (0, 0) (r.sequence, row) found.1 ∙ found.2 }
 
 -- of two sound pages that share a sequence the one of the higher row has a neighbour before it that shares it too
-pub shared_at : (g : Geometry) (image : Image) (old new : List (ℕ × ℕ)) (a b : ℕ) → length image ≡ row_count g → old ≡ pairs_below (marks image) (row_count g) → IsPermutation old new → AreInOrder new → IsRepeated (marks image) a b
+pub shared_at : (g : Geometry) (image : Image) (old new : List (ℕ × ℕ)) (a b : ℕ) → length image ≡ row_count g → old ≡ pairs_below (marks image) (row_count g) → IsPermutation old new → AreInOrder new → RepeatsSequence (marks image) a b
     → (k : ℕ) × (k + 1 < length new) × ((get_or new k (0, 0)).0 ≡ (get_or new (k + 1) (0, 0)).0) × ((get_or new (k + 1) (0, 0)).1 ≡ b)
 shared_at g image old new a b whole is moved sorted h =
     let p = stands g image old new a h.first whole is moved h.at_first in

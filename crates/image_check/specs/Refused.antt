@@ -69,7 +69,7 @@ HoldsBefore g capacity image c part = (p : Part) → order p < order part → Ho
 -- ---- where a part fails
 
 -- two sound pages share a sequence
-pub record IsRepeated (marks : List (Option Record)) (a b : ℕ) : Type 0 where
+pub record RepeatsSequence (marks : List (Option Record)) (a b : ℕ) : Type 0 where
   pub order : a < b
   pub first : Record
   pub second : Record
@@ -79,8 +79,8 @@ pub record IsRepeated (marks : List (Option Record)) (a b : ℕ) : Type 0 where
 
 -- of all such pairs the one whose second row is lowest
 pub record IsFirstRepeated (marks : List (Option Record)) (a b : ℕ) : Type 0 where
-  pub pair : IsRepeated marks a b
-  pub lowest : (c d : ℕ) → IsRepeated marks c d → b ≤ d
+  pub pair : RepeatsSequence marks a b
+  pub lowest : (c d : ℕ) → RepeatsSequence marks c d → b ≤ d
 
 -- some table page has no sound page
 pub record IsUnformatted (g : Geometry) (image : Image) : Type 0 where

@@ -61,11 +61,11 @@ abbrev pub MayRead : Geometry → ℕ → List ℕ → Type 0
 MayRead g n bytes = (bytes ≡ zeros g) ⊎ HoldsSector n bytes
 
 -- the answer is a fault that names two rows
-abbrev pub IsRepeated : {T : Type 0} → Result T SectorFault → Type 0
-IsRepeated (Ok found) = ⊥
-IsRepeated (Err OutOfRange) = ⊥
-IsRepeated (Err (SequenceRepeated first second)) = Unit {0}
-IsRepeated (Err Source) = ⊥
+abbrev pub NamesTwoRows : {T : Type 0} → Result T SectorFault → Type 0
+NamesTwoRows (Ok found) = ⊥
+NamesTwoRows (Err OutOfRange) = ⊥
+NamesTwoRows (Err (SequenceRepeated first second)) = Unit {0}
+NamesTwoRows (Err Source) = ⊥
 
 -- the rows that it names are among the first n
 abbrev pub IsBelow : ℕ → Latest → Type 0

@@ -10,7 +10,7 @@ ghost use Rattle.page_layout.specs.declared.record.Key.TheVariants as key;
 ghost use Rattle.page_layout.specs.declared.record.Kind.TheVariants as kind;
 ghost use Rattle.page_layout.specs.Geometry.{row_count, page_bytes};
 ghost use Rattle.page_layout.specs.OnlyReads.{OnlyReads};
-ghost use Rattle.image_check.specs.Sector.{IsAmbiguous, NamesRows, NamesLowest, MayShow, ShowsSector, IsRepeated, IsBelow};
+ghost use Rattle.image_check.specs.Sector.{IsAmbiguous, NamesRows, NamesLowest, MayShow, ShowsSector, NamesTwoRows, IsBelow};
 
 use page_layout::geometry::Geometry;
 use page_layout::newest::Latest;
@@ -89,7 +89,7 @@ fn content<'a>(geometry: &Geometry, sector: u32, body: &'a [u8], spare: &[u8]) -
 /// (This project's rule.)
 pub fn sector_in<'a>(image: &ImageSlice<'a>, sector: u32) -> Result<Option<&'a [u8]>, SectorFault>
     ensures range { (result ≡ Err SectorFault.OutOfRange) ↔ (image.now.flash.geometry.sectors ≤ sector) }
-    ensures repeated { IsRepeated result ↔ IsAmbiguous image.now.flash.geometry image.now.flash.image sector }
+    ensures repeated { NamesTwoRows result ↔ IsAmbiguous image.now.flash.geometry image.now.flash.image sector }
     ensures rows { IfErr result (NamesRows image.now.flash.image sector) }
     ensures lowest { IfErr result (NamesLowest image.now.flash.image sector) }
     ensures never_source { result ≢ Err SectorFault.Source }
@@ -187,7 +187,7 @@ pub fn sector<S: PageSource>(
 
     // What an honest source's image says.
     ensures ok { OnOk result (S.view.honest source.old ≡ true → out.new ≡ sector_of geometry.now (S.view.flash source.old).image sector) }
-    ensures repeated { S.view.honest source.old ≡ true → result ≢ Err SectorFault.Source → (IsRepeated result ↔ IsAmbiguous geometry.now (S.view.flash source.old).image sector) }
+    ensures repeated { S.view.honest source.old ≡ true → result ≢ Err SectorFault.Source → (NamesTwoRows result ↔ IsAmbiguous geometry.now (S.view.flash source.old).image sector) }
     ensures rows { S.view.honest source.old ≡ true → IfErr result (NamesRows (S.view.flash source.old).image sector) }
     ensures lowest { S.view.honest source.old ≡ true → IfErr result (NamesLowest (S.view.flash source.old).image sector) }
     ensures same { S.view.honest source.old ≡ true → result ≢ Err SectorFault.Source → S.view.flash source.new ≡ S.view.flash source.old }

@@ -8,7 +8,7 @@ use Rattle.page_layout.specs.Page.{Image}
 use Rattle.bad_blocks.specs.declared.table.page.TableFault.TheVariants.{BadClass, BadPadding}
 use Rattle.certificate.specs.Claim.{Claim}
 use Rattle.image_check.specs.declared.refusal.Refusal.{Refusal}
-use Rattle.image_check.specs.Refused.{Part, order, IsFirstWrong, IsRepeated}
+use Rattle.image_check.specs.Refused.{Part, order, IsFirstWrong, RepeatsSequence}
 use Rattle.image_check.specs.Refused.{Asked, Numbers, Sequences, Tables, Directory, Sectors, BadSet, States, Live, Wear, Next, Fresh}
 use Rattle.image_laws.specs.Refusals.{OnePartLaw, OnePairLaw, OneWordLaw, CertifiedLaw}
 
@@ -57,7 +57,7 @@ pub one_part : OnePartLaw
 one_part g capacity image c r s a b = a.wrong.part_is ∙ (ap Some (same_part g capacity image c r s a b) ∙ sym b.wrong.part_is)
 
 -- two rows that share a sequence each with one row share it with each other
-joined : (marks : List (Option Record)) (a c b d : ℕ) → b ≡ d → a < c → IsRepeated marks a b → IsRepeated marks c d → IsRepeated marks a c
+joined : (marks : List (Option Record)) (a c b d : ℕ) → b ≡ d → a < c → RepeatsSequence marks a b → RepeatsSequence marks c d → RepeatsSequence marks a c
 joined marks a c b d same below first second =
     let here : Some first.second ≡ Some second.second = sym first.at_second ∙ (ap (λ (n : ℕ). get_or marks n None) same ∙ second.at_second) in
     let one : first.second ≡ second.second = cc in

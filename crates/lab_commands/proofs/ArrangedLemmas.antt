@@ -14,7 +14,7 @@ use Rattle.lab_arrange.specs.declared.arrangement.Spares.{Spares}
 use Rattle.lab_arrange.specs.declared.arrangement.Spares.TheVariants.{Block, Die}
 use Rattle.lab_shapes.specs.declared.find.ArrangedFit.{ArrangedFit}
 use Rattle.lab_shapes.specs.Words.{around_words, arrangement_words, cut_words, flag_words, byte_order_words, spares_words}
-use Rattle.lab_commands.specs.Values.{arranged_fit_data, arranged_rest, count, fit_members, rest_words}
+use Rattle.lab_commands.specs.Values.{arranged_fit_data, arranged_rest, count, fit_members, fit_rest_words}
 use Rattle.lab_commands.proofs.JsonLemmas.{quoted_in}
 
 -- ---- plain text
@@ -105,7 +105,7 @@ plain_arrangement a =
 
 -- ---- the object
 
-pub arranged_parts : (f : Fit) → (codes "\",\"blocks_told\":" ++ decimal f.blocks_told) ++ rest_words f ≡ arranged_rest f
+pub arranged_parts : (f : Fit) → (codes "\",\"blocks_told\":" ++ decimal f.blocks_told) ++ fit_rest_words f ≡ arranged_rest f
 unfolding escape_byte
 arranged_parts f = refl
 

@@ -1,4 +1,4 @@
--- The lab_grammar is one of which `clap` tells what it makes of all words.
+-- The grammar is one of which `clap` tells what it makes of all words.
 use Rattle.std.proofs.Common.{◌≡◌, ℕ, true, List, Result, Ok, Err, IfOk, refl, ap, ◌∙◌}
 use Rattle.std.specs.Borrow.{Bor}
 use Rattle.clap.proofs.OnLiterals.{clap_on_literals}

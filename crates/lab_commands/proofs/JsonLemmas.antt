@@ -26,7 +26,7 @@ use
       pages_data,
       pair_data,
       repeated_data,
-      rest_words,
+      fit_rest_words,
       said_data,
       truth_words,
       turned_data,
@@ -168,7 +168,7 @@ block_json block state unsound r1 w r2 r3 r4 r5 e1 ew e2 e3 e4 e5 = rw (e1, ew, 
 -- the members of a geometry that fits, behind its first one and that of codes
 fit_rest : (f : Fit)
     → codes ",\"geometry\":[" ++ (decimal f.data_bytes ++ (codes "," ++ (decimal f.spare_bytes ++ (codes "," ++ (decimal f.pages ++ (codes "," ++ (decimal f.blocks ++ (codes "," ++ (decimal f.sectors
-    ++ (codes "],\"line\":\"geometry\",\"looked\":" ++ counts_words f)))))))))) ≡ rest_words f
+    ++ (codes "],\"line\":\"geometry\",\"looked\":" ++ counts_words f)))))))))) ≡ fit_rest_words f
 unfolding escape_byte
 fit_rest f = ap
     (λ t. codes ",\"geometry\":[" ++ (decimal f.data_bytes ++ (codes "," ++ (decimal f.spare_bytes ++ (codes "," ++ (decimal f.pages ++ (codes "," ++ (decimal f.blocks ++ (codes "," ++ (decimal f.sectors
@@ -185,7 +185,7 @@ rest_flat : (f : Fit) (behind rest : List ℕ)
     ≡ codes ",\"geometry\":[" ++ (decimal f.data_bytes ++ (codes "," ++ (decimal f.spare_bytes ++ (codes "," ++ (decimal f.pages ++ (codes "," ++ (decimal f.blocks ++ (codes "," ++ (decimal f.sectors ++ (behind ++ rest))))))))))
 rest_flat f behind rest = simp append_assoc
 
-pub rest_parts : (f : Fit) → (codes ",\"geometry\":[" ++ (five_numbers_words f ++ codes "],\"line\":\"geometry\",\"looked\":")) ++ counts_words f ≡ rest_words f
+pub rest_parts : (f : Fit) → (codes ",\"geometry\":[" ++ (five_numbers_words f ++ codes "],\"line\":\"geometry\",\"looked\":")) ++ counts_words f ≡ fit_rest_words f
 rest_parts f = rest_flat f (codes "],\"line\":\"geometry\",\"looked\":") (counts_words f) ∙ fit_rest f
 
 pub counts_pieces : (f : Fit) (r1 r2 r3 : ℕ) (w : List ℕ) → r1 ≡ f.looked → r2 ≡ f.sound.0 → w ≡ says_words f.table → r3 ≡ f.unsound
@@ -193,12 +193,12 @@ pub counts_pieces : (f : Fit) (r1 r2 r3 : ℕ) (w : List ℕ) → r1 ≡ f.looke
 counts_pieces f r1 r2 r3 w e1 e2 ew e3 = rw (e1, e2, ew, e3) refl
 
 -- with the member of codes before it, and without
-fit_by : (coded : Bool) (f : Fit) → (codes "{\"blocks_told\":" ++ (decimal f.blocks_told ++ front_words coded)) ++ rest_words f ≡ compact_text (found_data (found_as coded f))
+fit_by : (coded : Bool) (f : Fit) → (codes "{\"blocks_told\":" ++ (decimal f.blocks_told ++ front_words coded)) ++ fit_rest_words f ≡ compact_text (found_data (found_as coded f))
 unfolding escape_byte
-fit_by true f = ap (λ t. codes "{\"blocks_told\":" ++ t) (append_assoc (decimal f.blocks_told) (codes ",\"codes\":\"hamming\"") (rest_words f))
-fit_by false f = ap (λ t. codes "{\"blocks_told\":" ++ t) (append_assoc (decimal f.blocks_told) [] (rest_words f))
+fit_by true f = ap (λ t. codes "{\"blocks_told\":" ++ t) (append_assoc (decimal f.blocks_told) (codes ",\"codes\":\"hamming\"") (fit_rest_words f))
+fit_by false f = ap (λ t. codes "{\"blocks_told\":" ++ t) (append_assoc (decimal f.blocks_told) [] (fit_rest_words f))
 
-pub fit_json : (found : FoundFit) (v : List ℕ) → v ≡ front_words found.coded → (codes "{\"blocks_told\":" ++ (decimal found.fit.blocks_told ++ v)) ++ rest_words found.fit ≡ compact_text (found_data found)
+pub fit_json : (found : FoundFit) (v : List ℕ) → v ≡ front_words found.coded → (codes "{\"blocks_told\":" ++ (decimal found.fit.blocks_told ++ v)) ++ fit_rest_words found.fit ≡ compact_text (found_data found)
 fit_json found v ev = rw ev (fit_by found.coded found.fit)
 
 pub mended_json : (made : Made) (row : ℕ) (bit : ℕ) (r1 : ℕ) (w : List ℕ) (r2 : ℕ) → r1 ≡ bit → w ≡ made_words made → r2 ≡ row

@@ -102,15 +102,15 @@ abbrev pub IsUnordered : StoreAnswers → Geometry → Arrangement → (dump out
 IsUnordered s g a dump out told = IsUnread s dump told ⊎ IsArrangedUntaken s dump g a told ⊎ IsUnwritten s out told ⊎ IsUnfilled s dump out told
 
 -- memory was refused, or no dump in order was made, or it did not get its name
-abbrev pub IsUnput : StoreAnswers → ArrangeWords → Geometry → Arrangement → (opens opened : Option ℕ) → LabFault → Type 0
-IsUnput s words g a opens opened told = IsUnroomed opens opened told ⊎ IsUnordered s g a words.dump.now words.out.now told ⊎ IsUnplaced s words.out.now words.force told
+abbrev pub IsArrangedUnput : StoreAnswers → ArrangeWords → Geometry → Arrangement → (opens opened : Option ℕ) → LabFault → Type 0
+IsArrangedUnput s words g a opens opened told = IsUnroomed opens opened told ⊎ IsUnordered s g a words.dump.now words.out.now told ⊎ IsUnplaced s words.out.now words.force told
 
 -- The first of this order: the words; whether OUT may be written; memory; the dump and OUT.
 abbrev pub IsUnarrangedBy : StoreAnswers → ArrangeWords → (opens opened : Option ℕ) → LabFault → Type 0
 IsUnarrangedBy s words opens opened told =
     AreUnsaid words told
     ⊎ ((g : Geometry) × (a : Arrangement) × AreSaid words g a × (MayNotWrite s words.dump.now words.out.now words.force told
-    ⊎ (MayWrite s words.dump.now words.out.now words.force × IsUnput s words g a opens opened told)))
+    ⊎ (MayWrite s words.dump.now words.out.now words.force × IsArrangedUnput s words g a opens opened told)))
 
 -- No dump was put in place and nothing printed, for one of these reasons; or it was put in place, and a beginning of the report printed.
 abbrev pub IsArrangeFault : StoreAnswers → ArrangeWords → Option Store → Option Store → (opens opened : Option ℕ) → (broke : Bool) → Option (List ℕ) → Option (List ℕ) → LabFault → Type 0

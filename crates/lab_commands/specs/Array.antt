@@ -110,15 +110,15 @@ abbrev pub IsUnmapped : StoreAnswers → ArrayWords → LabFault → Type 0
 IsUnmapped a words told = IsSomeAnd words.map (λ file. IsMapUnplaced a file.now words.force told)
 
 -- memory was refused, or no array was made, or it did not get its name
-abbrev pub IsUnput : StoreAnswers → Geometry → ArrayWords → (opens opened : Option ℕ) → LabFault → Type 0
-IsUnput a g words opens opened told = IsUnroomed opens opened told ⊎ IsFileUnmade a g words.dump.now words.out.now told ⊎ IsUnplaced a words.out.now words.force told
+abbrev pub IsArrayUnput : StoreAnswers → Geometry → ArrayWords → (opens opened : Option ℕ) → LabFault → Type 0
+IsArrayUnput a g words opens opened told = IsUnroomed opens opened told ⊎ IsFileUnmade a g words.dump.now words.out.now told ⊎ IsUnplaced a words.out.now words.force told
 
 -- The first of this order: the geometry; the sequence; whether OUT may be written, and FILE; memory; the dump and OUT.
-abbrev pub IsUndone : StoreAnswers → UntilWords → (opens opened : Option ℕ) → LabFault → Type 0
-IsUndone a words opens opened told =
+abbrev pub IsArrayUndone : StoreAnswers → UntilWords → (opens opened : Option ℕ) → LabFault → Type 0
+IsArrayUndone a words opens opened told =
     IsNoGeometry words.array.geometry.now told
     ⊎ ((g : Geometry) × IsGeometryAt words.array.geometry.now g × (IsNoLast words.until told
-    ⊎ ((last : Option ℕ) × IsLastAt words.until last × (AreNotAllowed a words.array told ⊎ (AreAllowed a words.array × IsUnput a g words.array opens opened told)))))
+    ⊎ ((last : Option ℕ) × IsLastAt words.until last × (AreNotAllowed a words.array told ⊎ (AreAllowed a words.array × IsArrayUnput a g words.array opens opened told)))))
 
 -- The array was put in place and nothing printed, but its map was not put in its.
 pub record PutUnmapped (a : StoreAnswers) (words : UntilWords) (before after : Option Store) (out printed : Option (List ℕ)) (told : LabFault) : Type 0 where
@@ -136,7 +136,7 @@ pub record PutUnmapped (a : StoreAnswers) (words : UntilWords) (before after : O
 -- beginning of the report printed.
 abbrev pub IsArrayFault : StoreAnswers → UntilWords → Option Store → Option Store → (opens opened : Option ℕ) → (broke : Bool) → Option (List ℕ) → Option (List ℕ) → LabFault → Type 0
 IsArrayFault a words before after opens opened broke out printed told =
-    (LeavesAll before after out printed × IsUndone a words opens opened told)
+    (LeavesAll before after out printed × IsArrayUndone a words opens opened told)
     ⊎ PutUnmapped a words before after out printed told
     ⊎ ((g : Geometry) × (last : Option ℕ) × (held : List Held) × (left : Unsettled) × PutArray a words before after g last held left
     × IsHalfPrinted broke out printed (array_text (form_of_showing words.array.showing) g last (map shown_in held) left) told)

@@ -13,7 +13,7 @@ use Rattle.lab_commands.specs.declared.words.ArrayWords.{ArrayWords}
 use Rattle.lab_commands.specs.declared.text.LabFault.{LabFault}
 use Rattle.lab_commands.specs.declared.text.LabFault.TheVariants as fault
 use Rattle.lab_commands.specs.Files.{IsFileOpened, Store, StoreAnswers, with_kept}
-use Rattle.lab_commands.specs.Array.{AreAllowed, AreNotAllowed, IsUnmapped, IsUnput, with_map}
+use Rattle.lab_commands.specs.Array.{AreAllowed, AreNotAllowed, IsUnmapped, IsArrayUnput, with_map}
 use Rattle.lab_commands.specs.Undone.{IsGeometryAt, IsHalfPrinted, IsNoGeometry, LeavesAll, form_of_showing}
 
 -- ---- done
@@ -80,7 +80,7 @@ abbrev pub IsUncorrectedBy : StoreAnswers → ArrayWords → (opens opened : Opt
 IsUncorrectedBy a words opens opened told =
     IsNoGeometry words.geometry.now told
     ⊎ ((g : Geometry) × IsGeometryAt words.geometry.now g × (IsNoChip g told
-    ⊎ ((chip : Geometry) × IsChipOf g chip × (AreNotAllowed a words told ⊎ (AreAllowed a words × IsUnput a chip words opens opened told)))))
+    ⊎ ((chip : Geometry) × IsChipOf g chip × (AreNotAllowed a words told ⊎ (AreAllowed a words × IsArrayUnput a chip words opens opened told)))))
 
 -- The dump was put in place and nothing printed, but its map was not put in its.
 pub record PutNoMap (a : StoreAnswers) (words : ArrayWords) (before after : Option Store) (out printed : Option (List ℕ)) (told : LabFault) : Type 0 where

@@ -131,14 +131,14 @@ abbrev pub IsUnjoined : StoreAnswers → List (List ℕ) → Geometry → List �
 IsUnjoined a paths g out told = IsSomeUnread a paths told ⊎ IsUnwritten a out told ⊎ IsUnmergedTo a paths g out told
 
 -- memory was refused, or no dump was made, or it did not get its name
-abbrev pub IsUnput : StoreAnswers → MergeWords → Geometry → (opens opened : Option ℕ) → LabFault → Type 0
-IsUnput a words g opens opened told = IsUnroomed opens opened told ⊎ IsUnjoined a (dumps_of words) g words.out.now told ⊎ IsUnplaced a words.out.now words.force told
+abbrev pub IsMergeUnput : StoreAnswers → MergeWords → Geometry → (opens opened : Option ℕ) → LabFault → Type 0
+IsMergeUnput a words g opens opened told = IsUnroomed opens opened told ⊎ IsUnjoined a (dumps_of words) g words.out.now told ⊎ IsUnplaced a words.out.now words.force told
 
 -- The first of this order: the geometry; whether OUT may be written; memory; the dumps and OUT.
 abbrev pub IsUnmergedBy : StoreAnswers → MergeWords → (opens opened : Option ℕ) → LabFault → Type 0
 IsUnmergedBy a words opens opened told =
     IsNoGeometry words.geometry.now told
-    ⊎ ((g : Geometry) × IsGeometryAt words.geometry.now g × (MayNotMerge a words told ⊎ (MayMerge a words × IsUnput a words g opens opened told)))
+    ⊎ ((g : Geometry) × IsGeometryAt words.geometry.now g × (MayNotMerge a words told ⊎ (MayMerge a words × IsMergeUnput a words g opens opened told)))
 
 -- No dump was put in place and nothing printed, for one of these reasons; or it was put in place, and a beginning of the list printed.
 abbrev pub IsMergeFault : StoreAnswers → MergeWords → Option Store → Option Store → (opens opened : Option ℕ) → (broke : Bool) → Option (List ℕ) → Option (List ℕ) → LabFault → Type 0

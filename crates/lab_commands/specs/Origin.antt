@@ -113,18 +113,18 @@ abbrev pub IsUnfollowed : StoreAnswers → OriginWords → Geometry → LabFault
 IsUnfollowed a words g told = IsUnread a words.dump.now told ⊎ IsSomeUnread a (readings_of words) told ⊎ IsUntracedTo a words g told
 
 -- memory was refused, or the pages were not followed, or the map did not get its name
-abbrev pub IsUnput : StoreAnswers → OriginWords → Geometry → (opens opened : Option ℕ) → LabFault → Type 0
-IsUnput a words g opens opened told = IsUnroomed opens opened told ⊎ IsUnfollowed a words g told ⊎ IsUnplaced a words.out.now words.force told
+abbrev pub IsTracedMapUnput : StoreAnswers → OriginWords → Geometry → (opens opened : Option ℕ) → LabFault → Type 0
+IsTracedMapUnput a words g opens opened told = IsUnroomed opens opened told ⊎ IsUnfollowed a words g told ⊎ IsUnplaced a words.out.now words.force told
 
 -- The first of this order: the geometry; the sequence; whether OUT may be written; memory; the dump and the readings; OUT.
-abbrev pub IsUndone : StoreAnswers → OriginWords → (opens opened : Option ℕ) → LabFault → Type 0
-IsUndone a words opens opened told =
+abbrev pub IsOriginUndone : StoreAnswers → OriginWords → (opens opened : Option ℕ) → LabFault → Type 0
+IsOriginUndone a words opens opened told =
     IsNoGeometry words.geometry.now told
     ⊎ ((g : Geometry) × IsGeometryAt words.geometry.now g × (IsNoLast words.until told
-    ⊎ ((last : Option ℕ) × IsLastAt words.until last × (MayNotMap a words told ⊎ (MayMap a words × IsUnput a words g opens opened told)))))
+    ⊎ ((last : Option ℕ) × IsLastAt words.until last × (MayNotMap a words told ⊎ (MayMap a words × IsTracedMapUnput a words g opens opened told)))))
 
 -- No map was put in place and nothing printed, for one of these reasons; or it was, and a beginning of the report printed.
 abbrev pub IsOriginFault : StoreAnswers → OriginWords → Option Store → Option Store → (opens opened : Option ℕ) → (broke : Bool) → Option (List ℕ) → Option (List ℕ) → LabFault → Type 0
 IsOriginFault a words before after opens opened broke out printed told =
-    (LeavesAll before after out printed × IsUndone a words opens opened told)
+    (LeavesAll before after out printed × IsOriginUndone a words opens opened told)
     ⊎ ((g : Geometry) × (last : Option ℕ) × (marks : List MapMark) × PutOrigin a words before after g last marks × IsHalfPrinted broke out printed (origin_text (form_of_showing words.showing) marks) told)

@@ -80,8 +80,8 @@ AreUnasked words told =
     ⊎ ((g : Geometry) × IsGeometryAt words.geometry.now g × (AreNoRows words.rows g told ⊎ ((rows : Option Rows) × AreRowsAt words.rows g rows × AreNoBits words.bits g told)))
 
 -- memory was refused, or no dump was made, or it did not get its name
-abbrev pub IsUnput : StoreAnswers → RepairWords → Geometry → (opens opened : Option ℕ) → LabFault → Type 0
-IsUnput a words g opens opened told = IsUnroomed opens opened told ⊎ IsFileUnmade a g words.dump.now words.out.now told ⊎ IsUnplaced a words.out.now words.force told
+abbrev pub IsRepairUnput : StoreAnswers → RepairWords → Geometry → (opens opened : Option ℕ) → LabFault → Type 0
+IsRepairUnput a words g opens opened told = IsUnroomed opens opened told ⊎ IsFileUnmade a g words.dump.now words.out.now told ⊎ IsUnplaced a words.out.now words.force told
 
 -- The first of this order: the geometry; the rows; how many bits; whether OUT may be written; memory; the dump and OUT.
 abbrev pub IsUnrepairedBy : StoreAnswers → RepairWords → (opens opened : Option ℕ) → LabFault → Type 0
@@ -90,7 +90,7 @@ IsUnrepairedBy a words opens opened told =
     ⊎ ((g : Geometry) × IsGeometryAt words.geometry.now g × (AreNoRows words.rows g told
     ⊎ ((rows : Option Rows) × AreRowsAt words.rows g rows × (AreNoBits words.bits g told
     ⊎ ((bits : ℕ) × AreBitsAt words.bits g bits × (MayNotWrite a words.dump.now words.out.now words.force told
-    ⊎ (MayWrite a words.dump.now words.out.now words.force × IsUnput a words g opens opened told)))))))
+    ⊎ (MayWrite a words.dump.now words.out.now words.force × IsRepairUnput a words g opens opened told)))))))
 
 -- No dump was put in place and nothing printed, for one of these reasons; or it was put in place, and a beginning of the list printed.
 abbrev pub IsRepairFault : StoreAnswers → RepairWords → Option Store → Option Store → (opens opened : Option ℕ) → (broke : Bool) → Option (List ℕ) → Option (List ℕ) → LabFault → Type 0

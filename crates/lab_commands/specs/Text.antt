@@ -32,11 +32,11 @@ abbrev pub nearest_words : Legible → List ℕ
 nearest_words x = codes "byte " ++ (decimal x.at ++ record_words x.says [])
 
 -- what a line ends with
-abbrev pub rest_words : Rest → List ℕ
-rest_words (Words words) = words.now
-rest_words (Name name) = shown_name name.now
-rest_words (Lengths wanted found) = lengths_words wanted found
-rest_words (rest.Legible found) = nearest_words found
+abbrev pub line_end_words : Rest → List ℕ
+line_end_words (Words words) = words.now
+line_end_words (Name name) = shown_name name.now
+line_end_words (Lengths wanted found) = lengths_words wanted found
+line_end_words (rest.Legible found) = nearest_words found
 
 -- the line, without its line feed; a name in it is as it is printed
 abbrev pub lab_fault_line : LabFault → List ℕ

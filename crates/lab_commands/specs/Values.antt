@@ -108,8 +108,8 @@ abbrev pub front_words : Bool → List ℕ
 front_words coded = if coded then codes ",\"codes\":\"hamming\"" else []
 
 -- and from that one on
-abbrev pub rest_words : Fit → List ℕ
-rest_words f = members_text true (fit_members f)
+abbrev pub fit_rest_words : Fit → List ℕ
+fit_rest_words f = members_text true (fit_members f)
 
 -- what stands behind the name of the number of pages that were looked at
 abbrev pub counts_words : Fit → List ℕ

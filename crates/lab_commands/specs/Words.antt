@@ -73,7 +73,7 @@ pub record IsShowingAt (rows : List Row) (read : Showing) : Type 0 where
   pub progress_is : stood (count_of (codes "progress") rows) ≡ read.progress
 
 -- the entry of the words of `geometry` is this
-pub record IsGeometryAt (rows : List Row) (read : GeometryWords) : Type 0 where
+pub record IsGeometryCommandAt (rows : List Row) (read : GeometryWords) : Type 0 where
   pub dump_is : first_of (codes "DUMP") rows ≡ Some read.dump.now
   pub showing : IsShowingAt rows read.showing
 
@@ -149,7 +149,7 @@ pub record IsOriginAt (rows : List Row) (read : OriginWords) : Type 0 where
 
 -- the command of this name with these entries asks for that
 abbrev pub IsLabCommandAt : List ℕ → List Row → Asked → Type 0
-IsLabCommandAt name rows (asked.Geometry read) = (name ≡ codes "geometry") × IsGeometryAt rows read
+IsLabCommandAt name rows (asked.Geometry read) = (name ≡ codes "geometry") × IsGeometryCommandAt rows read
 IsLabCommandAt name rows (asked.Array read) = (name ≡ codes "array") × IsUntilAt rows read
 IsLabCommandAt name rows (asked.History read) = (name ≡ codes "history") × IsHistoryAt rows read
 IsLabCommandAt name rows (asked.Survey read) = (name ≡ codes "survey") × IsSurveyAt rows read

@@ -3,7 +3,7 @@ ghost use Rattle.std.specs.Prelude.{◌≡◌, OnOk, OnErr, IfOk, IfErr};
 ghost use Rattle.lab_arrange.specs.Place.{IsFitting};
 ghost use Rattle.lab_arrange.specs.Rooms.{IsArrangeRoom};
 ghost use Rattle.lab_commands.specs.Files.{AnswersNoMore, without_part};
-ghost use Rattle.lab_commands.specs.Arrange.{AreSaid, AreUnsaid, HasPutInOrder, IsArrangeFault, IsMadeInOrder, SaysArrangement, IsUnarrangedBy, IsUnordered, IsUnput, IsUnsaid, PutArranged, WroteArranged, unordered_as};
+ghost use Rattle.lab_commands.specs.Arrange.{AreSaid, AreUnsaid, HasPutInOrder, IsArrangeFault, IsMadeInOrder, SaysArrangement, IsUnarrangedBy, IsUnordered, IsArrangedUnput, IsUnsaid, PutArranged, WroteArranged, unordered_as};
 
 use crate::arrange_words::ArrangeWords;
 use crate::files::LabFiles;
@@ -94,7 +94,7 @@ fn place_in_order<'a, F: LabFiles>(
 ) -> Result<(), LabFault<'a>>
     requires { IsFitting geometry.now arrangement.now }
     ensures put { OnOk result (HasPutInOrder (F.answers files.old) words.now (F.kept files.old) (F.kept files.new) geometry.now arrangement.now) }
-    ensures fault { IfErr result (IsUnput (F.answers files.old) words.now geometry.now arrangement.now (F.opened files.old) (F.opened files.new)) }
+    ensures fault { IfErr result (IsArrangedUnput (F.answers files.old) words.now geometry.now arrangement.now (F.opened files.old) (F.opened files.new)) }
     ensures kept { OnErr result (F.kept files.new ≡ F.kept files.old) }
 {
     let room = ArrangeRoom::new(alloc, geometry)?;

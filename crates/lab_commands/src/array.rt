@@ -9,7 +9,7 @@ ghost use Rattle.lab_dump.specs.Unmade as made;
 ghost use Rattle.lab_dump.specs.Written.{IsArrayWritten};
 ghost use Rattle.lab_commands.specs.Files.{AnswersNoMore, without_part};
 ghost use Rattle.lab_commands.specs.Undone.{IsFileUnmade, MayWrite};
-ghost use Rattle.lab_commands.specs.Array.{AreAllowed, AreNotAllowed, HasPutSectors, IsArrayFault, IsArrayMade, IsMapNotAllowed, IsUndone, IsUnmapped, IsUnput, PlacedArray, WroteArray, as_map, with_map};
+ghost use Rattle.lab_commands.specs.Array.{AreAllowed, AreNotAllowed, HasPutSectors, IsArrayFault, IsArrayMade, IsMapNotAllowed, IsArrayUndone, IsUnmapped, IsArrayUnput, PlacedArray, WroteArray, as_map, with_map};
 
 use crate::files::LabFiles;
 use crate::maps::ArrayMap;
@@ -167,7 +167,7 @@ fn put_sectors<'a, F: LabFiles>(
 ) -> Result<SectorsPut, LabFault<'a>>
     ensures put { IfOk result (λ put. HasPutSectors (F.answers files.old) words.now (F.kept files.old) (F.kept files.new) geometry.now last damaged put.held.items put.left) }
     ensures sized { IfOk result (λ put. length put.held.items ≡ geometry.now.sectors) }
-    ensures fault { IfErr result (IsUnput (F.answers files.old) geometry.now words.now (F.opened files.old) (F.opened files.new)) }
+    ensures fault { IfErr result (IsArrayUnput (F.answers files.old) geometry.now words.now (F.opened files.old) (F.opened files.new)) }
     ensures no_more { OnOk result (AnswersNoMore (F.answers files.old) (F.answers files.new)) }
     ensures kept { OnErr result (F.kept files.new ≡ F.kept files.old) }
 {
@@ -197,7 +197,7 @@ fn place<'a, F: LabFiles>(
 ) -> Result<ArrayPlaced, LabFault<'a>>
     ensures placed { IfOk result (λ told. PlacedArray (F.answers files.old) words.entry (F.kept files.old) (F.kept files.new) told.geometry told.last told.held.items told.left) }
     ensures sized { IfOk result (λ told. length told.held.items ≡ told.geometry.sectors) }
-    ensures fault { IfErr result (IsUndone (F.answers files.old) words.entry (F.opened files.old) (F.opened files.new)) }
+    ensures fault { IfErr result (IsArrayUndone (F.answers files.old) words.entry (F.opened files.old) (F.opened files.new)) }
     ensures no_more { OnOk result (AnswersNoMore (F.answers files.old) (F.answers files.new)) }
     ensures kept { OnErr result (F.kept files.new ≡ F.kept files.old) }
 {

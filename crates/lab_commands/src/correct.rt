@@ -5,7 +5,7 @@ ghost use Rattle.lab_correct.specs.Map.{loss_map_text};
 ghost use Rattle.lab_correct.specs.Rooms.{IsCorrectRoom};
 ghost use Rattle.lab_commands.specs.Files.{AnswersNoMore, without_part};
 ghost use Rattle.lab_commands.specs.Undone.{IsFileUnmade};
-ghost use Rattle.lab_commands.specs.Array.{IsUnmapped, IsUnput, with_map};
+ghost use Rattle.lab_commands.specs.Array.{IsUnmapped, IsArrayUnput, with_map};
 ghost use Rattle.lab_commands.specs.Correct.{HasPutRight, IsCorrectFault, IsNoChip, ArePiecesPutRight, IsUncorrectedBy, PlacedCorrected, WroteCorrected};
 
 use crate::array::allow_both;
@@ -92,7 +92,7 @@ fn put_corrected<'a, F: LabFiles>(
 ) -> Result<CorrectedPut, LabFault<'a>>
     requires { IsChipOf geometry.now chip.now.raw }
     ensures put { IfOk result (λ put. HasPutRight (F.answers files.old) words.now (F.kept files.old) (F.kept files.new) geometry.now chip.now.raw (record { turned = put.turned; touched = put.touched; losses = put.losses.items })) }
-    ensures fault { IfErr result (IsUnput (F.answers files.old) chip.now.raw words.now (F.opened files.old) (F.opened files.new)) }
+    ensures fault { IfErr result (IsArrayUnput (F.answers files.old) chip.now.raw words.now (F.opened files.old) (F.opened files.new)) }
     ensures no_more { OnOk result (AnswersNoMore (F.answers files.old) (F.answers files.new)) }
     ensures kept { OnErr result (F.kept files.new ≡ F.kept files.old) }
 {

@@ -4,7 +4,7 @@ ghost use Rattle.lab_mend.specs.Merged.{IsOfReading};
 ghost use Rattle.lab_mend.specs.Rooms.{IsMergeRoom};
 ghost use Rattle.program_words.specs.Met.{texts};
 ghost use Rattle.lab_commands.specs.Files.{AnswersNoMore, without_part};
-ghost use Rattle.lab_commands.specs.Merge.{AreOpened, HasPutJoined, HasSame, IsJoined, IsMergeFault, IsSomeUnread, IsUnjoined, IsUnmergedBy, IsUnput, MayMerge, MayNotMerge, PutMerge, TellsFault, WroteMerge};
+ghost use Rattle.lab_commands.specs.Merge.{AreOpened, HasPutJoined, HasSame, IsJoined, IsMergeFault, IsSomeUnread, IsUnjoined, IsUnmergedBy, IsMergeUnput, MayMerge, MayNotMerge, PutMerge, TellsFault, WroteMerge};
 ghost use Rattle.lab_commands.specs.Merge.{dumps_of};
 
 use crate::files::{LabFiles, Progress, Standing};
@@ -186,7 +186,7 @@ fn put_joined<'a, F: LabFiles>(
 ) -> Result<MergePlaced, LabFault<'a>>
     requires { 0 < length words.now.dumps.items }
     ensures put { IfOk result (λ told. HasPutJoined (F.answers files.old) words.now (F.kept files.old) (F.kept files.new) geometry.now told.conflicts.items told.unsound.items told.tried.items told.tally) }
-    ensures fault { IfErr result (IsUnput (F.answers files.old) words.now geometry.now (F.opened files.old) (F.opened files.new)) }
+    ensures fault { IfErr result (IsMergeUnput (F.answers files.old) words.now geometry.now (F.opened files.old) (F.opened files.new)) }
     ensures kept { OnErr result (F.kept files.new ≡ F.kept files.old) }
 {
     let room = take_room(alloc, geometry, words.dumps.len())?;

@@ -8,7 +8,7 @@ ghost use Rattle.lab_origin.specs.Tracing.{IsOriginRoom};
 ghost use Rattle.lab_commands.specs.Files.{AnswersNoMore, with_kept};
 ghost use Rattle.lab_commands.specs.Merge.{AreOpened, IsSomeUnread};
 ghost use Rattle.lab_commands.specs.Undone.{IsUnplaced};
-ghost use Rattle.lab_commands.specs.Origin.{HasPutMarks, HasPutOrigin, HasTracedMarks, IsOriginFault, IsUndone, IsUnfollowed, IsUnput, MayMap, MayNotMap, TellsOrigin, TellsReading, WroteOrigin};
+ghost use Rattle.lab_commands.specs.Origin.{HasPutMarks, HasPutOrigin, HasTracedMarks, IsOriginFault, IsOriginUndone, IsUnfollowed, IsTracedMapUnput, MayMap, MayNotMap, TellsOrigin, TellsReading, WroteOrigin};
 
 use crate::files::{LabFiles, Progress, Standing};
 use crate::maps::OriginMap;
@@ -187,7 +187,7 @@ fn put_marks<'a, F: LabFiles>(
     files: &mut F,
 ) -> Result<Vec<MapMark>, LabFault<'a>>
     ensures put { IfOk result (λ marks. HasPutMarks (F.answers files.old) words.now (F.kept files.old) (F.kept files.new) geometry.now last marks.items) }
-    ensures fault { IfErr result (IsUnput (F.answers files.old) words.now geometry.now (F.opened files.old) (F.opened files.new)) }
+    ensures fault { IfErr result (IsTracedMapUnput (F.answers files.old) words.now geometry.now (F.opened files.old) (F.opened files.new)) }
     ensures kept { OnErr result (F.kept files.new ≡ F.kept files.old) }
 {
     let room = take_room(alloc, geometry, words.readings.len())?;
@@ -203,7 +203,7 @@ fn place<'a, F: LabFiles>(
     files: &mut F,
 ) -> Result<Vec<MapMark>, LabFault<'a>>
     ensures placed { IfOk result (λ marks. HasPutOrigin (F.answers files.old) words.now (F.kept files.old) (F.kept files.new) marks.items) }
-    ensures fault { IfErr result (IsUndone (F.answers files.old) words.now (F.opened files.old) (F.opened files.new)) }
+    ensures fault { IfErr result (IsOriginUndone (F.answers files.old) words.now (F.opened files.old) (F.opened files.new)) }
     ensures kept { OnErr result (F.kept files.new ≡ F.kept files.old) }
 {
     let geometry = geometry_at(words.geometry)?;

@@ -3,7 +3,7 @@ ghost use Rattle.std.specs.Prelude.{◌≡◌, OnOk, OnErr, IfOk, IfErr};
 ghost use Rattle.lab_mend.specs.Rooms.{IsRepairRoom};
 ghost use Rattle.lab_commands.specs.Files.{AnswersNoMore, without_part};
 ghost use Rattle.lab_commands.specs.Undone.{IsFileUnmade};
-ghost use Rattle.lab_commands.specs.Repair.{AreAsked, AreUnasked, HasPutMends, HasPutRepair, IsRepairOfDump, IsRepairFault, IsUnput, IsUnrepairedBy, WroteRepair, told_tries};
+ghost use Rattle.lab_commands.specs.Repair.{AreAsked, AreUnasked, HasPutMends, HasPutRepair, IsRepairOfDump, IsRepairFault, IsRepairUnput, IsUnrepairedBy, WroteRepair, told_tries};
 
 use crate::bits::bits_at;
 use crate::files::LabFiles;
@@ -80,7 +80,7 @@ fn put_mends<'a, F: LabFiles>(
     files: &mut F,
 ) -> Result<MendsTold, LabFault<'a>>
     ensures put { IfOk result (λ told. HasPutMends (F.answers files.old) words.now (F.kept files.old) (F.kept files.new) geometry.now asked told.tries told.mends.items) }
-    ensures fault { IfErr result (IsUnput (F.answers files.old) words.now geometry.now (F.opened files.old) (F.opened files.new)) }
+    ensures fault { IfErr result (IsRepairUnput (F.answers files.old) words.now geometry.now (F.opened files.old) (F.opened files.new)) }
     ensures kept { OnErr result (F.kept files.new ≡ F.kept files.old) }
 {
     let room = RepairRoom::new(alloc, geometry)?;

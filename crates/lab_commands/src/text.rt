@@ -1,9 +1,7 @@
 //! What the program says when a command ends before it is done: one line, and the exit status.
 ghost use Rattle.std.specs.Prelude.{◌≡◌, ◌∷◌, [], ◌++◌, true, OnErr};
-ghost use Rattle.page_layout.specs.Faults.{broken_limit_words};
-ghost use Rattle.certificate.specs.Faults.{certificate_words};
 ghost use Rattle.lab_commands.specs.Output.{AppendsAllOrPart};
-ghost use Rattle.lab_commands.specs.Text.{IsLabFaultTold, lengths_words, lab_fault_line, nearest_words, rest_words, lab_exit_status, told_lab_line};
+ghost use Rattle.lab_commands.specs.Text.{IsLabFaultTold, lengths_words, lab_fault_line, nearest_words, line_end_words, lab_exit_status, told_lab_line};
 
 use crate::lines::kind_text;
 use crate::names::put_name;
@@ -128,34 +126,6 @@ impl LabFault<'_> {
     }
 }
 
-// A broken limit by its number and its name.
-fn limit(fault: GeometryFault) -> &'static str
-    ensures { result.now ≡ broken_limit_words fault }
-{
-    match fault {
-        GeometryFault::DataSize => "1 DataSize",
-        GeometryFault::SpareSize => "2 SpareSize",
-        GeometryFault::PagesPerBlock => "3 PagesPerBlock",
-        GeometryFault::Blocks => "4 Blocks",
-        GeometryFault::Sectors => "5 Sectors",
-    }
-}
-
-// Why bytes are no certificate, by its number and its name.
-fn certificate_text(broken: CertFault) -> &'static str
-    ensures { result.now ≡ certificate_words broken }
-{
-    match broken {
-        CertFault::Magic => "1 Magic",
-        CertFault::Short => "2 Short",
-        CertFault::Long => "3 Long",
-        CertFault::Limit => "4 Limit",
-        CertFault::RowRange => "5 RowRange",
-        CertFault::ClassRange => "6 ClassRange",
-        CertFault::OutOfMemory => "7 OutOfMemory",
-    }
-}
-
 // Why no die stands in an arrangement, by its number and its name.
 fn unfit_text(unfit: UnfitFault) -> &'static str
     ensures { result.now ≡ Rattle.lab_commands.specs.Text.unfit_words unfit }
@@ -181,7 +151,7 @@ enum Rest<'a> {
 
 // The line of a fault, without its line feed: its first words, and the rest.
 fn line<'a>(fault: &LabFault<'a>) -> (&'static str, Rest<'a>)
-    ensures { result.0.now ++ rest_words result.1 ≡ lab_fault_line fault.now }
+    ensures { result.0.now ++ line_end_words result.1 ≡ lab_fault_line fault.now }
 {
     match *fault {
         LabFault::NoSuchCommand => (
@@ -189,7 +159,7 @@ fn line<'a>(fault: &LabFault<'a>) -> (&'static str, Rest<'a>)
             Rest::Words(""),
         ),
         LabFault::BadNumber(word) => ("usage: bad number ", Rest::Name(word)),
-        LabFault::Geometry(broken) => ("refused geometry ", Rest::Words(limit(broken))),
+        LabFault::Geometry(broken) => ("refused geometry ", Rest::Words(broken.words())),
         LabFault::NoneFits(None) => ("refused geometry ", Rest::Words("6 NoneFits")),
         LabFault::NoneFits(Some(nearest)) => {
             ("refused geometry 6 NoneFits ", Rest::Legible(nearest))
@@ -209,10 +179,7 @@ fn line<'a>(fault: &LabFault<'a>) -> (&'static str, Rest<'a>)
         LabFault::DumpLength(path) => ("refused merge 1 DumpLength ", Rest::Name(path)),
         LabFault::ReadingLength(path) => ("refused origin 1 ReadingLength ", Rest::Name(path)),
         LabFault::OutOfMemory => ("refused image ", Rest::Words("3 OutOfMemory")),
-        LabFault::Certificate(broken) => (
-            "refused certificate ",
-            Rest::Words(certificate_text(broken)),
-        ),
+        LabFault::Certificate(broken) => ("refused certificate ", Rest::Words(broken.words())),
         LabFault::GeometryDiffers => ("refused compare ", Rest::Words("1 GeometryDiffers")),
         LabFault::BadArrangement(word) => ("usage: bad arrangement ", Rest::Name(word)),
         LabFault::Unfit(unfit) => ("refused arrange ", Rest::Words(unfit_text(unfit))),
@@ -263,7 +230,7 @@ fn put_nearest<W: Output>(out: &mut W, found: Legible) -> Result<(), OutputFault
 
 // Writes the rest of a line.
 fn put_rest<W: Output>(out: &mut W, rest: Rest<'_>) -> Result<(), OutputFault>
-    ensures bytes { AppendsAllOrPart (W.contents out.old) (W.contents out.new) (rest_words rest.entry) result }
+    ensures bytes { AppendsAllOrPart (W.contents out.old) (W.contents out.new) (line_end_words rest.entry) result }
     ensures failed { OnErr result (W.failed out.new ≡ true) }
 {
     match rest {
@@ -276,7 +243,7 @@ fn put_rest<W: Output>(out: &mut W, rest: Rest<'_>) -> Result<(), OutputFault>
 
 // Writes a line of first words and the rest, and a line feed.
 fn put_line<W: Output>(out: &mut W, area: &str, rest: Rest<'_>) -> Result<(), OutputFault>
-    ensures bytes { AppendsAllOrPart (W.contents out.old) (W.contents out.new) ((area.now ++ rest_words rest.entry) ++ (10 ∷ [])) result }
+    ensures bytes { AppendsAllOrPart (W.contents out.old) (W.contents out.new) ((area.now ++ line_end_words rest.entry) ++ (10 ∷ [])) result }
     ensures failed { OnErr result (W.failed out.new ≡ true) }
 {
     out.put(area.as_bytes())?;

@@ -4,7 +4,7 @@ ghost use Rattle.serde_json.specs.Written.{compact_text};
 ghost use Rattle.lab_commands.specs.Document.{Prints};
 ghost use Rattle.lab_commands.specs.Lines.{label_words};
 ghost use Rattle.lab_commands.specs.Values.{age_data, age_until_data, arranged_data, block_data, corrected_data, counts_words, damaged_data, doubt_data, found_data, front_words, head_data, history_data, key_data, legible_data, line_data, lost_data, lost_row_data};
-ghost use Rattle.lab_commands.specs.Values.{mended_count_data, mended_data, merged_data, nothing_data, page_data, pages_data, plain_block_data, reason_pages_data, reason_table_data, repeated_data, rest_words, row_data, rows_age_data, rows_data, said_data, tried_data, tries_data, truth_words, turned_data};
+ghost use Rattle.lab_commands.specs.Values.{mended_count_data, mended_data, merged_data, nothing_data, page_data, pages_data, plain_block_data, reason_pages_data, reason_table_data, repeated_data, fit_rest_words, row_data, rows_age_data, rows_data, said_data, tried_data, tries_data, truth_words, turned_data};
 
 use crate::arranged_lines::put_arranged_object;
 use crate::lines::{
@@ -216,7 +216,7 @@ fn put_counts<W: Output>(out: &mut W, fit: Fit) -> Result<(), OutputFault>
 
 /// The members of a geometry that fits, from that of its five numbers on.
 pub(crate) fn put_fit_rest<W: Output>(out: &mut W, fit: Fit) -> Result<(), OutputFault>
-    ensures { Prints (W.failed out.new) (W.contents out.old) (W.contents out.new) (rest_words fit) result }
+    ensures { Prints (W.failed out.new) (W.contents out.old) (W.contents out.new) (fit_rest_words fit) result }
 {
     put_shaped(
         out,

@@ -14,7 +14,7 @@ ghost use Rattle.lab_commands.specs.declared.words.SourceWords.{SourceWords};
 ghost use Rattle.lab_commands.specs.declared.words.SurveyWords.{SurveyWords};
 ghost use Rattle.lab_commands.specs.declared.words.UntilWords.{UntilWords};
 ghost use Rattle.lab_commands.specs.declared.words.Asked.{Asked};
-ghost use Rattle.lab_commands.specs.Words.{AreDumpsAt, IsArrayAt, AsksLabProgram, IsLabCommandAt, IsCompareAt, IsOutAt, IsGeometryAt, IsHistoryAt, IsMergeAt, IsNoLabCommand, IsRepairAt, IsShowingAt, IsSourceAt, IsSurveyAt, IsUntilAt};
+ghost use Rattle.lab_commands.specs.Words.{AreDumpsAt, IsArrayAt, AsksLabProgram, IsLabCommandAt, IsCompareAt, IsOutAt, IsGeometryCommandAt, IsHistoryAt, IsMergeAt, IsNoLabCommand, IsRepairAt, IsShowingAt, IsSourceAt, IsSurveyAt, IsUntilAt};
 
 use crate::arrange_words::{ArrangeWords, arrange_words};
 use crate::grammar::grammar;
@@ -174,8 +174,8 @@ pub(crate) fn showing_words(found: &CommandWords<'_>) -> Showing
 
 // The words of the command `geometry`, where they are given.
 fn geometry_words<'a>(found: &CommandWords<'a>) -> Option<GeometryWords<'a>>
-    ensures some { IfSome result (IsGeometryAt (command_entries found.now)) }
-    ensures none { result ≡ None → (read : GeometryWords) → ¬ IsGeometryAt (command_entries found.now) read }
+    ensures some { IfSome result (IsGeometryCommandAt (command_entries found.now)) }
+    ensures none { result ≡ None → (read : GeometryWords) → ¬ IsGeometryCommandAt (command_entries found.now) read }
 {
     Some(GeometryWords {
         dump: found.word("DUMP")?,

@@ -32,7 +32,7 @@ use Rattle.lab_dump.specs.Trace.{is_tied_in, place_in_trace}
 use Rattle.lab_dump.specs.Count as sorts
 use Rattle.lab_dump.specs.Count.{HasUnsound, one, is_unsound_in, unsound_below}
 use Rattle.lab_dump.specs.Bad.{is_excused, is_plain, is_rewritten, is_tied, keeps_below, latest_at, strange_of, ties_below}
-use Rattle.lab_dump.specs.Doubts.{doubtful_of, doubts_of, has_page, holes_of, legible_of, is_hole, is_hole_below, is_outside, is_unsound_at, rows_passing, ToldOnceLaw}
+use Rattle.lab_dump.specs.Doubts.{doubtful_of, doubts_of, has_page, holes_of, legible_of, is_hole, is_hole_below, is_record_past, is_unsound_at, rows_passing, ToldOnceLaw}
 use Rattle.lab_dump.specs.Doubting.{HasHoles, HasTraces, IsDoubting, holes_below}
 use Rattle.lab_dump.specs.declared.said.SaidPage.{SaidPage}
 use Rattle.lab_dump.specs.Said.{said_below}
@@ -223,9 +223,9 @@ pub record AreSummed (g : Geometry) (image : Image) (n : ℕ) (d : Doubts) : Typ
   pub holes_is : d.holes ≡ below g image (is_hole g image) (λ b. not (is_excused g image b)) n
   pub factory_is : d.factory ≡ below g image (is_unsound_at image) (is_factory g image) n + below g image (is_hole g image) (is_factory g image) n
   pub rewritten_is : d.rewritten ≡ below g image (is_unsound_at image) (is_rewritten g image) n + below g image (is_hole g image) (is_rewritten g image) n
-  pub outside_is : d.outside ≡ count_by (λ p. is_outside g (record_of p)) image
+  pub outside_is : d.outside ≡ count_by (λ p. is_record_past g (record_of p)) image
 
-pub summed_start : (g : Geometry) (image : Image) (d : Doubts) → d.unsound ≡ 0 → d.holes ≡ 0 → d.factory ≡ 0 → d.rewritten ≡ 0 → d.outside ≡ count_by (λ p. is_outside g (record_of p)) image → AreSummed g image 0 d
+pub summed_start : (g : Geometry) (image : Image) (d : Doubts) → d.unsound ≡ 0 → d.holes ≡ 0 → d.factory ≡ 0 → d.rewritten ≡ 0 → d.outside ≡ count_by (λ p. is_record_past g (record_of p)) image → AreSummed g image 0 d
 summed_start g image d unsound holes factory rewritten outside =
     let a = below_none g image (is_unsound_at image) (λ b. not (is_excused g image b)) in
     let b = below_none g image (is_hole g image) (λ b. not (is_excused g image b)) in
@@ -339,8 +339,8 @@ few_rows g =
 pub strange_is : (g : Geometry) (image : Image) (d : Doubting) → length image ≡ row_count g → IsDoubting g (row_count g) image d → d.strange ≡ strange_of g image
 strange_is g image d size h = h.strange_is ∙ ap (count_by (λ p. sorts.is_outside g (record_of p))) (ap (λ n. take n image) (sym size) ∙ take-length image)
 
-pub outside_are : (g : Geometry) (image : Image) (d : Doubting) → length image ≡ row_count g → IsDoubting g (row_count g) image d → d.outside ≡ count_by (λ p. is_outside g (record_of p)) image
-outside_are g image d size h = h.outside_is ∙ ap (count_by (λ p. is_outside g (record_of p))) (ap (λ n. take n image) (sym size) ∙ take-length image)
+pub outside_are : (g : Geometry) (image : Image) (d : Doubting) → length image ≡ row_count g → IsDoubting g (row_count g) image d → d.outside ≡ count_by (λ p. is_record_past g (record_of p)) image
+outside_are g image d size h = h.outside_is ∙ ap (count_by (λ p. is_record_past g (record_of p))) (ap (λ n. take n image) (sym size) ∙ take-length image)
 
 -- why a block leaves nothing open, by what was seen
 pub excuse_seen : (g : Geometry) (image : Image) (dt : Doubting) (plain : Bool) (n class : ℕ) (kept : Bool) (x : Excuse) → IsSeen g image dt plain

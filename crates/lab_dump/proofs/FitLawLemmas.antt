@@ -29,7 +29,7 @@ use Rattle.lab_dump.specs.Pages.{dump_page_at}
 use Rattle.lab_dump.specs.Sample.{look_at}
 use Rattle.lab_dump.specs.Told.{least_blocks_of, least_sectors, blocks_by, sectors_by, blocks_at, sectors_told_at, greatest_of_rows, pages_told_of}
 use Rattle.lab_dump.specs.declared.told.PagesTold.{PagesTold}
-use Rattle.lab_dump.specs.FitLaws.{IsWithinTold, WithinLaw, PageLaw, LookedLaw, LookedRiseLaw, LookedAllLaw, GreatestLaw, LowerLaw, TableLaw, ShortLaw, FewerLaw}
+use Rattle.lab_dump.specs.FitLaws.{IsWithinTold, TellsEachPageLaw, PageLaw, LookedLaw, LookedRiseLaw, LookedAllLaw, GreatestLaw, LowerLaw, TableLaw, ShortLaw, FewerLaw}
 use Rattle.lab_dump.specs.declared.fit.TableSays.TheVariants.{Agrees, Short, Silent, Differs}
 use Rattle.lab_dump.specs.Fits.{table_says, table_place}
 use Rattle.lab_dump.proofs.ToldLemmas.{used_below, used_more, used_all}
@@ -100,7 +100,7 @@ looked_rise rows table_place next rises =
           omega arith
     ]
 
--- ---- the greatest_of_rows number
+-- ---- the greatest number
 
 greatest_next : (f : ℕ → ℕ) (n : ℕ) → greatest_of_rows f (suc n) ≡ max (greatest_of_rows f n) (f n)
 unfolding greatest_of_rows
@@ -151,7 +151,7 @@ kind_within kind.Trim n entries body t size blocks sectors = omega arith
 kind_within kind.Translation n entries body t size blocks sectors = omega arith
 kind_within kind.Table n entries body t size blocks sectors = let table_place : n * (length body / 4) ≡ n * entries = ap (λ k. n * k) size in omega arith
 
-pub within_law : WithinLaw
+pub within_law : TellsEachPageLaw
 unfolding pages_told_of
 within_law d s rows all row r whole l e =
     let blocks = no_greater (blocks_at d s all) rows row l in

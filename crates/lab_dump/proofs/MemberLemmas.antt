@@ -13,7 +13,7 @@ use Rattle.page_layout.specs.Limits.{IsDataSize, IsSpareSize, IsPageCount, IsBlo
 use Rattle.lab_dump.specs.declared.fit.Fit.{Fit}
 use Rattle.lab_dump.specs.declared.sample.Sample.{Sample}
 use Rattle.lab_dump.specs.declared.told.PagesTold.{PagesTold}
-use Rattle.lab_dump.specs.Sample.{looked_count, looked_row, look_at, is_sound, looked_by, sample_of}
+use Rattle.lab_dump.specs.Sample.{looked_count, looked_row, look_at, is_sound_look, looked_by, sample_of}
 use Rattle.lab_dump.specs.Told.{pages_told_of}
 use Rattle.lab_dump.specs.Shape.{data_sizes, page_counts, rows_in_size, are_blocks, is_shape, has_shape}
 use Rattle.lab_dump.specs.Fits.{fit_of, shape_fits, area_fits, data_fits, fits_of}
@@ -180,9 +180,9 @@ count_some test (suc n) k l e =
       | inr other ↦ let before = count_some test n k (omega arith) e in omega arith
     ])
 
-sound_some : (d s rows place : ℕ) (all : List ℕ) → place < looked_count rows → is_sound (look_at d s all (looked_row rows place)) ≡ true → 0 < (sample_of d s rows all).sound
+sound_some : (d s rows place : ℕ) (all : List ℕ) → place < looked_count rows → is_sound_look (look_at d s all (looked_row rows place)) ≡ true → 0 < (sample_of d s rows all).sound
 unfolding sample_of looked_by
-sound_some d s rows place all l e = count_some (λ k. is_sound (look_at d s all (looked_row rows k))) (looked_count rows) place l e
+sound_some d s rows place all l e = count_some (λ k. is_sound_look (look_at d s all (looked_row rows k))) (looked_count rows) place l e
 
 pub own_law : OwnGeometryLaw
 own_law g all place size l sound =

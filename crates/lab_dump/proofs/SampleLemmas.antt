@@ -7,7 +7,7 @@ use Rattle.page_layout.specs.declared.look.PageLook.TheVariants.{Sound, Erased, 
 use Rattle.lab_dump.specs.declared.sample.Sample.{Sample}
 use Rattle.lab_dump.specs.PageBytes.{page_from_bytes}
 use Rattle.lab_dump.specs.Pages.{dump_page_at}
-use Rattle.lab_dump.specs.Sample.{looked_count, looked_row, is_sound, is_unsound, look_at, looked_by, sample_of, sample_with_page}
+use Rattle.lab_dump.specs.Sample.{looked_count, looked_row, is_sound_look, is_unsound, look_at, looked_by, sample_of, sample_with_page}
 
 -- ---- a page
 
@@ -38,11 +38,11 @@ looked_more test d s rows all place = count_last (λ k. test (look_at d s all (l
 abbrev pub sample_below : ℕ → ℕ → ℕ → List ℕ → ℕ → Sample
 sample_below d s rows all places = record {
   looked = looked_count rows;
-  sound = looked_by is_sound d s rows all places;
+  sound = looked_by is_sound_look d s rows all places;
   unsound = looked_by is_unsound d s rows all places;
 }
 
-noted_is : (x : Sample) (look : PageLook) → sample_with_page x look ≡ record { looked = x.looked; sound = x.sound + one (is_sound look); unsound = x.unsound + one (is_unsound look) }
+noted_is : (x : Sample) (look : PageLook) → sample_with_page x look ≡ record { looked = x.looked; sound = x.sound + one (is_sound_look look); unsound = x.unsound + one (is_unsound look) }
 noted_is x (Sound r) = ap (λ k. record { looked = x.looked; sound = x.sound + 1; unsound = k }) (omega arith)
 noted_is x Erased =
     let a : x.sound ≡ x.sound + 0 = omega arith in
@@ -53,7 +53,7 @@ noted_is x Unsound = ap (λ k. record { looked = x.looked; sound = k; unsound = 
 pub sample_more : (d s rows : ℕ) (all : List ℕ) (place : ℕ) (x new : Sample) (look : PageLook) → x ≡ sample_below d s rows all place → look ≡ look_at d s all (looked_row rows place) → new ≡ sample_with_page x look
     → new ≡ sample_below d s rows all (place + 1)
 sample_more d s rows all place x new look old is e =
-    let a = looked_more is_sound d s rows all place in
+    let a = looked_more is_sound_look d s rows all place in
     let b = looked_more is_unsound d s rows all place in
     e ∙ (ap (λ k. sample_with_page k look) old ∙ (ap (sample_with_page (sample_below d s rows all place)) is ∙ (noted_is (sample_below d s rows all place) (look_at d s all (looked_row rows place)) ∙ rw (a, b) refl)))
 

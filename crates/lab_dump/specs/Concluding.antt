@@ -17,7 +17,7 @@ use Rattle.lab_dump.specs.declared.concluding.Excuse.TheVariants.{Open, Factory,
 use Rattle.lab_dump.specs.Trace.{is_tied_in, place_in_trace}
 use Rattle.lab_dump.specs.Count.{HasUnsound}
 use Rattle.lab_dump.specs.Bad.{is_plain, is_rewritten, keeps_below}
-use Rattle.lab_dump.specs.Doubts.{is_outside}
+use Rattle.lab_dump.specs.Doubts.{is_record_past}
 use Rattle.lab_dump.specs.Doubting.{HasHoles, HasTraces}
 use Rattle.lab_dump.specs.declared.doubting.Doubting.{Doubting}
 
@@ -69,6 +69,6 @@ pub record IsSeen (g : Geometry) (image : Image) (d : Doubting) (plain : Bool) :
   pub tables : HasTableBytes g image (row_count g) d.tables.items
   pub unsound : HasUnsound g image (row_count g) d.unsound.items
   pub holes : HasHoles g image (row_count g) d.holes.items
-  pub outside_is : d.outside ≡ count_by (λ p. is_outside g (record_of p)) image
+  pub outside_is : d.outside ≡ count_by (λ p. is_record_past g (record_of p)) image
   pub plain_is : plain ≡ is_plain g image
   pub kept_is : (b : ℕ) → b < g.blocks → get_or d.kept.items b false ≡ keeps_below g image (key_count g) b

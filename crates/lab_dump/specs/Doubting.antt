@@ -19,7 +19,7 @@ use Rattle.lab_dump.specs.Trace.{TellsTrace}
 use Rattle.lab_dump.specs.Count as count
 use Rattle.lab_dump.specs.Count.{HasUnsound}
 use Rattle.lab_dump.specs.Said.{said_below}
-use Rattle.lab_dump.specs.Doubts.{is_erased_at, is_hole_below, is_outside}
+use Rattle.lab_dump.specs.Doubts.{is_erased_at, is_hole_below, is_record_past}
 
 -- ---- keys
 
@@ -74,5 +74,5 @@ pub record IsDoubting (g : Geometry) (rows : ℕ) (image : Image) (d : Doubting)
   pub holes : HasHoles g image rows d.holes.items
   pub ending_is : d.ending ≡ ending g image rows
   pub said_is : d.said.items ≡ said_below g image rows
-  pub outside_is : d.outside ≡ count_by (λ p. is_outside g (record_of p)) (take rows image)
+  pub outside_is : d.outside ≡ count_by (λ p. is_record_past g (record_of p)) (take rows image)
   pub strange_is : d.strange ≡ count_by (λ p. count.is_outside g (record_of p)) (take rows image)

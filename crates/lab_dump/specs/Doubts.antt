@@ -63,9 +63,9 @@ is_past g (Translation t) = false
 is_past g (Table u) = false
 
 -- whether there is a record, and it is of such a sector
-abbrev pub is_outside : Geometry → Option Record → Bool
-is_outside g None = false
-is_outside g (Some r) = is_past g (key_of r)
+abbrev pub is_record_past : Geometry → Option Record → Bool
+is_record_past g None = false
+is_record_past g (Some r) = is_past g (key_of r)
 
 -- ---- together
 
@@ -89,7 +89,7 @@ doubts_of g image = record {
   holes = rows_passing g image (is_hole g image) (λ b. not (is_excused g image b));
   factory = doubtful_of g image (is_factory g image);
   rewritten = doubtful_of g image (is_rewritten g image);
-  outside = count_by (λ p. is_outside g (record_of p)) image;
+  outside = count_by (λ p. is_record_past g (record_of p)) image;
 }
 
 -- the pages that may each have been the newest of one sector

@@ -16,7 +16,7 @@ use Rattle.page_layout.specs.declared.look.PageLook.TheVariants.{Sound}
 use Rattle.lab_dump.specs.declared.fit.Fit.{Fit}
 use Rattle.lab_dump.specs.declared.told.PagesTold.{PagesTold}
 use Rattle.lab_dump.specs.Pages.{dump_page_at}
-use Rattle.lab_dump.specs.Sample.{looked_count, looked_row, look_at, is_sound, sample_of}
+use Rattle.lab_dump.specs.Sample.{looked_count, looked_row, look_at, is_sound_look, sample_of}
 use Rattle.lab_dump.specs.Told.{least_blocks_of, greatest_of_rows, pages_told_of}
 use Rattle.std.specs.declared.cmp.Ordering.TheVariants.{Less}
 use Rattle.lab_dump.specs.declared.fit.TableSays.TheVariants.{Short}
@@ -54,7 +54,7 @@ pub record IsShapedAs (g : Geometry) (f : Fit) : Type 0 where
 -- a die's own geometry fits its dump where a page of it that is looked at is sound
 abbrev pub OwnGeometryLaw : Type 0
 OwnGeometryLaw = (g : Geometry) (all : List ℕ) (place : ℕ) → length all ≡ row_count g * page_bytes g → place < looked_count (row_count g)
-    → is_sound (look_at g.data_bytes g.spare_bytes all (looked_row (row_count g) place)) ≡ true → (f : Fit) × Contains (fits_of all) f × IsShapedAs g f
+    → is_sound_look (look_at g.data_bytes g.spare_bytes all (looked_row (row_count g) place)) ≡ true → (f : Fit) × Contains (fits_of all) f × IsShapedAs g f
 
 -- ---- a cut dump
 
@@ -86,7 +86,7 @@ LookedAllLaw = (rows place : ℕ) → rows ≤ 4096 → looked_row rows place �
 
 -- ---- what the pages tell
 
--- no row has a greater number than the greatest_of_rows, and one has it unless it is 0
+-- no row has a greater number than the greatest, and one has it unless it is 0
 abbrev pub GreatestLaw : Type 0
 GreatestLaw = (f : ℕ → ℕ) (rows : ℕ) → ((row : ℕ) → row < rows → f row ≤ greatest_of_rows f rows) × ((greatest_of_rows f rows ≡ 0) ⊎ ((row : ℕ) × (row < rows) × (f row ≡ greatest_of_rows f rows)))
 
@@ -98,8 +98,8 @@ IsWithinTold (Translation n) entries t = n * entries < t.sectors
 IsWithinTold (Table u) entries t = u * entries ≤ t.blocks
 
 -- what so many rows tell has room for each sound page of them
-abbrev pub WithinLaw : Type 0
-WithinLaw = (data_bytes spare_bytes rows : ℕ) (all : List ℕ) (row : ℕ) (r : Record) → rows * (data_bytes + spare_bytes) ≤ length all → row < rows
+abbrev pub TellsEachPageLaw : Type 0
+TellsEachPageLaw = (data_bytes spare_bytes rows : ℕ) (all : List ℕ) (row : ℕ) (r : Record) → rows * (data_bytes + spare_bytes) ≤ length all → row < rows
     → look_at data_bytes spare_bytes all row ≡ Sound r → IsWithinTold (key_of r) (data_bytes / 4) (pages_told_of data_bytes spare_bytes rows all)
 
 -- a die has at least the sectors that are told, where each sound page is of a sector, a translation page or a table page that it has

@@ -20,10 +20,10 @@ looked_row rows place = place / 16 * max (rows / 256) 16 + place % 16
 
 -- ---- what their pages are
 
-abbrev pub is_sound : PageLook → Bool
-is_sound (Sound r) = true
-is_sound Erased = false
-is_sound Unsound = false
+abbrev pub is_sound_look : PageLook → Bool
+is_sound_look (Sound r) = true
+is_sound_look Erased = false
+is_sound_look Unsound = false
 
 -- neither sound nor erased
 abbrev pub is_unsound : PageLook → Bool
@@ -43,7 +43,7 @@ looked_by test data_bytes spare_bytes rows all places = count_by (λ place. test
 unfoldable pub sample_of : ℕ → ℕ → ℕ → List ℕ → Sample
 sample_of data_bytes spare_bytes rows all = record {
   looked = looked_count rows;
-  sound = looked_by is_sound data_bytes spare_bytes rows all (looked_count rows);
+  sound = looked_by is_sound_look data_bytes spare_bytes rows all (looked_count rows);
   unsound = looked_by is_unsound data_bytes spare_bytes rows all (looked_count rows);
 }
 

@@ -48,7 +48,7 @@ blocks_at data_bytes spare_bytes all row = blocks_by (look_at data_bytes spare_b
 abbrev pub sectors_told_at : ℕ → ℕ → List ℕ → ℕ → ℕ
 sectors_told_at data_bytes spare_bytes all row = sectors_by (look_at data_bytes spare_bytes all row) (data_bytes / 4)
 
--- The greatest_of_rows of a number at each of so many rows, and 0 where there is none.
+-- The greatest of a number at each of so many rows, and 0 where there is none.
 -- Law: no row has a greater one, and one has it unless it is 0 (`GreatestLaw`).
 unfoldable pub greatest_of_rows : (ℕ → ℕ) → ℕ → ℕ
 greatest_of_rows f zero = 0

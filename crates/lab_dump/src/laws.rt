@@ -5,7 +5,7 @@ ghost use Rattle.lab_dump.specs.Doubts.{HoleLaw, ToldOnceLaw};
 ghost use Rattle.lab_dump.specs.Lost.{HasLostPageLaw, NoneLostLaw};
 ghost use Rattle.lab_dump.specs.Named.{OthersLaw};
 ghost use Rattle.lab_dump.specs.Map.{AreasLaw};
-ghost use Rattle.lab_dump.specs.FitLaws.{FewerLaw, FitLaw, NoFitTwiceLaw, OwnGeometryLaw, ShortLaw, PageLaw, LookedLaw, LookedRiseLaw, LookedAllLaw, GreatestLaw, WithinLaw, LowerLaw, TableLaw};
+ghost use Rattle.lab_dump.specs.FitLaws.{FewerLaw, FitLaw, NoFitTwiceLaw, OwnGeometryLaw, ShortLaw, PageLaw, LookedLaw, LookedRiseLaw, LookedAllLaw, GreatestLaw, TellsEachPageLaw, LowerLaw, TableLaw};
 
 /// The areas of a map have each sector once, each begins where the one before it has ended, and neighbours differ.
 pub fn areas_law()
@@ -80,7 +80,7 @@ pub fn looked_laws()
 /// What the pages tell has room for each sound page, of the sectors it is a lower bound, and the last table page tells all blocks.
 pub fn told_laws()
     ensures greatest { GreatestLaw }
-    ensures within { WithinLaw }
+    ensures within { TellsEachPageLaw }
     ensures lower { LowerLaw }
     ensures table { TableLaw }
 {}

@@ -22,7 +22,7 @@ use Rattle.lab_mend.specs.declared.merge.MergeFault.{MergeFault}
 use Rattle.lab_mend.specs.declared.merge.MergeFault.TheVariants as fault
 use Rattle.lab_mend.specs.Pages.{page_of_reading, pages_in}
 use Rattle.lab_mend.specs.InStep.{AreAt, AreRead, CutAt, LongAt, HaveEnded}
-use Rattle.lab_mend.specs.Merging.{unsound_rows_below, tried_below, piece_of, ShowsMerge, AreOwn, MergingStands}
+use Rattle.lab_mend.specs.Merging.{unsound_rows_below, tried_below, piece_of, ShowsMerge, AreMergedPieces, MergingStands}
 use Rattle.lab_mend.specs.Merged.{pages_of_row, IsMerged, IsUnmerged, fault_of_cut, fault_of_end, IsPinned}
 
 -- ---- the pages of a row
@@ -54,7 +54,7 @@ pub merged : (g : Geometry) (files : List (List ℕ)) (conflicts unsound : List 
     → IsMerged g files conflicts unsound tried tally pieces
 merged g files conflicts unsound tried tally scratch pieces stands h are tried_are ended = record {
   whole = ended;
-  pages = if_both pieces (AreOwn g (row_count g) conflicts) (λ ps. (n : ℕ) → n < row_count g → get_or ps n [] ≡ piece_of g (pages_of_row g files n)) (λ ps. ps ≡ map (λ n. piece_of g (pages_of_row g files n)) (range_with_len 0 (row_count g))) stands.own h.pieces_are
+  pages = if_both pieces (AreMergedPieces g (row_count g) conflicts) (λ ps. (n : ℕ) → n < row_count g → get_or ps n [] ≡ piece_of g (pages_of_row g files n)) (λ ps. ps ≡ map (λ n. piece_of g (pages_of_row g files n)) (range_with_len 0 (row_count g))) stands.own h.pieces_are
       (λ ps own each. fill_by_all (λ n. piece_of g (pages_of_row g files n)) ps (row_count g) [] own.size each);
   conflicts_are = h.conflicts_are;
   unsound_are = are;

@@ -40,8 +40,8 @@ use
       tally_below,
       piece_of,
       ShowsMerge,
-      AreOwn,
-      AreListed,
+      AreMergedPieces,
+      AreRowsListed,
       AreTried,
       IsTallyWithin,
       MergingStands,
@@ -204,16 +204,16 @@ few_more n t Unsound h = let d = h.sound in let a = h.majority in let i = h.turn
 wider : (n : ℕ) (rows : List ℕ) → All (λ r. r < n) rows → All (λ r. r < n + 1) rows
 wider n rows h = All-weaker (λ r. r < n) (λ r. r < n + 1) (λ r l. (omega arith)) rows h
 
-stays : (n : ℕ) (rows : List ℕ) → AreListed n rows → AreListed (n + 1) rows
+stays : (n : ℕ) (rows : List ℕ) → AreRowsListed n rows → AreRowsListed (n + 1) rows
 stays n rows h = record { within = wider n rows h.within; rising = h.rising }
 
-listed_push : (n : ℕ) (rows : List ℕ) → AreListed n rows → AreListed (n + 1) (rows ++ n ∷ [])
+listed_push : (n : ℕ) (rows : List ℕ) → AreRowsListed n rows → AreRowsListed (n + 1) (rows ++ n ∷ [])
 listed_push n rows h = record {
   within = All-push (λ r. r < n + 1) rows n (wider n rows h.within) (omega arith);
   rising = all_pairs_push (λ a b. a < b) rows n h.rising h.within;
 }
 
-listed_more : (n : ℕ) (rows : List ℕ) (o : Origin) → AreListed n rows → AreListed (n + 1) (named rows n o)
+listed_more : (n : ℕ) (rows : List ℕ) (o : Origin) → AreRowsListed n rows → AreRowsListed (n + 1) (named rows n o)
 listed_more n rows Sound h = stays n rows h
 listed_more n rows Conflict h = listed_push n rows h
 listed_more n rows Majority h = stays n rows h
@@ -221,7 +221,7 @@ listed_more n rows (Tried t) h = stays n rows h
 listed_more n rows Erased h = stays n rows h
 listed_more n rows Unsound h = stays n rows h
 
-unsound_listed_more : (n : ℕ) (rows : List ℕ) (o : Origin) → AreListed n rows → AreListed (n + 1) (with_unsound rows n o)
+unsound_listed_more : (n : ℕ) (rows : List ℕ) (o : Origin) → AreRowsListed n rows → AreRowsListed (n + 1) (with_unsound rows n o)
 unsound_listed_more n rows Sound h = stays n rows h
 unsound_listed_more n rows Conflict h = stays n rows h
 unsound_listed_more n rows Majority h = stays n rows h
@@ -231,8 +231,8 @@ unsound_listed_more n rows (Tried (Nothing d)) h = listed_push n rows h
 unsound_listed_more n rows Erased h = stays n rows h
 unsound_listed_more n rows Unsound h = listed_push n rows h
 
-pub unsound_listed_next : (n : ℕ) (old new : List ℕ) (o : Origin) → new ≡ with_unsound old n o → AreListed n old → AreListed (n + 1) new
-unsound_listed_next n old new o is h = subst (AreListed (n + 1)) (sym is) (unsound_listed_more n old o h)
+pub unsound_listed_next : (n : ℕ) (old new : List ℕ) (o : Origin) → new ≡ with_unsound old n o → AreRowsListed n old → AreRowsListed (n + 1) new
+unsound_listed_next n old new o is h = subst (AreRowsListed (n + 1)) (sym is) (unsound_listed_more n old o h)
 
 pub room_named : (all n : ℕ) (rows new : List ℕ) (o : Origin) (old_room new_room : ℕ) → HasRowRoom all n rows old_room → new ≡ named rows n o → new_room ≡ old_room → HasRowRoom all (n + 1) new new_room
 room_named all n rows new o old_room new_room h is same = record { few = (let size = ap length is in let more = by o in let few = h.few in omega arith); room = (let room = h.room in omega arith) }
@@ -261,7 +261,7 @@ room_unsound all n rows new o old_room new_room h is same = record { few = (let 
 pub room_first : (all capacity : ℕ) (rows : List ℕ) → rows ≡ [] → all ≤ capacity → HasRowRoom all 0 rows capacity
 room_first all capacity rows none room = record { few = (let size = ap length none in omega arith); room = room }
 
-pub none_listed : AreListed 0 []
+pub none_listed : AreRowsListed 0 []
 none_listed = record { within = All-nil (λ (r : ℕ). r < 0); rising = λ i j d l k. absurd (omega arith) }
 
 contains_push : (xs : List ℕ) (x y : ℕ) → Contains (xs ++ x ∷ []) y → Contains xs y ⊎ (x ≡ y)
@@ -282,8 +282,8 @@ named_from rows n r Unsound h = inl h
 
 -- ---- the pieces
 
-own_more : (g : Geometry) (n : ℕ) (rows : List ℕ) (o : Origin) (piece : List ℕ) (ps : List (List ℕ)) → n < row_count g → AreListed n rows → length piece ≡ page_bytes g → (o ≡ Conflict → piece ≡ replicate (page_bytes g) 0)
-    → AreOwn g n rows ps → AreOwn g (n + 1) (named rows n o) (set ps n piece)
+own_more : (g : Geometry) (n : ℕ) (rows : List ℕ) (o : Origin) (piece : List ℕ) (ps : List (List ℕ)) → n < row_count g → AreRowsListed n rows → length piece ≡ page_bytes g → (o ≡ Conflict → piece ≡ replicate (page_bytes g) 0)
+    → AreMergedPieces g n rows ps → AreMergedPieces g (n + 1) (named rows n o) (set ps n piece)
 own_more g n rows o piece ps within listed size zero h =
     let inside : n < length ps = (let all = h.size in omega arith) in
     let here : get_or (set ps n piece) n [] ≡ piece = get_or-set_same ps n piece [] inside in
@@ -316,7 +316,7 @@ stands_more g n rows t o old scratch pieces within h size zero = record {
   scratch_size = size;
   few = few_more n t o h.few;
   listed = listed_more n rows o h.listed;
-  own = if_set pieces (AreOwn g n rows) (AreOwn g (n + 1) (named rows n o)) n scratch h.own (λ ps own. own_more g n rows o scratch ps within h.listed size zero own);
+  own = if_set pieces (AreMergedPieces g n rows) (AreMergedPieces g (n + 1) (named rows n o)) n scratch h.own (λ ps own. own_more g n rows o scratch ps within h.listed size zero own);
 }
 
 written_more : (g : Geometry) (of : ℕ → List Page) (n : ℕ) (piece : List ℕ) (ps : List (List ℕ)) → n < length ps → piece ≡ piece_of g (of n) → ((row : ℕ) → row < n → get_or ps row [] ≡ piece_of g (of row))
@@ -334,7 +334,7 @@ shows_more g of n rows t pages o old scratch pieces within stands h are written 
     record {
       conflicts_are = ap (λ xs. named xs n o) h.conflicts_are ∙ (ap (named (conflicts_below g of n) n) origin ∙ sym (conflicts_more g of n));
       tally_is = ap (λ x. with_origin_counted x o) h.tally_is ∙ (ap (with_origin_counted (tally_below g of n)) origin ∙ sym (tally_more g of n));
-      pieces_are = both_set pieces (AreOwn g n rows) (λ ps. (row : ℕ) → row < n → get_or ps row [] ≡ piece_of g (of row)) (λ ps. (row : ℕ) → row < n + 1 → get_or ps row [] ≡ piece_of g (of row)) n scratch stands.own h.pieces_are
+      pieces_are = both_set pieces (AreMergedPieces g n rows) (λ ps. (row : ℕ) → row < n → get_or ps row [] ≡ piece_of g (of row)) (λ ps. (row : ℕ) → row < n + 1 → get_or ps row [] ≡ piece_of g (of row)) n scratch stands.own h.pieces_are
           (λ ps own each. written_more g of n scratch ps (let size = own.size in omega arith) piece each);
     }
 
@@ -421,7 +421,7 @@ stands_first g scratch pieces size whole = record {
   scratch_size = size;
   few = record { sound = omega arith; majority = omega arith; turned = omega arith; erased = omega arith; unsound = omega arith };
   listed = none_listed;
-  own = if_more pieces (λ ps. length ps ≡ row_count g) (AreOwn g 0 []) whole (λ ps all. record {
+  own = if_more pieces (λ ps. length ps ≡ row_count g) (AreMergedPieces g 0 []) whole (λ ps all. record {
     size = all;
     sized = λ row l. absurd (omega arith);
     zeros = λ row at. absurd (let l = at.1 in omega arith);

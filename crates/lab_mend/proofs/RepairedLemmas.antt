@@ -22,7 +22,7 @@ use Rattle.lab_mend.specs.declared.repairing.Mend.{Mend}
 use Rattle.lab_mend.specs.declared.repairing.RepairAsked.{RepairAsked}
 use Rattle.lab_mend.specs.Pairs as Pairs
 use Rattle.lab_mend.specs.Pairs.{page_turn_of, turned_back}
-use Rattle.lab_mend.specs.Repairing.{as_mend, turn_at, mend_in, mends_below, repaired_bytes, piece_to_write, AreMendedBelow, IsTurnTold, IsOwn, AreOwn, OwnRepairLaw, ShowsRepair, RepairingStands}
+use Rattle.lab_mend.specs.Repairing.{as_mend, turn_at, mend_in, mends_below, repaired_bytes, piece_to_write, AreMendedBelow, IsTurnTold, IsOwn, AreMendedOwn, OwnRepairLaw, ShowsRepair, RepairingStands}
 use Rattle.lab_mend.specs.Repaired.{pieces_of, IsRepaired, RepairedRowsLaw}
 use Rattle.lab_mend.proofs.PairLemmas.{back_again, left_so}
 
@@ -107,7 +107,7 @@ repaired g asked ms scratch pieces bytes stands taken =
     let shown : ShowsRepair asked (row_count g) image ms pieces = taken.shown in
     record {
       whole = taken.whole;
-      pages = if_both pieces (AreOwn g asked (row_count g) ms) (AreMendedBelow asked image (row_count g)) (λ ps. ps ≡ pieces_of asked image) stands.own shown.pieces_are (λ ps own each. pieces_read g asked image ps rows own.size each);
+      pages = if_both pieces (AreMendedOwn g asked (row_count g) ms) (AreMendedBelow asked image (row_count g)) (λ ps. ps ≡ pieces_of asked image) stands.own shown.pieces_are (λ ps own each. pieces_read g asked image ps rows own.size each);
       mends_are = shown.mends_are ∙ ap (mends_below asked image) (sym rows);
     }
 

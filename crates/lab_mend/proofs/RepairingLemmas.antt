@@ -16,7 +16,7 @@ use Rattle.lab_dump.proofs.ScanLemmas.{if_more}
 use Rattle.lab_mend.specs.declared.pairs.BitTurn.{BitTurn}
 use Rattle.lab_mend.specs.declared.repairing.Mend.{Mend}
 use Rattle.lab_mend.specs.declared.repairing.RepairAsked.{RepairAsked}
-use Rattle.lab_mend.specs.Repairing.{as_mend, turn_at, mend_in, mends_with_row, mends_below, piece_to_write, AreMendedBelow, ShowsRepair, named_turn, IsOwn, AreOwn, AreListed, RepairingStands}
+use Rattle.lab_mend.specs.Repairing.{as_mend, turn_at, mend_in, mends_with_row, mends_below, piece_to_write, AreMendedBelow, ShowsRepair, named_turn, IsOwn, AreMendedOwn, AreMendsListed, RepairingStands}
 use Rattle.lab_dump.specs.Rooms.{HasRowRoom}
 
 -- ---- the list of an image
@@ -91,7 +91,7 @@ named_other ms row j (Some k) ne = named_push_other ms row k j ne
 wider : (row : ℕ) (ms : List Mend) → All (λ m. m.row < row) ms → All (λ m. m.row < row + 1) ms
 wider row ms h = All-weaker (λ (m : Mend). m.row < row) (λ (m : Mend). m.row < row + 1) (λ m l. (omega arith)) ms h
 
-pub listed_noted : (ms : List Mend) (row : ℕ) (o : Option BitTurn) → AreListed row ms → AreListed (row + 1) (mends_with_row ms row o)
+pub listed_noted : (ms : List Mend) (row : ℕ) (o : Option BitTurn) → AreMendsListed row ms → AreMendsListed (row + 1) (mends_with_row ms row o)
 listed_noted ms row None h = record { within = wider row ms h.within; rising = h.rising }
 listed_noted ms row (Some k) h =
     let m : Mend = as_mend row k in
@@ -101,8 +101,8 @@ listed_noted ms row (Some k) h =
     }
 
 pub own_noted : (g : Geometry) (asked : RepairAsked) (row : ℕ) (ms : List Mend) (o : Option BitTurn) (piece : List ℕ) (ps : List (List ℕ))
-    → row < row_count g → AreListed row ms → IsOwn g asked row o piece → AreOwn g asked row ms ps
-    → AreOwn g asked (row + 1) (mends_with_row ms row o) (set ps row piece)
+    → row < row_count g → AreMendsListed row ms → IsOwn g asked row o piece → AreMendedOwn g asked row ms ps
+    → AreMendedOwn g asked (row + 1) (mends_with_row ms row o) (set ps row piece)
 own_noted g asked row ms o piece ps within listed own h = record {
   size = length-set ps row piece ∙ h.size;
   each = λ j l. elim (cases_eq row j) [
@@ -134,7 +134,7 @@ pub stands_more : (g : Geometry) (asked : RepairAsked) (row : ℕ) (ms : List Me
 stands_more g asked row ms o scratch pieces within h own = record {
   scratch_size = h.scratch_size;
   listed = listed_noted ms row o h.listed;
-  own = if_set pieces (AreOwn g asked row ms) (AreOwn g asked (row + 1) (mends_with_row ms row o)) row scratch h.own (λ ps each. own_noted g asked row ms o scratch ps within h.listed own each);
+  own = if_set pieces (AreMendedOwn g asked row ms) (AreMendedOwn g asked (row + 1) (mends_with_row ms row o)) row scratch h.own (λ ps each. own_noted g asked row ms o scratch ps within h.listed own each);
 }
 
 both_set : (pieces : Option (List (List ℕ))) (P Q R : List (List ℕ) → Type 0) (row : ℕ) (piece : List ℕ) → IfSome pieces P → IfSome pieces Q → ((ps : List (List ℕ)) → P ps → Q ps → R (set ps row piece)) → IfSome (option_map (λ ps. set ps row piece) pieces) R
@@ -145,7 +145,7 @@ pub shows_more : (g : Geometry) (asked : RepairAsked) (row : ℕ) (image : Image
     → slice_get image row ≡ Some p → scratch ≡ piece_to_write asked row p → ShowsRepair asked (row + 1) image (mends_with_row ms row (turn_at asked row p)) (option_map (λ ps. set ps row scratch) pieces)
 shows_more g asked row image p ms scratch pieces within stands h at is = record {
   mends_are = ap (λ xs. mends_with_row xs row (turn_at asked row p)) h.mends_are ∙ sym (mends_more asked image row p at);
-  pieces_are = both_set pieces (AreOwn g asked row ms) (AreMendedBelow asked image row) (AreMendedBelow asked image (row + 1)) row scratch stands.own h.pieces_are
+  pieces_are = both_set pieces (AreMendedOwn g asked row ms) (AreMendedBelow asked image row) (AreMendedBelow asked image (row + 1)) row scratch stands.own h.pieces_are
       (λ ps own each. subst (λ x. AreMendedBelow asked image (row + 1) (set ps row x)) (sym is) (mended_more asked image row p ps at (let size = own.size in omega arith) each));
 }
 
@@ -162,7 +162,7 @@ pub stands_first : (g : Geometry) (asked : RepairAsked) (scratch : List ℕ) (pi
 stands_first g asked scratch pieces size whole = record {
   scratch_size = size;
   listed = record { within = All-nil (λ (m : Mend). m.row < 0); rising = λ i j d l k. absurd (omega arith) };
-  own = if_more pieces (λ ps. length ps ≡ row_count g) (AreOwn g asked 0 []) whole (λ ps all. record { size = all; each = λ row l. absurd (omega arith) });
+  own = if_more pieces (λ ps. length ps ≡ row_count g) (AreMendedOwn g asked 0 []) whole (λ ps all. record { size = all; each = λ row l. absurd (omega arith) });
 }
 
 pub shows_first : (asked : RepairAsked) (image : Image) (pieces : Option (List (List ℕ))) → ShowsRepair asked 0 image [] pieces

@@ -14,7 +14,7 @@ use Rattle.lab_mend.specs.declared.merging.RowTally.{RowTally}
 use Rattle.lab_mend.specs.declared.merging.TriedRow.{TriedRow}
 use Rattle.lab_mend.specs.declared.merge.MergeFault.{MergeFault}
 use Rattle.lab_mend.specs.declared.merge.MergeFault.TheVariants as fault
-use Rattle.lab_mend.specs.Merging.{piece_of, conflicts_below, unsound_rows_below, tried_below, tally_below, AreListed, AreTried, AreOwn}
+use Rattle.lab_mend.specs.Merging.{piece_of, conflicts_below, unsound_rows_below, tried_below, tally_below, AreRowsListed, AreTried, AreMergedPieces}
 
 -- the pages of a row, one of each reading
 abbrev pub pages_of_row : Geometry → List (List ℕ) → ℕ → List Page
@@ -33,10 +33,10 @@ pub record IsMerged (g : Geometry) (files : List (List ℕ)) (conflicts unsound 
 
 -- whatever the readers gave
 pub record IsOwnMerge (g : Geometry) (conflicts unsound : List ℕ) (tried : List TriedRow) (pieces : Option (List (List ℕ))) : Type 0 where
-  pub listed : AreListed (row_count g) conflicts
-  pub unsound_listed : AreListed (row_count g) unsound
+  pub listed : AreRowsListed (row_count g) conflicts
+  pub unsound_listed : AreRowsListed (row_count g) unsound
   pub tried_listed : AreTried (row_count g) tried
-  pub own : IfSome pieces (AreOwn g (row_count g) conflicts)
+  pub own : IfSome pieces (AreMergedPieces g (row_count g) conflicts)
 
 -- `WrongLength` says of the reading of that number that its bytes aren't as many as an image has
 abbrev pub IsUnmerged : Geometry → List (List ℕ) → MergeFault → Type 0

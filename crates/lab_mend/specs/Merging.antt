@@ -119,13 +119,13 @@ pub record ShowsMerge (g : Geometry) (rows : ℕ → List Page) (n : ℕ) (confl
 -- ---- whatever the pages were
 
 -- each of the first pieces has as many bytes as a page, and those of the rows that are named are 00h bytes
-pub record AreOwn (g : Geometry) (n : ℕ) (conflicts : List ℕ) (pieces : List (List ℕ)) : Type 0 where
+pub record AreMergedPieces (g : Geometry) (n : ℕ) (conflicts : List ℕ) (pieces : List (List ℕ)) : Type 0 where
   pub size : length pieces ≡ row_count g
   pub sized : (row : ℕ) → row < n → length (get_or pieces row []) ≡ page_bytes g
   pub zeros : (row : ℕ) → Contains conflicts row → get_or pieces row [] ≡ replicate (page_bytes g) 0
 
 -- rows among the first ones, each once, by rising row
-pub record AreListed (n : ℕ) (conflicts : List ℕ) : Type 0 where
+pub record AreRowsListed (n : ℕ) (conflicts : List ℕ) : Type 0 where
   pub within : All (λ row. row < n) conflicts
   pub rising : AllPairs (λ a b. a < b) conflicts
 
@@ -144,5 +144,5 @@ pub record IsTallyWithin (n : ℕ) (tally : RowTally) : Type 0 where
 pub record MergingStands (g : Geometry) (n : ℕ) (conflicts : List ℕ) (tally : RowTally) (scratch : List ℕ) (pieces : Option (List (List ℕ))) : Type 0 where
   pub scratch_size : length scratch ≡ page_bytes g
   pub few : IsTallyWithin n tally
-  pub listed : AreListed n conflicts
-  pub own : IfSome pieces (AreOwn g n conflicts)
+  pub listed : AreRowsListed n conflicts
+  pub own : IfSome pieces (AreMergedPieces g n conflicts)

@@ -9,7 +9,7 @@ use Rattle.lab_dump.specs.Scan.{image_bytes}
 use Rattle.lab_dump.specs.Rows.{is_asked}
 use Rattle.lab_mend.specs.declared.repairing.Mend.{Mend}
 use Rattle.lab_mend.specs.declared.repairing.RepairAsked.{RepairAsked}
-use Rattle.lab_mend.specs.Repairing.{mends_below, repaired_bytes, piece_to_write, AreOwn, AreListed}
+use Rattle.lab_mend.specs.Repairing.{mends_below, repaired_bytes, piece_to_write, AreMendedOwn, AreMendsListed}
 
 -- the rows whose pages were to be mended, each with what was turned, by rising row
 abbrev pub mends_of : RepairAsked → Image → List Mend
@@ -27,8 +27,8 @@ pub record IsRepaired (g : Geometry) (asked : RepairAsked) (pieces : Option (Lis
 
 -- whatever the reader gave, each piece is what is written of a page, by what the list names of its row
 pub record IsOwnRepair (g : Geometry) (asked : RepairAsked) (pieces : Option (List (List ℕ))) (mends : List Mend) : Type 0 where
-  pub listed : AreListed (row_count g) mends
-  pub own : IfSome pieces (AreOwn g asked (row_count g) mends)
+  pub listed : AreMendsListed (row_count g) mends
+  pub own : IfSome pieces (AreMendedOwn g asked (row_count g) mends)
 
 -- ---- law
 

@@ -84,19 +84,19 @@ pub record IsOwn (g : Geometry) (asked : RepairAsked) (row : ℕ) (named : Optio
   pub turn_is : turn_at asked row (turned_back (page_from_bytes g.data_bytes piece) named) ≡ named
 
 -- each of the first pieces is so, by what the list names of its row
-pub record AreOwn (g : Geometry) (asked : RepairAsked) (rows : ℕ) (mends : List Mend) (pieces : List (List ℕ)) : Type 0 where
+pub record AreMendedOwn (g : Geometry) (asked : RepairAsked) (rows : ℕ) (mends : List Mend) (pieces : List (List ℕ)) : Type 0 where
   pub size : length pieces ≡ row_count g
   pub each : (row : ℕ) → row < rows → IsOwn g asked row (named_turn mends row) (get_or pieces row [])
 
 -- the list names rows among the first ones, each once, by rising row
-pub record AreListed (rows : ℕ) (mends : List Mend) : Type 0 where
+pub record AreMendsListed (rows : ℕ) (mends : List Mend) : Type 0 where
   pub within : All (λ m. m.row < rows) mends
   pub rising : AllPairs (λ a b. a.row < b.row) mends
 
 pub record RepairingStands (g : Geometry) (asked : RepairAsked) (rows : ℕ) (mends : List Mend) (scratch : List ℕ) (pieces : Option (List (List ℕ))) : Type 0 where
   pub scratch_size : length scratch ≡ page_bytes g
-  pub listed : AreListed rows mends
-  pub own : IfSome pieces (AreOwn g asked rows mends)
+  pub listed : AreMendsListed rows mends
+  pub own : IfSome pieces (AreMendedOwn g asked rows mends)
 
 -- ---- law
 

@@ -4,7 +4,7 @@ ghost use Rattle.page_layout.specs.Geometry.{page_bytes, row_count};
 ghost use Rattle.page_layout.specs.Page.{Page};
 ghost use Rattle.lab_dump.specs.Scan.{image_bytes, Tell};
 ghost use Rattle.lab_mend.specs.InStep.{AreAt};
-ghost use Rattle.lab_mend.specs.Merging.{AreListed, AreTried, MergingStands, ShowsMerge, tried_below, unsound_rows_below};
+ghost use Rattle.lab_mend.specs.Merging.{AreRowsListed, AreTried, MergingStands, ShowsMerge, tried_below, unsound_rows_below};
 ghost use Rattle.lab_dump.specs.Rooms.{HasRowRoom};
 ghost use Rattle.lab_mend.specs.Tried.{IsTrialRoom};
 ghost use Rattle.lab_mend.specs.Merged.{IsMerged, IsOfReading, IsOwnMerge, IsPinned, IsUnmerged, pages_of_row};
@@ -115,7 +115,7 @@ fn merge_rows<R: DumpReader, T: PageTarget>(
         → ShowsMerge geometry.now (pages_of_row geometry.now files) (row_count geometry.now) merging.new.conflicts.items merging.new.tally (T.pieces merging.new.target)) }
     ensures unsound { OnOk result ((files : List (List ℕ)) → AreAt (map R.remaining readers.old) files 0
         → merging.new.unsound.items ≡ unsound_rows_below geometry.now (pages_of_row geometry.now files) (row_count geometry.now)) }
-    ensures listed { OnOk result (AreListed (row_count geometry.now) merging.new.unsound.items) }
+    ensures listed { OnOk result (AreRowsListed (row_count geometry.now) merging.new.unsound.items) }
     ensures tried { OnOk result ((files : List (List ℕ)) → AreAt (map R.remaining readers.old) files 0
         → merging.new.tried.items ≡ tried_below geometry.now (pages_of_row geometry.now files) (row_count geometry.now)) }
     ensures tried_listed { OnOk result (AreTried (row_count geometry.now) merging.new.tried.items) }

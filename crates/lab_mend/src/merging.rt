@@ -3,7 +3,7 @@ ghost use Rattle.std.specs.Prelude.{◌≡◌, ◌<◌, ◌+◌, ◌*◌, ◌^�
 ghost use Rattle.page_layout.specs.Geometry.{page_bytes, row_count};
 ghost use Rattle.page_layout.specs.Page.{Page};
 ghost use Rattle.lab_mend.specs.Pages.{pages_in};
-ghost use Rattle.lab_mend.specs.Merging.{AreListed, AreTried, MergingStands, ShowsMerge, with_origin_counted, named, tried_below, tried_row, unsound_rows_below, with_tried, with_unsound};
+ghost use Rattle.lab_mend.specs.Merging.{AreRowsListed, AreTried, MergingStands, ShowsMerge, with_origin_counted, named, tried_below, tried_row, unsound_rows_below, with_tried, with_unsound};
 ghost use Rattle.lab_dump.specs.Rooms.{HasRowRoom};
 ghost use Rattle.lab_mend.specs.Tried.{IsTrialRoom};
 
@@ -146,7 +146,7 @@ impl<T: PageTarget> Merging<T> {
         ensures stands { OnOk result (MergingStands geometry.now (row + 1) self.new.conflicts.items self.new.tally self.new.scratch.items (T.pieces self.new.target)) }
         ensures unsound { OnOk result ((rows : ℕ → List Page) → rows row ≡ pages_in geometry.now pages.now count
             → self.old.unsound.items ≡ unsound_rows_below geometry.now rows row → self.new.unsound.items ≡ unsound_rows_below geometry.now rows (row + 1)) }
-        ensures listed { OnOk result (AreListed row self.old.unsound.items → AreListed (row + 1) self.new.unsound.items) }
+        ensures listed { OnOk result (AreRowsListed row self.old.unsound.items → AreRowsListed (row + 1) self.new.unsound.items) }
         ensures tried { OnOk result ((rows : ℕ → List Page) → rows row ≡ pages_in geometry.now pages.now count
             → self.old.tried.items ≡ tried_below geometry.now rows row → self.new.tried.items ≡ tried_below geometry.now rows (row + 1)) }
         ensures tried_listed { OnOk result (AreTried row self.old.tried.items → AreTried (row + 1) self.new.tried.items) }

@@ -7,7 +7,7 @@ use Rattle.std.specs.List.{range_with_len}
 use Rattle.std.proofs.lemmas.Bool.{cases_lt, lt-ltb, le-ltb, ltb-true, true≢false}
 use Rattle.page_layout.specs.declared.geometry.Geometry.{Geometry}
 use Rattle.page_layout.specs.Geometry.{row_count}
-use Rattle.lab_dump.specs.Sample.{is_sound, look_at, looked_by, looked_count, looked_row, sample_of}
+use Rattle.lab_dump.specs.Sample.{is_sound_look, look_at, looked_by, looked_count, looked_row, sample_of}
 use Rattle.lab_dump.specs.declared.sample.Sample.{Sample}
 use Rattle.lab_dump.proofs.SampleLemmas.{count_last, one}
 use Rattle.page_layout.specs.declared.record.Record.{Record}
@@ -35,7 +35,7 @@ count_rises test n (suc k) =
 pub sound_rises : (g : Geometry) (all : List ℕ) (n m : ℕ) → n ≤ m → (sample_first g all n).sound ≤ (sample_first g all m).sound
 unfolding looked_by
 sound_rises g all n m l =
-    let test : ℕ → Bool = λ place. is_sound (look_at g.data_bytes g.spare_bytes all (looked_row (row_count g) place)) in
+    let test : ℕ → Bool = λ place. is_sound_look (look_at g.data_bytes g.spare_bytes all (looked_row (row_count g) place)) in
     let there : n + (m - n) ≡ m = omega arith in
     subst (λ k. count_by test (range_with_len 0 n) ≤ count_by test (range_with_len 0 k)) there (count_rises test n (m - n))
 
@@ -64,24 +64,24 @@ shows_not b clear set = true≢false (sym set ∙ clear)
 abbrev pub none_below : Geometry → List ℕ → ℕ → Type 0
 none_below g all places = (sample_first g all places).sound ≡ 0
 
-sound_more : (g : Geometry) (all : List ℕ) (place : ℕ) → (sample_first g all (place + 1)).sound ≡ (sample_first g all place).sound + one (is_sound (look_in g all (looked_row (row_count g) place)))
+sound_more : (g : Geometry) (all : List ℕ) (place : ℕ) → (sample_first g all (place + 1)).sound ≡ (sample_first g all place).sound + one (is_sound_look (look_in g all (looked_row (row_count g) place)))
 unfolding looked_by
-sound_more g all place = count_last (λ k. is_sound (look_in g all (looked_row (row_count g) k))) place
+sound_more g all place = count_last (λ k. is_sound_look (look_in g all (looked_row (row_count g) k))) place
 
 pub none_first : (g : Geometry) (all : List ℕ) → none_below g all 0
 unfolding looked_by
 none_first g all = refl
 
-pub none_more : (g : Geometry) (all : List ℕ) (place row : ℕ) (b : Bool) → row ≡ looked_row (row_count g) place → b ≡ is_sound (look_in g all row) → b ≡ false → none_below g all place → none_below g all (place + 1)
+pub none_more : (g : Geometry) (all : List ℕ) (place row : ℕ) (b : Bool) → row ≡ looked_row (row_count g) place → b ≡ is_sound_look (look_in g all row) → b ≡ false → none_below g all place → none_below g all (place + 1)
 none_more g all place row b at is clear none =
-    let here : is_sound (look_in g all (looked_row (row_count g) place)) ≡ false = ap (λ r. is_sound (look_in g all r)) (sym at) ∙ (sym is ∙ clear) in
+    let here : is_sound_look (look_in g all (looked_row (row_count g) place)) ≡ false = ap (λ r. is_sound_look (look_in g all r)) (sym at) ∙ (sym is ∙ clear) in
     sound_more g all place ∙ (ap (λ k. (sample_first g all place).sound + one k) here ∙ (let zero : (sample_first g all place).sound + 0 ≡ 0 = omega (arith, none) in zero))
 
-pub shows_one : (g : Geometry) (all : List ℕ) (place row : ℕ) (b : Bool) → row ≡ looked_row (row_count g) place → b ≡ is_sound (look_in g all row) → b ≡ true → place < min (row_count g) 64 → true ≡ shows_sound g all
+pub shows_one : (g : Geometry) (all : List ℕ) (place row : ℕ) (b : Bool) → row ≡ looked_row (row_count g) place → b ≡ is_sound_look (look_in g all row) → b ≡ true → place < min (row_count g) 64 → true ≡ shows_sound g all
 shows_one g all place row b at is set l =
-    let here : is_sound (look_in g all (looked_row (row_count g) place)) ≡ true = ap (λ r. is_sound (look_in g all r)) (sym at) ∙ (sym is ∙ set) in
+    let here : is_sound_look (look_in g all (looked_row (row_count g) place)) ≡ true = ap (λ r. is_sound_look (look_in g all r)) (sym at) ∙ (sym is ∙ set) in
     let more = sound_more g all place in
-    let counted : one (is_sound (look_in g all (looked_row (row_count g) place))) ≡ 1 = ap one here in
+    let counted : one (is_sound_look (look_in g all (looked_row (row_count g) place))) ≡ 1 = ap one here in
     let rise = sound_rises g all (place + 1) (min (row_count g) 64) (omega (arith, l)) in
     sym (lt-ltb 0 (sample_first g all (min (row_count g) 64)).sound (omega (arith, more, counted, rise)))
 
@@ -110,18 +110,18 @@ unspelled p none = by (has_form p.spare) (has_seal p) (option_map (record_in p.s
 
 -- a page whose spare area spells no record is not sound
 pub spells_none : (g : Geometry) (a : Arrangement) (all : List ℕ) (row : ℕ) (spare : List ℕ) (found : Option Record) → row < row_count g → spare ≡ spare_at g a all row → found ≡ spelled spare → is_some found ≡ false
-    → false ≡ is_sound (look_in g (ordered g a all) row)
+    → false ≡ is_sound_look (look_in g (ordered g a all) row)
 unfolding look_of
 spells_none g a all row spare found l spare_is found_is none =
     let p : Page = page_from_bytes g.data_bytes (arranged_piece g a all row) in
     let unread : spelled p.spare ≡ None = ap spelled (sym spare_is) ∙ (sym found_is ∙ none_in found none) in
-    unsound (is_erased_page p) ∙ (ap (λ o. is_sound (look_by o (is_erased_page p))) (sym (unspelled p unread)) ∙ ap (λ q. is_sound (look_of q)) (sym (ordered_page g a all row l)))
+    unsound (is_erased_page p) ∙ (ap (λ o. is_sound_look (look_by o (is_erased_page p))) (sym (unspelled p unread)) ∙ ap (λ q. is_sound_look (look_of q)) (sym (ordered_page g a all row l)))
   where
     none_in : (o : Option Record) → is_some o ≡ false → o ≡ None
     none_in None e = refl
     none_in (Some r) e = absurd (true≢false e)
 
-    unsound : (erased : Bool) → false ≡ is_sound (look_by None erased)
+    unsound : (erased : Bool) → false ≡ is_sound_look (look_by None erased)
     unsound true = refl
     unsound false = refl
 

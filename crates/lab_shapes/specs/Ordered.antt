@@ -6,7 +6,7 @@ use Rattle.page_layout.specs.Geometry.{row_count}
 use Rattle.page_layout.specs.declared.look.PageLook.{PageLook}
 use Rattle.page_layout.specs.declared.look.PageLook.TheVariants.{Sound, Erased, Unsound}
 use Rattle.lab_dump.specs.declared.sample.Sample.{Sample}
-use Rattle.lab_dump.specs.Sample.{is_sound, is_unsound, look_at, looked_by, looked_count, looked_row}
+use Rattle.lab_dump.specs.Sample.{is_sound_look, is_unsound, look_at, looked_by, looked_count, looked_row}
 use Rattle.lab_arrange.specs.declared.arrangement.Arrangement.{Arrangement}
 use Rattle.lab_arrange.specs.Arranged.{pieces_below}
 
@@ -22,7 +22,7 @@ look_in g all row = look_at g.data_bytes g.spare_bytes all row
 abbrev pub sample_first : Geometry → List ℕ → ℕ → Sample
 sample_first g all places = record {
   looked = looked_count (row_count g);
-  sound = looked_by is_sound g.data_bytes g.spare_bytes (row_count g) all places;
+  sound = looked_by is_sound_look g.data_bytes g.spare_bytes (row_count g) all places;
   unsound = looked_by is_unsound g.data_bytes g.spare_bytes (row_count g) all places;
 }
 
@@ -54,7 +54,7 @@ may_follow x Unsound = false
 
 -- whether it is sound, and the first one or one that may follow
 abbrev pub follows : Option PageLook → PageLook → Bool
-follows None x = is_sound x
+follows None x = is_sound_look x
 follows (Some before) x = may_follow before x
 
 -- whether the page of a row is in its turn

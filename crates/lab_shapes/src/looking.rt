@@ -106,7 +106,7 @@ pub(crate) fn told_in_order<D: Dump>(
 
 // Whether a page is sound.
 fn is_sound(look: PageLook) -> bool
-    ensures { result ≡ Rattle.lab_dump.specs.Sample.is_sound look }
+    ensures { result ≡ Rattle.lab_dump.specs.Sample.is_sound_look look }
 {
     matches!(look, PageLook::Sound(_))
 }
@@ -173,7 +173,7 @@ fn is_sound_in_order<D: Dump>(
     requires row { row < row_count geometry.now }
     requires page_room { length page.old ≡ page_bytes geometry.now }
     requires raw_room { length raw.old ≡ page_bytes geometry.now + 2 }
-    ensures sound { IfOk result (λ sound. (all : List ℕ) → D.bytes dump.old ≡ Some all → size ≡ length all → sound ≡ Rattle.lab_dump.specs.Sample.is_sound (look_in geometry.now (ordered geometry.now arrangement.now all) row)) }
+    ensures sound { IfOk result (λ sound. (all : List ℕ) → D.bytes dump.old ≡ Some all → size ≡ length all → sound ≡ Rattle.lab_dump.specs.Sample.is_sound_look (look_in geometry.now (ordered geometry.now arrangement.now all) row)) }
     ensures failed { OnErr result (D.failed dump.new ≡ true) }
     ensures same { D.bytes dump.new ≡ D.bytes dump.old }
 {

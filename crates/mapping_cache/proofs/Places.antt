@@ -1,4 +1,4 @@
--- Where a sector stands on a list by sector, and what the list is with and without_sector it.
+-- Where a sector stands on a list by sector, and what the list is with and without it.
 use Rattle.std.proofs.Common.{◌≡◌, ◌≢◌, ℕ, zero, suc, ◌+◌, ◌-◌, ◌/◌, ◌<◌, ◌≤◌, ◌∙◌, Bool, true, false, not, cond, eqb, ltb, List, [], ◌∷◌, ◌++◌, length}
 use Rattle.std.proofs.Common.{take, drop, set, get_or, filter, Option, Some, None, refl, sym, ap, subst, arith, inl, inr, is_some}
 use Rattle.std.specs.List.{IsDistinct, AllByRecursion, insert, remove}
@@ -157,7 +157,7 @@ module _ (n : ℕ) (ms : List (ℕ × ℕ)) (i : ℕ) (s : IsBySector ms) (p : I
   pub nowhere_is : length ms ≤ i → false ≡ is_some (lookup (eqb n) ms)
   nowhere_is l = sym (ap is_some (lookup_none_at (0, 0) (λ k_in. absurd (omega arith))))
 
-  -- ---- and what the list is then without_sector n, and with a row for it
+  -- ---- and what the list is then without n, and with a row for it
   alone : (d : ℕ × ℕ) → i < length ms → (get_or ms i d).0 ≡ n → (k : ℕ) → i + 1 ≤ k → k < length ms → eqb (get_or ms k d).0 n ≡ false
   alone d l e k a b = ne_eqb _ n (λ same. let up = sectors_rise ms s i k d (omega arith) b in omega arith)
 
@@ -248,7 +248,7 @@ module _ (n row : ℕ) where
       (λ y. cond-true _ _ _ y ∙ ap (λ xs. e ∷ xs) (moved_in-placed pp t es ne) ∙ sym (cond-true _ _ _ y))
       (λ f. cond-false _ _ _ f ∙ moved_in-placed pp t es ne ∙ sym (cond-false _ _ _ f)))
 
-  -- and without_sector its own page neither
+  -- and without its own page neither
   pub without_page-placed : (pp : ℕ) (ms : List (ℕ × ℕ)) → without_page pp (n / pp) (placed n row ms) ≡ without_page pp (n / pp) ms
   without_page-placed pp [] = cond-false _ _ _ (ap not (eq-eqb (n / pp) (n / pp) refl))
   without_page-placed pp (e ∷ es) = first_of (λ xs. without_page pp (n / pp) xs ≡ without_page pp (n / pp) (e ∷ es)) e es

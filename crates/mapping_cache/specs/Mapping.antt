@@ -102,7 +102,7 @@ pub record HasLimitsOf (old new : MappingState) : Type 0 where
 
 -- ---- the conditions of calls
 
--- a sector can be cached without_sector dropping a dirty entry
+-- a sector can be cached without dropping a dirty entry
 abbrev pub CanLoad : MappingState → ℕ → Type 0
 CanLoad m n = slot_of m n ≡ None → length m.cached ≡ m.capacity → ForSome (last_entry m.cached) (λ e. e.1.dirty ≡ false)
 
@@ -121,11 +121,11 @@ abbrev pub new_slot : Option ℕ → Option ℕ → Slot
 new_slot (Some r) row = record { row = Some r; dirty = true }
 new_slot None row = record { row = row; dirty = false }
 
--- the moved list without_sector sector n
+-- the moved list without sector n
 abbrev pub without_sector : ℕ → List (ℕ × ℕ) → List (ℕ × ℕ)
 without_sector n ms = filter (λ e. not (e.0 == n)) ms
 
--- the moved list without_sector the sectors of page t
+-- the moved list without the sectors of page t
 abbrev pub without_page : ℕ → ℕ → List (ℕ × ℕ) → List (ℕ × ℕ)
 without_page per_page t ms = filter (λ e. not (e.0 / per_page == t)) ms
 
@@ -145,7 +145,7 @@ loaded m n row = loaded_by (slot_of m n) m n row
 abbrev pub with_dirty : MappingState → ℕ → Option ℕ → MappingState
 with_dirty m n row = record m { cached = set_value (nat_eq n) m.cached (record { row = row; dirty = true }) }
 
--- without_sector the least recently used entry
+-- without the least recently used entry
 abbrev pub dropped : MappingState → MappingState
 dropped m = record m { cached = take (length m.cached - 1) m.cached }
 

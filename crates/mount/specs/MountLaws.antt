@@ -13,7 +13,7 @@ use Rattle.image_check.specs.declared.refusal.Refusal.{Refusal}
 use Rattle.image_check.specs.declared.refusal.Refusal.TheVariants as refusals
 use Rattle.image_check.specs.Accepted.{Acceptance, IsAcceptance}
 use Rattle.image_check.specs.Agrees.{AreInRange}
-use Rattle.image_check.specs.Refused.{IsRefusal, IsRepeated, StopsCheck}
+use Rattle.image_check.specs.Refused.{IsRefusal, RepeatsSequence, StopsCheck}
 use Rattle.image_check.specs.Stale.{stale_count}
 use Rattle.mount.specs.Mounted.{IsMounted, Refuses}
 
@@ -34,7 +34,7 @@ IsShared r = (first : ℕ) × (second : ℕ) × (r ≡ refusals.SequenceRepeated
 -- An image whose numbers are in range, and two of whose sound pages share a sequence, is refused for that and for nothing
 -- else, memory and page reads aside. So is a tie of the only pages of a table page.
 abbrev pub SharedLaw : Type 0
-SharedLaw = (g : Geometry) (capacity : ℕ) (image : Image) (a b : ℕ) (r : Refusal) → AreInRange g (marks image) → IsRepeated (marks image) a b → Refuses g capacity image r → StopsCheck r ⊎ IsShared r
+SharedLaw = (g : Geometry) (capacity : ℕ) (image : Image) (a b : ℕ) (r : Refusal) → AreInRange g (marks image) → RepeatsSequence (marks image) a b → Refuses g capacity image r → StopsCheck r ⊎ IsShared r
 
 -- some page is sound and of the key
 pub record HasSoundPage (marks : List (Option Record)) (key : Key) : Type 0 where

@@ -7,7 +7,7 @@ use Rattle.nbd_stream.specs.declared.task.Task.{Task}
 use Rattle.nbd_stream.specs.Frames.{NbdRequest, IsNbdRequest}
 use Rattle.nbd_stream.specs.Disk.{Contents, IsOldOrDue, bytes_after, bytes_given, is_in, makes_last, value_at}
 use Rattle.nbd_stream.specs.Exchanges.{NbdExchange, requests_in, task_of}
-use Rattle.nbd_stream.specs.Runs.{AnswersBy, Runs, AreForExport, IsSet, IsToLast, answer_by, bytes_left, array_exchanges, bytes_left_by, value_by, value_set_by}
+use Rattle.nbd_stream.specs.Runs.{AnswersBy, Runs, AreForExport, IsSet, IsToLast, task_answer_by, bytes_left, array_exchanges, bytes_left_by, value_by, value_set_by}
 use Rattle.nbd_stream.specs.Runs.{DoneLaw, KeptOrSetLaw, LastsLaw, NothingLostLaw, SetLaw}
 use Rattle.nbd_stream.proofs.DiskLemmas.{byte_law}
 use Rattle.nbd_stream.proofs.Asked.{inside, taken_of}
@@ -122,7 +122,7 @@ gave_so : (answer : Result (List ℕ) RequestError) (bytes : List ℕ) → IsOk 
 gave_so (Ok l) bytes ok is = ap (λ (k : List ℕ). Ok k) is
 gave_so (Err e) bytes ok is = (let no : ⊥ = cc in absurd no)
 
-done_one : (k : Result Task RequestError) (s t : Contents) (x : NbdExchange) → AnswersBy k s x t → ((task : Task) → k ≡ Ok task → IsOk x.answer) → (x.answer ≡ answer_by k s.bytes) × (t.bytes ≡ bytes_left_by k x.request.body s.bytes)
+done_one : (k : Result Task RequestError) (s t : Contents) (x : NbdExchange) → AnswersBy k s x t → ((task : Task) → k ≡ Ok task → IsOk x.answer) → (x.answer ≡ task_answer_by k s.bytes) × (t.bytes ≡ bytes_left_by k x.request.body s.bytes)
 done_one (Err error) s t x (answer, same) done = (answer, ap (λ (c : Contents). c.bytes) same)
 done_one (Ok task) s t x (sized, steps) done = (gave_so x.answer (bytes_given task s.bytes) (done task refl) steps.gave, on_ok x.answer (done task refl) steps.done)
 
@@ -137,6 +137,6 @@ done_law e s t (x ∷ xs) (mid, one, more) all =
     let first = done_one k s mid x one all.0 in
     let rest = done_law e mid t xs more all.1 in (
       ap (λ (a : Result (List ℕ) RequestError). exchange x.request a ∷ xs) first.0
-          ∙ ap (λ (l : List NbdExchange). exchange x.request (answer_by k s.bytes) ∷ l) (rest.0 ∙ ap (λ (b : List ℕ). array_exchanges e b (requests_in xs)) first.1),
+          ∙ ap (λ (l : List NbdExchange). exchange x.request (task_answer_by k s.bytes) ∷ l) (rest.0 ∙ ap (λ (b : List ℕ). array_exchanges e b (requests_in xs)) first.1),
       rest.1 ∙ ap (λ (b : List ℕ). bytes_left e b (requests_in xs)) first.1,
     )

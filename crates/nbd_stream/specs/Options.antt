@@ -133,17 +133,17 @@ abbrev pub question_answer : ℕ → List ℕ → Answer
 question_answer limit body =
     if nat_lt limit (length body) then too_big else (if is_question body then (if name_length body == 0 then Told else unknown) else invalid)
 
-abbrev pub answer_by : Option OptionCode → ℕ → List ℕ → Answer
-answer_by None limit body = unsupported
-answer_by (Some ExportName) limit body = if length body == 0 then Chosen else Silent
-answer_by (Some Abort) limit body = acknowledged
-answer_by (Some wanted.List) limit body = if length body == 0 then Listed else invalid
-answer_by (Some Info) limit body = question_answer limit body
-answer_by (Some Go) limit body = question_answer limit body
+abbrev pub option_answer_by : Option OptionCode → ℕ → List ℕ → Answer
+option_answer_by None limit body = unsupported
+option_answer_by (Some ExportName) limit body = if length body == 0 then Chosen else Silent
+option_answer_by (Some Abort) limit body = acknowledged
+option_answer_by (Some wanted.List) limit body = if length body == 0 then Listed else invalid
+option_answer_by (Some Info) limit body = question_answer limit body
+option_answer_by (Some Go) limit body = question_answer limit body
 
 -- THE ANSWER to an option
 abbrev pub answer_to_option : ℕ → AskedOption → Answer
-answer_to_option limit o = answer_by (option_from o.code) limit o.body
+answer_to_option limit o = option_answer_by (option_from o.code) limit o.body
 
 -- what follows: requests after NBD_OPT_EXPORT_NAME and after NBD_OPT_GO where these were granted, nothing after NBD_OPT_ABORT or a refusal of
 -- the former, which has no words; else another option

@@ -34,9 +34,9 @@ IsTaskDone e x = (task : Task) → task_of e x.request ≡ Ok task → IsOk x.an
 abbrev pub AreDone : Export → List NbdExchange → Type 0
 AreDone e xs = AllByRecursion (IsTaskDone e) xs
 
-abbrev pub answer_by : Result Task RequestError → List ℕ → Result (List ℕ) RequestError
-answer_by (Err e) bytes = Err e
-answer_by (Ok task) bytes = Ok (bytes_given task bytes)
+abbrev pub task_answer_by : Result Task RequestError → List ℕ → Result (List ℕ) RequestError
+task_answer_by (Err e) bytes = Err e
+task_answer_by (Ok task) bytes = Ok (bytes_given task bytes)
 
 abbrev pub bytes_left_by : Result Task RequestError → (body bytes : List ℕ) → List ℕ
 bytes_left_by (Err e) body bytes = bytes
@@ -45,7 +45,7 @@ bytes_left_by (Ok task) body bytes = bytes_after task body bytes
 -- THE EXCHANGES OF AN ARRAY with a client that sends these requests, and the array that they leave
 abbrev pub array_exchanges : Export → List ℕ → List NbdRequest → List NbdExchange
 array_exchanges e bytes [] = []
-array_exchanges e bytes (r ∷ rs) = record { request = r; answer = answer_by (task_of e r) bytes } ∷ array_exchanges e (bytes_left_by (task_of e r) r.body bytes) rs
+array_exchanges e bytes (r ∷ rs) = record { request = r; answer = task_answer_by (task_of e r) bytes } ∷ array_exchanges e (bytes_left_by (task_of e r) r.body bytes) rs
 
 abbrev pub bytes_left : Export → List ℕ → List NbdRequest → List ℕ
 bytes_left e bytes [] = bytes

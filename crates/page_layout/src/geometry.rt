@@ -24,6 +24,24 @@ pub enum GeometryFault {
     Sectors,
 }
 
+impl GeometryFault {
+    ghost use Rattle.std.specs.Prelude.{◌≡◌};
+    ghost use Rattle.page_layout.specs.Faults.{broken_limit_words};
+
+    /// The limit's number and its name, as a program's line says them. (This project's.)
+    pub fn words(self) -> &'static str
+        ensures { result.now ≡ broken_limit_words self }
+    {
+        match self {
+            GeometryFault::DataSize => "1 DataSize",
+            GeometryFault::SpareSize => "2 SpareSize",
+            GeometryFault::PagesPerBlock => "3 PagesPerBlock",
+            GeometryFault::Blocks => "4 Blocks",
+            GeometryFault::Sectors => "5 Sectors",
+        }
+    }
+}
+
 /// The size of a die: the bytes of a page's data area and of its spare area, the pages of a block, the
 /// blocks of the die, and the sectors that it stores. A value keeps this project's limits:
 ///

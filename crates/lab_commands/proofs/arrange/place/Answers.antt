@@ -1,5 +1,5 @@
 use Rattle.std.proofs.Common.{refl, inl, inr, ap, subst, ◌∙◌}
-use Rattle.lab_commands.specs.Arrange.{HasPutInOrder, IsUnput}
+use Rattle.lab_commands.specs.Arrange.{HasPutInOrder, IsArrangedUnput}
 use Rattle.lab_commands.proofs.UndoneLemmas.{handed}
 use Rattle.lab_commands.proofs.arrange.place.Goals as goal
 
@@ -18,7 +18,7 @@ returns-in_err-place_in_order g c =
     let shape = c.in_ok-said in
     let allowed = c.in_ok-allow.ensures in
     let failed = c.in_err-place_in_order in
-    let why = subst (λ f. IsUnput (g.F.LabFiles.answers f) c.args.words.now shape.said.0 shape.said.1 (g.F.LabFiles.opened f) (g.F.LabFiles.opened c.place_in_order.new.files) failed.field-0.0) allowed.same failed.ensures.fault in
+    let why = subst (λ f. IsArrangedUnput (g.F.LabFiles.answers f) c.args.words.now shape.said.0 shape.said.1 (g.F.LabFiles.opened f) (g.F.LabFiles.opened c.place_in_order.new.files) failed.field-0.0) allowed.same failed.ensures.fault in
     let handing = c.from_residual-in_err-place_in_order in
     rw (handed handing.result _ handing.ensures.1) (record { placed = tt; fault = inr (shape.said.0, shape.said.1, shape.ensures.ok, inr (allowed.ok, why)); kept = failed.ensures.kept ∙ ap g.F.LabFiles.kept allowed.same })
 

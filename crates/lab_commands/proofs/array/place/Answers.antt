@@ -1,6 +1,6 @@
 use Rattle.std.proofs.Common.{refl, inl, inr, ap, subst, ◌∙◌}
 use Rattle.lab_commands.specs.Files.{AnswersNoMore}
-use Rattle.lab_commands.specs.Array.{HasPutSectors, IsUnput}
+use Rattle.lab_commands.specs.Array.{HasPutSectors, IsArrayUnput}
 use Rattle.lab_commands.proofs.UndoneLemmas.{handed}
 use Rattle.lab_commands.proofs.array.place.Goals as goal
 
@@ -26,7 +26,7 @@ returns-in_err-put g c =
     let last = c.in_ok-last in
     let allowed = c.in_ok-allow_both.ensures in
     let failed = c.in_err-put in
-    let why = subst (λ f. IsUnput (g.F.LabFiles.answers f) shape.geometry c.args.words.array (g.F.LabFiles.opened f) (g.F.LabFiles.opened c.put_sectors.new.files) failed.field-0.0) allowed.same failed.ensures.fault in
+    let why = subst (λ f. IsArrayUnput (g.F.LabFiles.answers f) shape.geometry c.args.words.array (g.F.LabFiles.opened f) (g.F.LabFiles.opened c.put_sectors.new.files) failed.field-0.0) allowed.same failed.ensures.fault in
     let handing = c.from_residual-in_err-put in
     rw (handed handing.result _ handing.ensures.1) (record { placed = tt; sized = tt; fault = inr (shape.geometry, shape.ensures.ok, inr (last.last, last.ensures.ok, inr (allowed.ok, why))); no_more = tt; kept = failed.ensures.kept ∙ ap g.F.LabFiles.kept allowed.same })
 

@@ -1,6 +1,6 @@
 use Rattle.std.proofs.Common.{refl, inl, inr, ap, subst, ◌∙◌}
 use Rattle.lab_commands.specs.Files.{AnswersNoMore}
-use Rattle.lab_commands.specs.Array.{IsUnput}
+use Rattle.lab_commands.specs.Array.{IsArrayUnput}
 use Rattle.lab_commands.specs.Correct.{CorrectionCounts, HasPutRight}
 use Rattle.lab_commands.proofs.UndoneLemmas.{handed}
 use Rattle.lab_commands.proofs.correct.place.Goals as goal
@@ -27,7 +27,7 @@ returns-in_err-put g c =
     let chip = c.in_ok-chip in
     let allowed = c.in_ok-allow_both.ensures in
     let failed = c.in_err-put in
-    let why = subst (λ f. IsUnput (g.F.LabFiles.answers f) chip.chip.raw c.args.words.now (g.F.LabFiles.opened f) (g.F.LabFiles.opened c.put_corrected.new.files) failed.field-0.0) allowed.same failed.ensures.fault in
+    let why = subst (λ f. IsArrayUnput (g.F.LabFiles.answers f) chip.chip.raw c.args.words.now (g.F.LabFiles.opened f) (g.F.LabFiles.opened c.put_corrected.new.files) failed.field-0.0) allowed.same failed.ensures.fault in
     let handing = c.from_residual-in_err-put in
     rw (handed handing.result _ handing.ensures.1) (record { placed = tt; fault = inr (shape.geometry, shape.ensures.ok, inr (chip.chip.raw, chip.ensures.ok, inr (allowed.ok, why))); no_more = tt; kept = failed.ensures.kept ∙ ap g.F.LabFiles.kept allowed.same })
 

@@ -1,6 +1,6 @@
 use Rattle.std.proofs.Common.{refl, inl, inr, ap, subst, ◌∙◌}
 use Rattle.std.specs.Prelude.{IfOk, IfErr}
-use Rattle.lab_commands.specs.Merge.{HasPutJoined, IsUnput}
+use Rattle.lab_commands.specs.Merge.{HasPutJoined, IsMergeUnput}
 use Rattle.lab_commands.proofs.HandedLemmas.{err_more, ok_more, on_err_more}
 use Rattle.lab_commands.proofs.UndoneLemmas.{handed}
 use Rattle.lab_commands.proofs.merge.place.Goals as goal
@@ -23,7 +23,7 @@ returns g c =
     let after = c.put_joined.new.files in
     let done = c.put_joined.result in
     let put = subst (λ f. IfOk done (λ told. HasPutJoined (g.F.LabFiles.answers f) words (g.F.LabFiles.kept f) (g.F.LabFiles.kept after) shape.geometry told.conflicts.items told.unsound.items told.tried.items told.tally)) allowed.same c.put_joined.ensures.put in
-    let fault = subst (λ f. IfErr done (IsUnput (g.F.LabFiles.answers f) words shape.geometry (g.F.LabFiles.opened f) (g.F.LabFiles.opened after))) allowed.same c.put_joined.ensures.fault in
+    let fault = subst (λ f. IfErr done (IsMergeUnput (g.F.LabFiles.answers f) words shape.geometry (g.F.LabFiles.opened f) (g.F.LabFiles.opened after))) allowed.same c.put_joined.ensures.fault in
     record {
       placed = ok_more _ _ done put (λ told has. record { g = shape.geometry; pieces = has.pieces; geometry_is = shape.ensures.ok; allowed = allowed.ok; made = has.made; put = has.put });
       fault = err_more _ _ done fault (λ told why. inr (shape.geometry, shape.ensures.ok, inr (allowed.ok, why)));

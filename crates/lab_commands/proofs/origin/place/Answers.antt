@@ -1,6 +1,6 @@
 use Rattle.std.proofs.Common.{refl, inl, inr, ap, subst, ◌∙◌}
 use Rattle.std.specs.Prelude.{IfOk, IfErr}
-use Rattle.lab_commands.specs.Origin.{HasPutMarks, IsUnput}
+use Rattle.lab_commands.specs.Origin.{HasPutMarks, IsTracedMapUnput}
 use Rattle.lab_commands.proofs.HandedLemmas.{err_more, ok_more, on_err_more}
 use Rattle.lab_commands.proofs.UndoneLemmas.{handed}
 use Rattle.lab_commands.proofs.origin.place.Goals as goal
@@ -31,7 +31,7 @@ returns g c =
     let after = c.put_marks.new.files in
     let done = c.put_marks.result in
     let put = subst (λ f. IfOk done (λ marks. HasPutMarks (g.F.LabFiles.answers f) words (g.F.LabFiles.kept f) (g.F.LabFiles.kept after) shape.geometry last.last marks.items)) allowed.same c.put_marks.ensures.put in
-    let fault = subst (λ f. IfErr done (IsUnput (g.F.LabFiles.answers f) words shape.geometry (g.F.LabFiles.opened f) (g.F.LabFiles.opened after))) allowed.same c.put_marks.ensures.fault in
+    let fault = subst (λ f. IfErr done (IsTracedMapUnput (g.F.LabFiles.answers f) words shape.geometry (g.F.LabFiles.opened f) (g.F.LabFiles.opened after))) allowed.same c.put_marks.ensures.fault in
     record {
       placed = ok_more _ _ done put
           (λ marks has. record { g = shape.geometry; last = last.last; put = record { geometry_is = shape.ensures.ok; last_is = last.ensures.ok; allowed = allowed.ok; followed = has.followed; put = has.put } });

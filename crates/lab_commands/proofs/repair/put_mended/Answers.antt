@@ -1,6 +1,6 @@
 use Rattle.std.proofs.Common.{refl, inl, inr, ap, subst, ◌∙◌}
 use Rattle.std.specs.Prelude.{IfOk, IfErr}
-use Rattle.lab_commands.specs.Repair.{HasPutMends, IsUnput}
+use Rattle.lab_commands.specs.Repair.{HasPutMends, IsRepairUnput}
 use Rattle.lab_commands.proofs.HandedLemmas.{err_more, ok_more, on_err_more}
 use Rattle.lab_commands.proofs.RepairLemmas.{unasked}
 use Rattle.lab_commands.proofs.UndoneLemmas.{handed}
@@ -30,7 +30,7 @@ returns g c =
     let after = c.put_mends.new.files in
     let done = c.put_mends.result in
     let put = subst (λ f. IfOk done (λ told. HasPutMends (g.F.LabFiles.answers f) words (g.F.LabFiles.kept f) (g.F.LabFiles.kept after) said.0 said.1 told.tries told.mends.items)) allowed.same c.put_mends.ensures.put in
-    let fault = subst (λ f. IfErr done (IsUnput (g.F.LabFiles.answers f) words said.0 (g.F.LabFiles.opened f) (g.F.LabFiles.opened after))) allowed.same c.put_mends.ensures.fault in
+    let fault = subst (λ f. IfErr done (IsRepairUnput (g.F.LabFiles.answers f) words said.0 (g.F.LabFiles.opened f) (g.F.LabFiles.opened after))) allowed.same c.put_mends.ensures.fault in
     record {
       put = ok_more _ _ done put (λ told has. record {
         put = record {

@@ -4,7 +4,7 @@ use Rattle.std.proofs.lemmas.List.{length-map}
 use Rattle.page_layout.specs.Geometry.{page_bytes}
 use Rattle.lab_mend.specs.InStep.{AreAt}
 use Rattle.lab_mend.specs.Merged.{pages_of_row}
-use Rattle.lab_mend.specs.Merging.{AreListed, AreTried}
+use Rattle.lab_mend.specs.Merging.{AreRowsListed, AreTried}
 use Rattle.lab_mend.proofs.MergingLemmas.{none_listed, none_tried, none_tried_listed, none_unsound}
 use Rattle.lab_mend.proofs.MergedLemmas.{pinned_cut, row_read, row_next, unmerged_row_cut}
 use Rattle.lab_mend.proofs.merge.merge_rows.Goals as goal
@@ -57,7 +57,7 @@ loop-row-init g c = record {
   stands = c.requires.stands;
   shows = λ files at. c.requires.shows (pages_of_row c.args.geometry.now files);
   unsound = λ files at. c.requires.none ∙ none_unsound c.args.geometry.now (pages_of_row c.args.geometry.now files);
-  listed = subst (AreListed 0) (sym c.requires.none) none_listed;
+  listed = subst (AreRowsListed 0) (sym c.requires.none) none_listed;
   tried = λ files at. c.requires.none_tried ∙ none_tried c.args.geometry.now (pages_of_row c.args.geometry.now files);
   tried_listed = subst (AreTried 0) (sym c.requires.none_tried) none_tried_listed;
   tried_room = c.requires.tried_room;
