@@ -5,7 +5,7 @@ ghost use Rattle.collection.specs.Faults.{engine_fault_number};
 use thiserror::Error;
 
 /// Why an operation on the die, or a call of the engine that asks for some, was refused. The first fault of a `put`, `write_back`, `collect`,
-/// `make_room`, `rescue_one`, `write_sector`, `trim_sector` or `write_table` stands: each of these
+/// `step`, `make_room`, `rescue_one`, `next_old`, `renew_at`, `write_sector`, `trim_sector` or `write_table` stands: each of these
 /// answers it again from then on, and asks nothing of the die. `row_of_sector`, `read_sector` and
 /// `cache_sector` neither note a fault nor heed the one that stands. (This project.)
 #[derive(Clone, Copy, Debug, PartialEq, Eq, Error)]
