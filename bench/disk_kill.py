@@ -3,12 +3,12 @@
 
 Usage: disk_kill.py NANDDISK [ROUNDS [SEED]]
 
-Three disks in turn, with pages of 64, 512 and 4,096 bytes, each small enough that its blocks are collected all the time. In each round a client of libnbd reads, writes, trims and flushes at random, several
+Three disks in turn, with pages of 64, 512 and 4,096 bytes, each small enough that its blocks are collected all the time. In each round a client reads, writes, trims and flushes at random, several
 requests at a time, until the server is killed by `kill -9`. Then the disk is served again, and each of its sectors is read: one whose last change was answered is
 as that left it; one whose change was not answered is as before or as that was to leave it, byte by byte. Then the disk takes a write and a flush, and `info` tells as many bad blocks
 as before, none. In some rounds the slot of the mark that was written last is torn. With CODE=hamming in the environment the disks keep a code.
 
-Asks for Debian's python3-libnbd, which is for the system's Python."""
+The client is libnbd's where Debian's python3-libnbd is there, which is for the system's Python; else the plain one of `plain_nbd.py`."""
 
 import json
 import os
@@ -21,7 +21,10 @@ import tempfile
 import threading
 import time
 
-import nbd
+try:
+    import nbd
+except ImportError:
+    import plain_nbd as nbd
 
 # Some hundred writes collect each block.
 SHAPES = ((64, "64,32,32,60,400"), (512, "512,32,8,160,400"), (4096, "4096,128,8,120,300"))
