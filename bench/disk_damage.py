@@ -16,7 +16,8 @@ At last (STOPS disks, 3 without a number) some bits are turned so that sectors a
 sectors: by a kill, or by an error, at each of its calls that write, sync and name files, one call a run. Whatever it had done, `check` and the next `serve` still tell each sector that was not written, and one
 that was answered as written reads so.
 
-It ends with status 1 where something differs. Asks for Debian's strace and python3-libnbd, which is for the system's Python."""
+It ends with status 1 where something differs. Asks for Debian's strace where STOPS is not 0. The client is libnbd's where
+Debian's python3-libnbd is there, which is for the system's Python; else the plain one of `plain_nbd.py`."""
 
 import errno
 import json
@@ -28,7 +29,10 @@ import subprocess
 import sys
 import tempfile
 
-import nbd
+try:
+    import nbd
+except ImportError:
+    import plain_nbd as nbd
 
 BESIDE = ("", ".json", ".mark", ".lost")
 

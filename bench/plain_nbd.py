@@ -1,7 +1,8 @@
-"""A plain client of NBD, with those calls of libnbd that `disk_kill.py` makes, for a machine without python3-libnbd.
+"""A plain client of NBD, with those calls of libnbd that `disk_kill.py` and `disk_damage.py` make, for a machine without python3-libnbd.
 
 Written from the protocol's text alone: the fixed newstyle handshake, the default export by NBD_OPT_GO, simple replies."""
 
+import errno
 import select
 import socket
 import struct
@@ -16,7 +17,12 @@ MOST = 1 << 20
 
 
 class Error(Exception):
-    """The server is gone, answered what it may not, or answered an error."""
+    """The server is gone, answered what it may not, or answered an error, which has a number then."""
+
+    def __init__(self, text, number=0):
+        super().__init__(text)
+        self.errnum = number
+        self.errno = errno.errorcode.get(number)
 
 
 class Buffer:
@@ -86,7 +92,7 @@ class NBD:
             return False
         error = self.answers.pop(cookie)
         if error:
-            raise Error(f"error {error}")
+            raise Error(f"error {error}", error)
         return True
 
     def poll(self, milliseconds):
@@ -101,6 +107,9 @@ class NBD:
 
     def pwrite(self, body, offset):
         self.wait(self.aio_pwrite(Buffer.from_bytearray(body), offset))
+
+    def trim(self, count, offset):
+        self.wait(self.aio_trim(count, offset))
 
     def flush(self):
         self.wait(self.aio_flush())
