@@ -116,9 +116,13 @@ class NBD:
 
     def shutdown(self):
         self.ask(DISC, 0, 0)
-        while self.socket.recv(MOST):
-            pass
-        self.socket.close()
+        try:
+            while True:
+                self.receive()
+        except Error:
+            self.socket.close()
+        if self.came:
+            raise Error("an answer to no request")
 
     def ask(self, kind, offset, count, flags=0, body=b"", buffer=None):
         self.last += 1
