@@ -18,8 +18,8 @@ use Rattle.page_layout.specs.Geometry.{page_bytes, row_count}
 use Rattle.disk_commands.specs.Asked.{IsShapeAsked}
 use Rattle.disk_commands.specs.BadBlocks.{AreBadAsked, HasMarks, is_copied}
 use Rattle.disk_commands.specs.declared.files.DiskFileFault.{DiskFileFault}
-use Rattle.disk_commands.specs.Opening.{told_at, told_of_copy}
-use Rattle.disk_commands.specs.Created.{HasCreated, IsDieAskedFor, IsNoDump, IsUncreated, IsNewDieUnformatted, IsDieUnplaced, unformatted}
+use Rattle.disk_commands.specs.Opening.{told_at, told_of_copy, IsFileOrMemoryFault}
+use Rattle.disk_commands.specs.Created.{HasCreated, IsDieAskedFor, IsNoDump, IsUncreated, IsNewDieUnformatted, unformatted}
 use Rattle.disk_commands.specs.Files.{DiskFileAnswers, FailsCopy, FailsNoMore, Kept, with_kept_disk}
 
 -- erased pages were not formatted, for this
@@ -86,7 +86,7 @@ created held honest a words shape bad before between after store (Ok done) asked
 created held honest a words shape bad before between after store (Err told) asked named free die is same kept = tt
 
 -- or was not
-unkept_before : (a b : DiskFileAnswers) (path : List ℕ) (told : DiskCommandFault) → FailsNoMore a b → IsDieUnplaced b path told → IsDieUnplaced a path told
+unkept_before : (a b : DiskFileAnswers) (path : List ℕ) (told : DiskCommandFault) → FailsNoMore a b → IsFileOrMemoryFault b path told → IsFileOrMemoryFault a path told
 unkept_before a b path (fault.Read word) no_more h = (h.0, no_more path file.Read h.1)
 unkept_before a b path (fault.Write word) no_more h = (h.0, no_more path file.Write h.1)
 unkept_before a b path (fault.InUse word) no_more h = (h.0, no_more path file.InUse h.1)
@@ -100,6 +100,6 @@ kept_then (Ok done) after between before h same = tt
 kept_then (Err told) after between before h same = h ∙ same
 
 pub not_kept : {S : Type 0} (held : S → Held) (honest : S → Bool) (failed : S → ℕ) (a b : DiskFileAnswers) (words : CreateWords) (shape : DiskShape) (bad : List ℕ) (result : Result (Unit {0}) DiskCommandFault)
-    → IsShapeAsked words shape → AreBadAsked (is_copied words.make) words.bad shape.geometry bad → a.says_there words.disk.now false → FailsNoMore a b → IfErr result (IsDieUnplaced b words.disk.now) → IfErr result (IsUncreated held honest failed a words)
+    → IsShapeAsked words shape → AreBadAsked (is_copied words.make) words.bad shape.geometry bad → a.says_there words.disk.now false → FailsNoMore a b → IfErr result (IsFileOrMemoryFault b words.disk.now) → IfErr result (IsUncreated held honest failed a words)
 not_kept held honest failed a b words shape bad (Ok done) asked named free no_more h = tt
 not_kept held honest failed a b words shape bad (Err told) asked named free no_more h = inr (shape, asked, inr (bad, named, inr (free, inr (unkept_before a b words.disk.now told no_more h))))

@@ -10,8 +10,7 @@ use Rattle.disk_commands.specs.declared.text.DiskCommandFault.TheVariants as fau
 use Rattle.disk_commands.specs.declared.words.DiskServeWords.{DiskServeWords}
 use Rattle.disk_commands.specs.Damage.{IsLookedAt}
 use Rattle.disk_commands.specs.Files.{DiskFileAnswers, Opened, OpensMarked, OpensMarkedIf, OpensOnce, SaysNoMore, with_mark_opened, with_opened}
-use Rattle.disk_commands.specs.Guard.{IsUnlistedAt}
-use Rattle.disk_commands.specs.Opening.{IsUnkeptAt}
+use Rattle.disk_commands.specs.Opening.{IsFileOrMemoryFault, IsUnkeptAt}
 use Rattle.disk_commands.specs.Ready.{IsNoneOf, IsUnkeptBy, IsUnreadyAt, MarksBy, access_of}
 use Rattle.disk_commands.specs.Told.{HasPrintingFailed}
 use Rattle.disk_commands.proofs.DamageLemmas.{fault_back}
@@ -40,7 +39,7 @@ marks_then words a before mid after same is marks = marks_if (not words.read_onl
 
 -- ---- why it is not ready
 
-pub unlisted_back : (a b : DiskFileAnswers) (path : List ℕ) (why : DiskCommandFault) → SaysNoMore a b → IsUnlistedAt b path why → IsUnlistedAt a path why
+pub unlisted_back : (a b : DiskFileAnswers) (path : List ℕ) (why : DiskCommandFault) → SaysNoMore a b → IsFileOrMemoryFault b path why → IsFileOrMemoryFault a path why
 unlisted_back a b path fault.OutOfMemory less h = tt
 unlisted_back a b path (fault.Read told) less h = fault_back a b path 0 (fault.Read told) less h
 unlisted_back a b path (fault.Write told) less h = fault_back a b path 0 (fault.Write told) less h

@@ -24,7 +24,7 @@ use Rattle.disk_commands.specs.declared.text.DiskCommandFault.TheVariants as fau
 use Rattle.disk_commands.specs.BadBlocks.{AreBadAsked, AreNoneAsked, HasMarks, is_copied}
 use Rattle.disk_commands.specs.Asked.{IsNoShapeAsked, IsShapeAsked}
 use Rattle.disk_commands.specs.Files.{DiskFileAnswers, Kept, with_kept_disk}
-use Rattle.disk_commands.specs.Opening.{IsCopyFault, IsFaultAt, IsNotFree}
+use Rattle.disk_commands.specs.Opening.{IsCopyFault, IsFaultAt, IsNotFree, IsFileOrMemoryFault}
 
 -- ---- the die
 
@@ -99,15 +99,10 @@ IsUnmadeFor held honest failed a path (make.Size word) shape bad told = IsNewDie
 IsUnmadeFor held honest failed a path (make.Geometry word) shape bad told = IsNewDieUnformatted held honest failed a path shape bad told
 IsUnmadeFor held honest failed a path (make.Dump word from) shape bad told = IsNoDump held honest failed a path from.now shape told
 
--- the die was not put in its place, or memory for the text was refused
-abbrev pub IsDieUnplaced : DiskFileAnswers → (path : List ℕ) → DiskCommandFault → Type 0
-IsDieUnplaced a path fault.OutOfMemory = Unit {0}
-IsDieUnplaced a path told = IsFaultAt a path 0 told
-
 -- the first of this order: no shape was asked for, or no bad blocks of it, something stands there, the die was not made, it was not put in its place
 abbrev pub IsUncreated : {S : Type 0} → (S → Held) → (honest : S → Bool) → (failed : S → ℕ) → DiskFileAnswers → CreateWords → DiskCommandFault → Type 0
 IsUncreated held honest failed a words told =
     IsNoShapeAsked words told
     ⊎ ((shape : DiskShape) × IsShapeAsked words shape × (AreNoneAsked (is_copied words.make) words.bad shape.geometry told
     ⊎ ((bad : List ℕ) × AreBadAsked (is_copied words.make) words.bad shape.geometry bad × (IsNotFree a words.disk.now told
-    ⊎ (a.says_there words.disk.now false × (IsUnmadeFor held honest failed a words.disk.now words.make shape bad told ⊎ IsDieUnplaced a words.disk.now told))))))
+    ⊎ (a.says_there words.disk.now false × (IsUnmadeFor held honest failed a words.disk.now words.make shape bad told ⊎ IsFileOrMemoryFault a words.disk.now told))))))

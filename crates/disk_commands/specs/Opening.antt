@@ -59,6 +59,11 @@ IsFaultAt a path wanted (fault.Length told found due) = (told.now ≡ path) × (
 IsFaultAt a path wanted fault.OutOfMemory = a.fails path file.OutOfMemory
 IsFaultAt a path wanted _ = ⊥
 
+-- a file was not kept there: the files failed, or a growth was refused
+abbrev pub IsFileOrMemoryFault : DiskFileAnswers → (path : List ℕ) → DiskCommandFault → Type 0
+IsFileOrMemoryFault a path fault.OutOfMemory = Unit {0}
+IsFileOrMemoryFault a path told = IsFaultAt a path 0 told
+
 -- a copy failed, for the dump or for what was made
 abbrev pub IsCopyFault : DiskFileAnswers → (path dump : List ℕ) → (wanted : ℕ) → DiskCommandFault → Type 0
 IsCopyFault a path dump wanted told = IsFaultAt a dump wanted told ⊎ IsFaultAt a path wanted told

@@ -27,8 +27,7 @@ use Rattle.disk_commands.specs.declared.text.DiskCommandFault.TheVariants as fau
 use Rattle.disk_commands.specs.Anew.{most_stale}
 use Rattle.disk_commands.specs.Damage.{IsLookedAt, IsUnlookedAt}
 use Rattle.disk_commands.specs.Files.{DiskFileAnswers, Opened, with_mark_opened}
-use Rattle.disk_commands.specs.Guard.{IsUnlistedAt}
-use Rattle.disk_commands.specs.Opening.{IsUnkeptAt}
+use Rattle.disk_commands.specs.Opening.{IsFileOrMemoryFault, IsUnkeptAt}
 use Rattle.disk_commands.specs.Told.{HasPrintingFailed}
 
 -- ---- what the words ask for
@@ -128,6 +127,6 @@ abbrev pub IsUnreadyAt : {S Y K : Type 0} → (S → Held) → (honest : S → B
     → Type 0
 IsUnreadyAt held honest failed missed kept unlisted a path read_only why =
     IsUnlookedAt held honest failed a path why
-    ⊎ (IsUnlistedAt a path why
+    ⊎ (IsFileOrMemoryFault a path why
     ⊎ (IsNotOpened held honest failed missed kept unlisted a path read_only why
     ⊎ HasPrintingFailed why))

@@ -2,7 +2,8 @@
 ghost use Rattle.std.specs.Prelude.{◌≡◌, ◌≤◌, true, false, IfOk, IfErr, OnOk, OnErr};
 ghost use Rattle.disk_commands.specs.ShapeText.{IsCacheSize, shape_text};
 ghost use Rattle.nand_die.specs.Made.{AreNames};
-ghost use Rattle.disk_commands.specs.Created.{HasCreated, IsDieAskedFor, IsDieOf, IsNewDie, IsNoDump, IsUncreated, IsNewDieUnformatted, IsDieUnplaced, IsUnmadeFor, Mounts};
+ghost use Rattle.disk_commands.specs.Created.{HasCreated, IsDieAskedFor, IsDieOf, IsNewDie, IsNoDump, IsUncreated, IsNewDieUnformatted, IsUnmadeFor, Mounts};
+ghost use Rattle.disk_commands.specs.Opening.{IsFileOrMemoryFault};
 ghost use Rattle.disk_server.specs.Opened.{IsStoreUnopened};
 ghost use Rattle.disk_commands.specs.Files.{FailsNoMore, with_kept_disk};
 
@@ -143,7 +144,7 @@ fn put<'a, F: DiskFiles>(
     store: F::Store,
 ) -> Result<(), DiskCommandFault<'a>>
     ensures ok { OnOk result (F.kept files.new ≡ with_kept_disk (F.kept files.old) (record { path = path.now; held = F.Store.held store; text = shape_text shape.now })) }
-    ensures fault { IfErr result (IsDieUnplaced (F.answers files.old) path.now) }
+    ensures fault { IfErr result (IsFileOrMemoryFault (F.answers files.old) path.now) }
     ensures kept { OnErr result (F.kept files.new ≡ F.kept files.old) }
     ensures opened { F.opened files.new ≡ F.opened files.old }
 {

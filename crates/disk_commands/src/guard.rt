@@ -1,6 +1,6 @@
 //! The lost sectors of a disk that is to be served: where their list is kept, and that they are guarded.
 ghost use Rattle.std.specs.Prelude.{◌≡◌, [], false, IfErr, IfOk};
-ghost use Rattle.disk_commands.specs.Guard.{IsUnlistedAt};
+ghost use Rattle.disk_commands.specs.Opening.{IsFileOrMemoryFault};
 
 use crate::damage::Looked;
 use crate::files::DiskFiles;
@@ -18,7 +18,7 @@ pub(crate) fn keeper_at<'a, F: DiskFiles>(
     looked: &Looked<F::Store, F::Syncs>,
 ) -> Result<F::Lists, DiskCommandFault<'a>>
     ensures none_kept { IfOk result (λ place. F.Lists.kept place ≡ []) }
-    ensures fault { IfErr result (IsUnlistedAt (F.answers files.old) path.now) }
+    ensures fault { IfErr result (IsFileOrMemoryFault (F.answers files.old) path.now) }
     ensures same { files.new ≡ files.old }
 {
     let Ok(text) = write_listed_shape(alloc, &looked.told.shape) else {

@@ -8,6 +8,7 @@ use Rattle.device_slot.specs.declared.slot.Shortage.{Shortage}
 use Rattle.device_slot.specs.declared.report.Report.{Report}
 use Rattle.device_slot.specs.Slot.{Reports, nand_in}
 use Rattle.ftl_disk.specs.Die.{Die}
+use Rattle.page_layout.specs.Change.{one_if}
 use Rattle.ftl_disk.specs.declared.disk.FtlDisk.{FtlDisk}
 use Rattle.ftl_disk.specs.declared.either.EitherDie.TheVariants.{Plain, Coded}
 use Rattle.ftl_disk.specs.declared.look.Errors.{Errors}
@@ -16,9 +17,6 @@ use Rattle.ftl_disk.specs.declared.look.State.{State}
 use Rattle.ftl_disk.specs.declared.look.View.{View}
 use Rattle.ftl_disk.specs.declared.plan.Plan.{Plan}
 use Rattle.ftl_disk.specs.declared.shape.Shape.{Shape}
-
-abbrev pub bit : Bool → ℕ
-bit b = if b then 1 else 0
 
 -- the numbers that it was opened with
 abbrev pub shape_of : Plan → Shape
@@ -29,7 +27,7 @@ shape_of p = record {
   blocks = p.geometry.blocks;
   sectors = p.geometry.sectors;
   cache = p.cache;
-  codes = bit (is_some p.chip);
+  codes = one_if (is_some p.chip);
 }
 
 abbrev pub stop_number : Option DeviceFault → ℕ
@@ -39,7 +37,7 @@ stop_number (Some fault) = device_fault_number fault
 -- how its device stands
 abbrev pub reported_state : Option Report → State
 reported_state None = record { free_blocks = 0; good_blocks = 0; bad_blocks = 0; most_erases = 0; read_only = 0; stopped = 0 }
-reported_state (Some r) = record { free_blocks = r.free; good_blocks = r.good; bad_blocks = r.bad; most_erases = r.most_erases; read_only = bit r.read_only; stopped = stop_number r.stopped }
+reported_state (Some r) = record { free_blocks = r.free; good_blocks = r.good; bad_blocks = r.bad; most_erases = r.most_erases; read_only = one_if r.read_only; stopped = stop_number r.stopped }
 
 -- the counts of the last refusal for want of blocks
 abbrev pub lack_of : Option Shortage → Lack
@@ -79,9 +77,9 @@ pub record IsViewOf (d : FtlDisk) (v : View) : Type 0 where
   pub shape : v.shape ≡ shape_of d.plan
   pub report : Option Report
   pub reports : Reports d.slot.device report
-  pub started : v.is_started ≡ bit (is_some report)
+  pub started : v.is_started ≡ one_if (is_some report)
   pub state : v.state ≡ reported_state report
-  pub short : v.is_short ≡ bit (is_some d.slot.shortage)
+  pub short : v.is_short ≡ one_if (is_some d.slot.shortage)
   pub lack : v.lack ≡ lack_of d.slot.shortage
 
 -- A LOOK: the disk stays

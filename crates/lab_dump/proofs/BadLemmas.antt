@@ -23,7 +23,8 @@ use Rattle.page_layout.proofs.ArrayLemmas.{latest-newest, latest-tied, length-ma
 use Rattle.image_check.specs.Blocks.{table_class}
 use Rattle.image_check.specs.Survey.{index_of}
 use Rattle.image_check.proofs.SurveyLemmas.{index_within}
-use Rattle.lab_dump.specs.Count.{is_in_range, is_outside, one}
+use Rattle.lab_dump.specs.Count.{is_in_range, is_outside}
+use Rattle.page_layout.specs.Change.{one_if}
 use Rattle.lab_dump.specs.Bad.{HasNewer, IsRewritten, IsPlain, is_tied, is_plain, is_rewritten, keeps_below, key_at, latest_at, strange_of, ties_below, RewrittenLaw, RewrittenToldLaw}
 use Rattle.lab_dump.proofs.AnyLemmas.{any_at, any_more}
 use Rattle.lab_dump.proofs.TraceLemmas.{key_found, place_is}
@@ -66,7 +67,7 @@ within_range g r h = by (key_of r) h
     by (Translation t) l = ap not (lt-ltb t (translation_pages g) l)
     by (Table u) l = ap not (lt-ltb u (table_pages g) l)
 
-first_none : (b : Bool) (n : ℕ) → one b + n ≡ 0 → b ≡ false
+first_none : (b : Bool) (n : ℕ) → one_if b + n ≡ 0 → b ≡ false
 first_none true n e = absurd (omega arith)
 first_none false n e = refl
 
@@ -74,15 +75,15 @@ none_passes : (f : Page → Bool) (image : Image) (row : ℕ) (p : Page) → cou
 none_passes f [] row p e is = absurd (let clash : None ≡ Some p = is in cc)
 none_passes f (q ∷ qs) zero p e is =
     let same : q ≡ p = (let both : Some q ≡ Some p = is in cc) in
-    ap f (sym same) ∙ first_none (f q) (count_by f qs) (sym (sum_by-cons (λ z. one (f z)) q qs) ∙ e)
-none_passes f (q ∷ qs) (suc row) p e is = none_passes f qs row p (let cons = sum_by-cons (λ z. one (f z)) q qs in omega arith) is
+    ap f (sym same) ∙ first_none (f q) (count_by f qs) (sym (sum_by-cons (λ z. one_if (f z)) q qs) ∙ e)
+none_passes f (q ∷ qs) (suc row) p e is = none_passes f qs row p (let cons = sum_by-cons (λ z. one_if (f z)) q qs in omega arith) is
 
 none_counted : (f : Page → Bool) (image : Image) → ((row : ℕ) (p : Page) → slice_get image row ≡ Some p → f p ≡ false) → count_by f image ≡ 0
 none_counted f [] e = refl
 none_counted f (q ∷ qs) e =
-    let here : one (f q) ≡ 0 = ap one (e zero q refl) in
+    let here : one_if (f q) ≡ 0 = ap one_if (e zero q refl) in
     let rest : count_by f qs ≡ 0 = none_counted f qs (λ row p is. e (suc row) p is) in
-    omega (arith, sum_by-cons (λ x. one (f x)) q qs)
+    omega (arith, sum_by-cons (λ x. one_if (f x)) q qs)
 
 pub strange_none : (g : Geometry) (image : Image) (row : ℕ) (r : Record) → strange_of g image ≡ 0 → get_or (marks image) row None ≡ Some r → IsKeyOf g (key_of r)
 strange_none g image row r e mark =

@@ -20,7 +20,7 @@ use Rattle.page_layout.specs.Block.{is_broken, is_programmed}
 use Rattle.page_layout.proofs.RecordLemmas.{erased_no_record}
 use Rattle.page_layout.proofs.NewestLemmas.{Forgets, newest-is, newest_forgets, newest-record, newest-within, sequence_at-key, sequence_at-none, sequence_at-same}
 use Rattle.page_layout.proofs.ArrayLemmas.{length-marks, mark-page, mark-same, sector-same}
-use Rattle.lab_dump.specs.Count.{one}
+use Rattle.page_layout.specs.Change.{one_if}
 use Rattle.image_check.specs.Blocks.{is_factory}
 use Rattle.lab_dump.specs.Bad.{is_excused, is_rewritten}
 use Rattle.lab_dump.specs.Doubts.{has_page, is_programmed_at, is_unsound_at, is_hole, rows_passing, doubts_of}
@@ -121,8 +121,8 @@ upto_le f h (suc n) e =
     let a = upto_more f n in
     let b = upto_more h n in
     elim (cases_Bool (f n)) [
-      | inl is ↦ (let x : one (f n) ≡ 1 = ap one is in let y : one (h n) ≡ 1 = ap one (e n (omega arith) is) in omega arith)
-      | inr not_so ↦ (let x : one (f n) ≡ 0 = ap one not_so in omega arith)
+      | inl is ↦ (let x : one_if (f n) ≡ 1 = ap one_if is in let y : one_if (h n) ≡ 1 = ap one_if (e n (omega arith) is) in omega arith)
+      | inr not_so ↦ (let x : one_if (f n) ≡ 0 = ap one_if not_so in omega arith)
     ]
 
 -- at most one more passes
@@ -133,11 +133,11 @@ upto_but f h k (suc n) e =
     let a = upto_more f n in
     let b = upto_more h n in
     elim (cases_Bool (f n)) [
-      | inl is ↦ (let x : one (f n) ≡ 1 = ap one is in elim (e n (omega arith) is) [
-        | inl also ↦ (let y : one (h n) ≡ 1 = ap one also in omega arith)
+      | inl is ↦ (let x : one_if (f n) ≡ 1 = ap one_if is in elim (e n (omega arith) is) [
+        | inl also ↦ (let y : one_if (h n) ≡ 1 = ap one_if also in omega arith)
         | inr last ↦ (let all : upto f n ≤ upto h n = upto_le f h n (λ m l at. elim (e m (omega arith) at) [ inl here ↦ here | inr same ↦ absurd (omega arith) ]) in omega arith)
       ])
-      | inr not_so ↦ (let x : one (f n) ≡ 0 = ap one not_so in omega arith)
+      | inr not_so ↦ (let x : one_if (f n) ≡ 0 = ap one_if not_so in omega arith)
     ]
 
 upto_either : (f h : ℕ → Bool) (n : ℕ) → upto (λ k. f k || h k) n ≤ upto f n + upto h n
@@ -150,7 +150,7 @@ upto_either f h (suc n) =
     let d = either (f n) (h n) in
     omega arith
   where
-    either : (a b : Bool) → one (a || b) ≤ one a + one b
+    either : (a b : Bool) → one_if (a || b) ≤ one_if a + one_if b
     either true b = omega arith
     either false b = omega arith
 
@@ -214,7 +214,7 @@ bounded die test told sectors (suc rows) own = by (bounded die test told sectors
         upto_but (passes_below test die (suc rows)) (passes_below test die rows) (owner_of (get_or (marks die) rows None)) sectors
         (λ n l is. elim (earlier n is) [ inl less ↦ inl less | inr last ↦ inr (sym (owner_is die n rows last.1)) ]) in
         let a = upto_more told rows in
-        let x : one (told rows) ≡ 1 = ap one e in
+        let x : one_if (told rows) ≡ 1 = ap one_if e in
         omega arith
     by before false e =
         let same : upto (passes_below test die (suc rows)) sectors ≤ upto (passes_below test die rows) sectors =
@@ -223,7 +223,7 @@ bounded die test told sectors (suc rows) own = by (bounded die test told sectors
           | inr last ↦ absurd (true≢false (sym (own n rows last.0 last.1) ∙ e))
         ]) in
         let a = upto_more told rows in
-        let x : one (told rows) ≡ 0 = ap one e in
+        let x : one_if (told rows) ≡ 0 = ap one_if e in
         omega arith
 
 same_row : (a b : ℕ) → Some a ≡ Some b → a ≡ b
@@ -311,16 +311,16 @@ legible_upto : (g : Geometry) (image : Image) (n : ℕ) → count_by (is_open_pa
 unfolding said_below
 legible_upto g image zero = refl
 legible_upto g image (suc n) =
-    in_row (said_below g image n) (slice_get image n) ∙ (ap (λ k. k + one (is_legible g image n && is_open g image n)) (legible_upto g image n) ∙ sym (upto_more (λ row. is_legible g image row && is_open g image row) n))
+    in_row (said_below g image n) (slice_get image n) ∙ (ap (λ k. k + one_if (is_legible g image n && is_open g image n)) (legible_upto g image n) ∙ sym (upto_more (λ row. is_legible g image row && is_open g image row) n))
   where
     nothing_more : (xs : List SaidPage) → count_by (is_open_page g image) (xs ++ []) ≡ count_by (is_open_page g image) xs + 0
     nothing_more xs = let same = ap (count_by (is_open_page g image)) (append-nil xs) in omega arith
 
-    in_page : (xs : List SaidPage) (o : Option Record) → count_by (is_open_page g image) (xs ++ said_by n o) ≡ count_by (is_open_page g image) xs + one (is_some o && is_open g image n)
+    in_page : (xs : List SaidPage) (o : Option Record) → count_by (is_open_page g image) (xs ++ said_by n o) ≡ count_by (is_open_page g image) xs + one_if (is_some o && is_open g image n)
     in_page xs None = nothing_more xs
     in_page xs (Some r) = sum_by_push (λ y. cond (is_open_page g image y) 1 0) xs (record { row = n; says = r; newer = false })
 
-    in_row : (xs : List SaidPage) (o : Option Page) → count_by (is_open_page g image) (xs ++ said_in_row g n o) ≡ count_by (is_open_page g image) xs + one (is_some (says_of g o) && is_open g image n)
+    in_row : (xs : List SaidPage) (o : Option Page) → count_by (is_open_page g image) (xs ++ said_in_row g n o) ≡ count_by (is_open_page g image) xs + one_if (is_some (says_of g o) && is_open g image n)
     in_row xs None = nothing_more xs
     in_row xs (Some p) = in_page xs (says g p)
 
@@ -425,7 +425,7 @@ others_law g die dump sectors of true_is =
     let legible = legible_upto g dump rows in
     omega arith
   where
-    pairs : (u l o : Bool) → (l ≡ true → u ≡ true) → one (u && o) ≡ one ((u && not l) && o) + one (l && o)
+    pairs : (u l o : Bool) → (l ≡ true → u ≡ true) → one_if (u && o) ≡ one_if ((u && not l) && o) + one_if (l && o)
     pairs true true true h = refl
     pairs true true false h = refl
     pairs true false true h = refl

@@ -30,7 +30,8 @@ use Rattle.lab_dump.specs.declared.concluding.Excuse.{Excuse}
 use Rattle.lab_dump.specs.declared.concluding.Excuse.TheVariants.{Open, Factory, Rewritten}
 use Rattle.lab_dump.specs.Trace.{is_tied_in, place_in_trace}
 use Rattle.lab_dump.specs.Count as sorts
-use Rattle.lab_dump.specs.Count.{HasUnsound, one, is_unsound_in, unsound_below}
+use Rattle.lab_dump.specs.Count.{HasUnsound, is_unsound_in, unsound_below}
+use Rattle.page_layout.specs.Change.{one_if}
 use Rattle.lab_dump.specs.Bad.{is_excused, is_plain, is_rewritten, is_tied, keeps_below, latest_at, strange_of, ties_below}
 use Rattle.lab_dump.specs.Doubts.{doubtful_of, doubts_of, has_page, holes_of, legible_of, is_hole, is_hole_below, is_record_past, is_unsound_at, rows_passing, ToldOnceLaw}
 use Rattle.lab_dump.specs.Doubting.{HasHoles, HasTraces, IsDoubting, holes_below}
@@ -171,26 +172,26 @@ below_more g image test block n =
     ∙ ap (λ k. below g image test block n + k) (by (block n) refl)
   where
     at : (row : ℕ) → (row / g.pages ≡ n) ⊎ ((row / g.pages < n) ⊎ (n < row / g.pages))
-        → one ((test row && block (row / g.pages)) && nat_lt (row / g.pages) (n + 1)) ≡ one
-        ((test row && block (row / g.pages)) && nat_lt (row / g.pages) n) + one ((test row && (row / g.pages == n)) && block n)
+        → one_if ((test row && block (row / g.pages)) && nat_lt (row / g.pages) (n + 1)) ≡ one_if
+        ((test row && block (row / g.pages)) && nat_lt (row / g.pages) n) + one_if ((test row && (row / g.pages == n)) && block n)
     at row (inl same) =
-        let a : one ((test row && block (row / g.pages)) && nat_lt (row / g.pages) (n + 1)) ≡ one (test row && block n) = ap
-        (λ b. one ((test row && block (row / g.pages)) && b)) (lt-ltb (row / g.pages) (n + 1) (omega arith)) ∙
-        (ap one (all_right (test row && block (row / g.pages))) ∙ ap (λ k. one (test row && block k)) same) in
-        let b : one ((test row && block (row / g.pages)) && nat_lt (row / g.pages) n) ≡ 0 = ap (λ b. one ((test row && block (row / g.pages)) && b)) (le-ltb (row / g.pages) n (omega arith)) ∙ ap one (no_right (test row && block (row / g.pages))) in
-        let c : one ((test row && (row / g.pages == n)) && block n) ≡ one (test row && block n) = ap (λ b. one ((test row && b) && block n)) (eq-eqb (row / g.pages) n same) ∙ ap (λ b. one (b && block n)) (all_right (test row)) in
+        let a : one_if ((test row && block (row / g.pages)) && nat_lt (row / g.pages) (n + 1)) ≡ one_if (test row && block n) = ap
+        (λ b. one_if ((test row && block (row / g.pages)) && b)) (lt-ltb (row / g.pages) (n + 1) (omega arith)) ∙
+        (ap one_if (all_right (test row && block (row / g.pages))) ∙ ap (λ k. one_if (test row && block k)) same) in
+        let b : one_if ((test row && block (row / g.pages)) && nat_lt (row / g.pages) n) ≡ 0 = ap (λ b. one_if ((test row && block (row / g.pages)) && b)) (le-ltb (row / g.pages) n (omega arith)) ∙ ap one_if (no_right (test row && block (row / g.pages))) in
+        let c : one_if ((test row && (row / g.pages == n)) && block n) ≡ one_if (test row && block n) = ap (λ b. one_if ((test row && b) && block n)) (eq-eqb (row / g.pages) n same) ∙ ap (λ b. one_if (b && block n)) (all_right (test row)) in
         omega arith
     at row (inr (inl less)) =
-        let a : one ((test row && block (row / g.pages)) && nat_lt (row / g.pages) (n + 1)) ≡ one (test row && block (row / g.pages)) = ap
-        (λ b. one ((test row && block (row / g.pages)) && b)) (lt-ltb (row / g.pages) (n + 1) (omega arith)) ∙ ap one
+        let a : one_if ((test row && block (row / g.pages)) && nat_lt (row / g.pages) (n + 1)) ≡ one_if (test row && block (row / g.pages)) = ap
+        (λ b. one_if ((test row && block (row / g.pages)) && b)) (lt-ltb (row / g.pages) (n + 1) (omega arith)) ∙ ap one_if
         (all_right (test row && block (row / g.pages))) in
-        let b : one ((test row && block (row / g.pages)) && nat_lt (row / g.pages) n) ≡ one (test row && block (row / g.pages)) = ap (λ b. one ((test row && block (row / g.pages)) && b)) (lt-ltb (row / g.pages) n less) ∙ ap one (all_right (test row && block (row / g.pages))) in
-        let c : one ((test row && (row / g.pages == n)) && block n) ≡ 0 = ap (λ b. one ((test row && b) && block n)) (ne_eqb (row / g.pages) n (λ e. absurd (omega arith))) ∙ ap (λ b. one (b && block n)) (no_right (test row)) in
+        let b : one_if ((test row && block (row / g.pages)) && nat_lt (row / g.pages) n) ≡ one_if (test row && block (row / g.pages)) = ap (λ b. one_if ((test row && block (row / g.pages)) && b)) (lt-ltb (row / g.pages) n less) ∙ ap one_if (all_right (test row && block (row / g.pages))) in
+        let c : one_if ((test row && (row / g.pages == n)) && block n) ≡ 0 = ap (λ b. one_if ((test row && b) && block n)) (ne_eqb (row / g.pages) n (λ e. absurd (omega arith))) ∙ ap (λ b. one_if (b && block n)) (no_right (test row)) in
         omega arith
     at row (inr (inr more)) =
-        let a : one ((test row && block (row / g.pages)) && nat_lt (row / g.pages) (n + 1)) ≡ 0 = ap (λ b. one ((test row && block (row / g.pages)) && b)) (le-ltb (row / g.pages) (n + 1) (omega arith)) ∙ ap one (no_right (test row && block (row / g.pages))) in
-        let b : one ((test row && block (row / g.pages)) && nat_lt (row / g.pages) n) ≡ 0 = ap (λ b. one ((test row && block (row / g.pages)) && b)) (le-ltb (row / g.pages) n (omega arith)) ∙ ap one (no_right (test row && block (row / g.pages))) in
-        let c : one ((test row && (row / g.pages == n)) && block n) ≡ 0 = ap (λ b. one ((test row && b) && block n)) (ne_eqb (row / g.pages) n (λ e. absurd (omega arith))) ∙ ap (λ b. one (b && block n)) (no_right (test row)) in
+        let a : one_if ((test row && block (row / g.pages)) && nat_lt (row / g.pages) (n + 1)) ≡ 0 = ap (λ b. one_if ((test row && block (row / g.pages)) && b)) (le-ltb (row / g.pages) (n + 1) (omega arith)) ∙ ap one_if (no_right (test row && block (row / g.pages))) in
+        let b : one_if ((test row && block (row / g.pages)) && nat_lt (row / g.pages) n) ≡ 0 = ap (λ b. one_if ((test row && block (row / g.pages)) && b)) (le-ltb (row / g.pages) n (omega arith)) ∙ ap one_if (no_right (test row && block (row / g.pages))) in
+        let c : one_if ((test row && (row / g.pages == n)) && block n) ≡ 0 = ap (λ b. one_if ((test row && b) && block n)) (ne_eqb (row / g.pages) n (λ e. absurd (omega arith))) ∙ ap (λ b. one_if (b && block n)) (no_right (test row)) in
         omega arith
 
     by : (b : Bool) → block n ≡ b → upto (λ row. (test row && (row / g.pages == n)) && block n) (length image) ≡ cond (block n) (of_block g image test n) 0
@@ -213,7 +214,7 @@ upto_few : (f : ℕ → Bool) (n : ℕ) → upto f n ≤ n
 upto_few f zero = omega arith
 upto_few f (suc n) = let rest = upto_few f n in let more = upto_more f n in let small = few (f n) in omega arith
   where
-    few : (b : Bool) → one b ≤ 1
+    few : (b : Bool) → one_if b ≤ 1
     few true = omega arith
     few false = omega arith
 
@@ -361,7 +362,7 @@ summed_block g image dt plain n unsound holes d new x size h within old excuse u
 abbrev pub is_open_page : Geometry → Image → SaidPage → Bool
 is_open_page g image x = not (is_excused g image (x.row / g.pages))
 
-open_excuse : (f r : Bool) → one_open (cond f Factory (cond r Rewritten Open)) ≡ one (not (f || r))
+open_excuse : (f r : Bool) → one_open (cond f Factory (cond r Rewritten Open)) ≡ one_if (not (f || r))
 open_excuse true r = refl
 open_excuse false true = refl
 open_excuse false false = refl
@@ -370,9 +371,9 @@ pub legible_more : (g : Geometry) (image : Image) (said : List SaidPage) (i : �
     → n ≡ count_by (is_open_page g image) (take i said) → n + one_open x ≡ count_by (is_open_page g image) (take (i + 1) said)
 legible_more g image said i d block x n within at is before =
     let y = get_or said i d in
-    let more : count_by (is_open_page g image) (take (i + 1) said) ≡ count_by (is_open_page g image) (take i said) + one (is_open_page g image y) =
+    let more : count_by (is_open_page g image) (take (i + 1) said) ≡ count_by (is_open_page g image) (take i said) + one_if (is_open_page g image y) =
     ap (count_by (is_open_page g image)) (take_more said i d within) ∙ sum_by_push (λ z. cond (is_open_page g image z) 1 0) (take i said) y in
-    let here : one_open x ≡ one (is_open_page g image y) =
+    let here : one_open x ≡ one_if (is_open_page g image y) =
     ap one_open (is ∙ ap (excuse_of g image) at) ∙ open_excuse (is_factory g image (y.row / g.pages)) (is_rewritten g image (y.row / g.pages)) in
     omega arith
 
@@ -433,7 +434,7 @@ once_law g image d is = rw is (
         (λ row. test row && not (is_rewritten g image (row / g.pages))) (length image)
         (λ row l. two (test row) (is_factory g image (row / g.pages)) (is_rewritten g image (row / g.pages)) (factory_alone g image (row / g.pages)))
       where
-        two : (t f r : Bool) → (f ≡ true → r ≡ false) → one (t && not r) ≡ one (t && not (f || r)) + one (t && f)
+        two : (t f r : Bool) → (f ≡ true → r ≡ false) → one_if (t && not r) ≡ one_if (t && not (f || r)) + one_if (t && f)
         two true true true e = absurd (true≢false (e refl))
         two true true false e = refl
         two true false true e = refl
@@ -443,7 +444,7 @@ once_law g image d is = rw is (
     rest : (test : ℕ → Bool) → upto test (length image) ≡ upto (λ row. test row && not (is_rewritten g image (row / g.pages))) (length image) + upto (λ row. test row && is_rewritten g image (row / g.pages)) (length image)
     rest test = upto_sum (λ row. test row && not (is_rewritten g image (row / g.pages))) (λ row. test row && is_rewritten g image (row / g.pages)) test (length image) (λ row l. either (test row) (is_rewritten g image (row / g.pages)))
       where
-        either : (t r : Bool) → one t ≡ one (t && not r) + one (t && r)
+        either : (t r : Bool) → one_if t ≡ one_if (t && not r) + one_if (t && r)
         either true true = refl
         either true false = refl
         either false r = refl

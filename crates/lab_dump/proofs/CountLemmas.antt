@@ -17,21 +17,22 @@ use Rattle.page_layout.specs.Sound.{record_of, is_erased_page, code_of_kind}
 use Rattle.page_layout.proofs.RecordLemmas.{erased_no_record}
 use Rattle.page_layout.specs.Block.{is_broken}
 use Rattle.lab_dump.specs.declared.counts.PageCounts.{PageCounts}
-use Rattle.lab_dump.specs.Count.{AreFew, HasUnsound, SortsLaw, no_counts, one, page_counts_of, with_page_counted, is_of_kind, is_outside, is_last, is_broken_page, is_unsound_in, unsound_below}
+use Rattle.lab_dump.specs.Count.{AreFew, HasUnsound, SortsLaw, no_counts, page_counts_of, with_page_counted, is_of_kind, is_outside, is_last, is_broken_page, is_unsound_in, unsound_below}
+use Rattle.page_layout.specs.Change.{one_if}
 
 -- ---- counts
 
 page_at : (image : Image) (row : ℕ) (p : Page) → slice_get image row ≡ Some p → get_or image row p ≡ p
 page_at image row p is = same_Some (get_or image row p) p (sym (slice_get-get_or image row p (slice_get_within image row p is)) ∙ is)
 
-pub count_more : (test : Page → Bool) (image : Image) (row : ℕ) (p : Page) → slice_get image row ≡ Some p → count_by test (take (row + 1) image) ≡ count_by test (take row image) + one (test p)
+pub count_more : (test : Page → Bool) (image : Image) (row : ℕ) (p : Page) → slice_get image row ≡ Some p → count_by test (take (row + 1) image) ≡ count_by test (take row image) + one_if (test p)
 count_more test image row p is = by_test (test p) refl
   where
-    by_test : (b : Bool) → test p ≡ b → count_by test (take (row + 1) image) ≡ count_by test (take row image) + one (test p)
-    by_test true e = count_by_more_yes test image row p (slice_get_within image row p is) (ap test (page_at image row p is) ∙ e) ∙ ap (λ b. count_by test (take row image) + one b) (sym e)
-    by_test false e = count_by_more_no test image row p (slice_get_within image row p is) (ap test (page_at image row p is) ∙ e) ∙ (omega arith ∙ ap (λ b. count_by test (take row image) + one b) (sym e))
+    by_test : (b : Bool) → test p ≡ b → count_by test (take (row + 1) image) ≡ count_by test (take row image) + one_if (test p)
+    by_test true e = count_by_more_yes test image row p (slice_get_within image row p is) (ap test (page_at image row p is) ∙ e) ∙ ap (λ b. count_by test (take row image) + one_if b) (sym e)
+    by_test false e = count_by_more_no test image row p (slice_get_within image row p is) (ap test (page_at image row p is) ∙ e) ∙ (omega arith ∙ ap (λ b. count_by test (take row image) + one_if b) (sym e))
 
-pub counted_more : (test : Page → Bool) (image : Image) (row : ℕ) (p : Page) (old more : ℕ) → slice_get image row ≡ Some p → old ≡ count_by test (take row image) → more ≡ one (test p) → old + more ≡ count_by test (take (row + 1) image)
+pub counted_more : (test : Page → Bool) (image : Image) (row : ℕ) (p : Page) (old more : ℕ) → slice_get image row ≡ Some p → old ≡ count_by test (take row image) → more ≡ one_if (test p) → old + more ≡ count_by test (take (row + 1) image)
 counted_more test image row p old more is before now = ap (λ k. k + more) before ∙ (ap (λ k. count_by test (take row image) + k) now ∙ sym (count_more test image row p is))
 
 pub counts_more : (g : Geometry) (image : Image) (row : ℕ) (p : Page) (c new : PageCounts) → slice_get image row ≡ Some p → c ≡ page_counts_of g (take row image) → new ≡ with_page_counted g c (record_of p) (is_erased_page p) → new ≡ page_counts_of g (take (row + 1) image)
@@ -54,7 +55,7 @@ counts_none g image c e = e
 pub counts_whole : (g : Geometry) (image : Image) (rows : ℕ) (c : PageCounts) → length image ≡ rows → c ≡ page_counts_of g (take rows image) → c ≡ page_counts_of g image
 counts_whole g image rows c size e = e ∙ ap (page_counts_of g) (ap (λ n. take n image) (sym size) ∙ take-length image)
 
-one_le : (b : Bool) → one b ≤ 1
+one_le : (b : Bool) → one_if b ≤ 1
 one_le true = omega arith
 one_le false = omega arith
 
@@ -100,19 +101,19 @@ pub range_last : (a n j : ℕ) → a + n ≡ j → range_with_len a (suc n) ≡ 
 range_last a zero j e = let same : a ≡ j = omega arith in ap (λ k. k ∷ []) same
 range_last a (suc n) j e = ap (λ l. a ∷ l) (range_last (a + 1) n j (omega arith))
 
-below_more : (g : Geometry) (image : Image) (row b : ℕ) → unsound_below g image (row + 1) b ≡ unsound_below g image row b + one (is_unsound_in g image b row)
+below_more : (g : Geometry) (image : Image) (row b : ℕ) → unsound_below g image (row + 1) b ≡ unsound_below g image row b + one_if (is_unsound_in g image b row)
 unfolding unsound_below
 below_more g image row b =
     let next : row + 1 ≡ suc row = omega arith in
     ap (λ n. count_by (is_unsound_in g image b) (range_with_len 0 n)) next
     ∙ (ap (count_by (is_unsound_in g image b)) (range_last 0 row row (omega arith)) ∙ push (is_unsound_in g image b) (range_with_len 0 row) row)
   where
-    push : (test : ℕ → Bool) (xs : List ℕ) (x : ℕ) → count_by test (xs ++ x ∷ []) ≡ count_by test xs + one (test x)
+    push : (test : ℕ → Bool) (xs : List ℕ) (x : ℕ) → count_by test (xs ++ x ∷ []) ≡ count_by test xs + one_if (test x)
     push test xs x = sum_by_push (λ y. cond (test y) 1 0) xs x
 
 -- the row's page isn't one that is counted for the block
 below_same : (g : Geometry) (image : Image) (row b : ℕ) → is_unsound_in g image b row ≡ false → unsound_below g image (row + 1) b ≡ unsound_below g image row b
-below_same g image row b e = below_more g image row b ∙ (ap (λ t. unsound_below g image row b + one t) e ∙ omega arith)
+below_same g image row b e = below_more g image row b ∙ (ap (λ t. unsound_below g image row b + one_if t) e ∙ omega arith)
 
 at_row : (image : Image) (row : ℕ) (p : Page) (b : Bool) → slice_get image row ≡ Some p → is_broken p ≡ b → is_broken_page (slice_get image row) ≡ b
 at_row image row p b is e = ap is_broken_page is ∙ e
@@ -139,7 +140,7 @@ unsound_set g image row b d new p items h is e block within more =
             let yes : is_unsound_in g image b row ≡ true = ap (λ t. t && is_broken_page (slice_get image row)) (ap (λ k. k == b) (sym block) ∙ eq-eqb b b refl) ∙ at_row image row p true is e in
             let old : new ≡ unsound_below g image row b + 1 = more ∙ ap (λ k. k + 1) (get_or_default items b d 0 in_items ∙ h.at b within) in
             subst (λ k. get_or (set items b new) k 0 ≡ unsound_below g image (row + 1) k) (sym same)
-            (get_or-set_same items b new 0 in_items ∙ (old ∙ sym (below_more g image row b ∙ ap (λ t. unsound_below g image row b + one t) yes)))
+            (get_or-set_same items b new 0 in_items ∙ (old ∙ sym (below_more g image row b ∙ ap (λ t. unsound_below g image row b + one_if t) yes)))
         | inr ne ↦
             get_or-set_other items b c new 0 ne ∙ (h.at c l ∙ sym (below_same g image row c (ap (λ t. t && is_broken_page (slice_get image row)) (ne_eqb (row / g.pages) c (λ x. ne (sym x ∙ sym block))))))
       ];
@@ -171,15 +172,15 @@ broken_of p e n = ap (λ b. not b && not (is_some (record_of p))) e ∙ ap (λ b
 
 -- ---- each page is of one sort
 
-kind_one : (k : Kind) → one (code_of_kind k == 1) + one (code_of_kind k == 2) + one (code_of_kind k == 3) + one (code_of_kind k == 4) ≡ 1
+kind_one : (k : Kind) → one_if (code_of_kind k == 1) + one_if (code_of_kind k == 2) + one_if (code_of_kind k == 3) + one_if (code_of_kind k == 4) ≡ 1
 kind_one kind.Sector = refl
 kind_one kind.Trim = refl
 kind_one kind.Translation = refl
 kind_one kind.Table = refl
 
 sort_one : (found : Option Record) (erased : Bool) → (erased ≡ true → found ≡ None)
-    → one (is_of_kind kind.Sector found) + one (is_of_kind kind.Trim found) + one (is_of_kind kind.Translation found) + one
-    (is_of_kind kind.Table found) + one erased + one (not erased && not (is_some found)) ≡ 1
+    → one_if (is_of_kind kind.Sector found) + one_if (is_of_kind kind.Trim found) + one_if (is_of_kind kind.Translation found) + one_if
+    (is_of_kind kind.Table found) + one_if erased + one_if (not erased && not (is_some found)) ≡ 1
 sort_one None true h = refl
 sort_one None false h = refl
 sort_one (Some r) true h = absurd (let clash : Some r ≡ None = h refl in cc)

@@ -13,7 +13,7 @@ use Rattle.page_layout.specs.declared.geometry.Geometry.{Geometry}
 use Rattle.page_layout.specs.Page.{Page, Image}
 use Rattle.page_layout.specs.Sound.{is_erased_page}
 use Rattle.page_layout.specs.Block.{is_programmed}
-use Rattle.lab_dump.specs.Count.{one}
+use Rattle.page_layout.specs.Change.{one_if}
 use Rattle.lab_dump.specs.Doubts.{has_page, is_erased_at, is_programmed_at, shows_hole, is_hole_below, is_hole, HoleLaw}
 use Rattle.lab_dump.specs.Doubting.{HasHoles, carried, ending, holes_below}
 use Rattle.lab_dump.proofs.AnyLemmas.{any_at, any_more}
@@ -24,13 +24,13 @@ use Rattle.lab_dump.proofs.CountLemmas.{range_last, count_more}
 abbrev pub upto : (ℕ → Bool) → ℕ → ℕ
 upto f n = count_by f (range_with_len 0 n)
 
-pub upto_more : (f : ℕ → Bool) (n : ℕ) → upto f (suc n) ≡ upto f n + one (f n)
+pub upto_more : (f : ℕ → Bool) (n : ℕ) → upto f (suc n) ≡ upto f n + one_if (f n)
 upto_more f n = ap (count_by f) (range_last 0 n n (omega arith)) ∙ sum_by_push (λ y. cond (f y) 1 0) (range_with_len 0 n) n
 
 pub upto_same : (f h : ℕ → Bool) (n : ℕ) → ((k : ℕ) → k < n → f k ≡ h k) → upto f n ≡ upto h n
 upto_same f h zero e = refl
 upto_same f h (suc n) e =
-    let last : one (f n) ≡ one (h n) = ap one (e n (omega arith)) in
+    let last : one_if (f n) ≡ one_if (h n) = ap one_if (e n (omega arith)) in
     let before : upto f n ≡ upto h n = upto_same f h n (λ k l. e k (omega arith)) in
     let a = upto_more f n in
     let b = upto_more h n in
@@ -39,12 +39,12 @@ upto_same f h (suc n) e =
 pub upto_none : (f : ℕ → Bool) (n : ℕ) → ((k : ℕ) → k < n → f k ≡ false) → upto f n ≡ 0
 upto_none f zero e = refl
 upto_none f (suc n) e =
-    let last : one (f n) ≡ 0 = ap one (e n (omega arith)) in
+    let last : one_if (f n) ≡ 0 = ap one_if (e n (omega arith)) in
     let before : upto f n ≡ 0 = upto_none f n (λ k l. e k (omega arith)) in
     let a = upto_more f n in
     omega arith
 
-pub upto_sum : (f h both : ℕ → Bool) (n : ℕ) → ((k : ℕ) → k < n → one (both k) ≡ one (f k) + one (h k)) → upto both n ≡ upto f n + upto h n
+pub upto_sum : (f h both : ℕ → Bool) (n : ℕ) → ((k : ℕ) → k < n → one_if (both k) ≡ one_if (f k) + one_if (h k)) → upto both n ≡ upto f n + upto h n
 upto_sum f h both zero e = refl
 upto_sum f h both (suc n) e =
     let last = e n (omega arith) in
@@ -60,9 +60,9 @@ upto_pages test image zero l = refl
 upto_pages test image (suc n) l =
     let at = some_page image n (omega arith) in
     let before : upto (λ row. has_page test (slice_get image row)) n ≡ count_by test (take n image) = upto_pages test image n (omega arith) in
-    let here : one (has_page test (slice_get image n)) ≡ one (test at.0) = ap (λ o. one (has_page test o)) at.1 in
+    let here : one_if (has_page test (slice_get image n)) ≡ one_if (test at.0) = ap (λ o. one_if (has_page test o)) at.1 in
     let a = upto_more (λ row. has_page test (slice_get image row)) n in
-    let b : count_by test (take (suc n) image) ≡ count_by test (take n image) + one (test at.0) = ap (λ k. count_by test (take k image)) (sym (add-one n)) ∙ count_more test image n at.0 at.1 in
+    let b : count_by test (take (suc n) image) ≡ count_by test (take n image) + one_if (test at.0) = ap (λ k. count_by test (take k image)) (sym (add-one n)) ∙ count_more test image n at.0 at.1 in
     omega arith
   where
     some_page : (image : Image) (row : ℕ) → row < length image → (p : Page) × (slice_get image row ≡ Some p)
@@ -159,7 +159,7 @@ sorted [] row b l e = absurd (omega arith)
 sorted (p ∷ ps) zero b l e = ap not e
 sorted (p ∷ ps) (suc row) b l e = sorted ps row b (omega arith) e
 
-hole_parts : (e s a : Bool) → one (e && (s || a)) ≡ one (e && s) + one (e && (a && not s))
+hole_parts : (e s a : Bool) → one_if (e && (s || a)) ≡ one_if (e && s) + one_if (e && (a && not s))
 hole_parts true true true = refl
 hole_parts true true false = refl
 hole_parts true false true = refl
@@ -202,7 +202,7 @@ open_count g image (suc n) l = elim (cases_eq (suc n % g.pages) 0) [
         ap (λ k. is_erased_at image row && ((k == row / g.pages) && not (shown g image (suc n) row))) block
         ∙ ap (λ t. is_erased_at image row && ((n / g.pages == row / g.pages) && not t)) (shown_kept g image n row less (sorted image n true (omega arith) e))) in
         let more = upto_more (is_open g image (suc n)) n in
-        let one_last : one (is_open g image (suc n) n) ≡ 1 = ap one last in
+        let one_last : one_if (is_open g image (suc n) n) ≡ 1 = ap one_if last in
         let sum : upto (is_open g image (suc n)) (suc n) ≡ carried g image n + 1 = omega arith in
         sum ∙ (by (n % g.pages == 0) ∙ ap (λ b. cond b (cond (n % g.pages == 0) 1 (ending g image n + 1)) 0) (sym e))
       where
@@ -216,7 +216,7 @@ open_count g image (suc n) l = elim (cases_eq (suc n % g.pages) 0) [
         ∙ (ap (λ t. is_erased_at image row && ((n / g.pages == row / g.pages) && not t)) (shown_now g image n row less (sorted image n false (omega arith) e))
         ∙ open_closed (is_erased_at image row) (n / g.pages == row / g.pages) (shown g image n row))) in
         let more = upto_more (is_open g image (suc n)) n in
-        let one_last : one (is_open g image (suc n) n) ≡ 0 = ap one last in
+        let one_last : one_if (is_open g image (suc n) n) ≡ 0 = ap one_if last in
         let sum : upto (is_open g image (suc n)) (suc n) ≡ 0 = omega arith in
         sum ∙ ap (λ b. cond b (cond (n % g.pages == 0) 1 (ending g image n + 1)) 0) (sym e)
 
@@ -229,10 +229,10 @@ abbrev is_open_in : Geometry → Image → ℕ → ℕ → ℕ → Bool
 is_open_in g image n block row = is_open g image n row && (row / g.pages == block)
 
 -- the last of the first rows is none of them
-last_none : (g : Geometry) (image : Image) (n block : ℕ) → one (is_hole_in g image (suc n) block n) ≡ 0
+last_none : (g : Geometry) (image : Image) (n block : ℕ) → one_if (is_hole_in g image (suc n) block n) ≡ 0
 last_none g image n block =
     let last : is_hole_below g image (suc n) n ≡ false = ap (λ b. is_erased_at image n && b) (shown_none g image (suc n) n (omega arith)) ∙ no_right (is_erased_at image n) in
-    ap (λ b. one (b && (n / g.pages == block))) last
+    ap (λ b. one_if (b && (n / g.pages == block))) last
 
 -- an erased page shows none
 holes_kept : (g : Geometry) (image : Image) (n block : ℕ) → n < length image → is_erased_at image n ≡ true → holes_below g image (suc n) block ≡ holes_below g image n block
@@ -244,14 +244,14 @@ holes_kept g image n block l e =
     let last = last_none g image n block in
     omega arith
 
-in_parts : (e s a q : Bool) → one ((e && (s || a)) && q) ≡ one ((e && s) && q) + one ((e && (a && not s)) && q)
+in_parts : (e s a q : Bool) → one_if ((e && (s || a)) && q) ≡ one_if ((e && s) && q) + one_if ((e && (a && not s)) && q)
 in_parts e s a true =
-    ap one (all_right (e && (s || a)))
-    ∙ (hole_parts e s a ∙ (ap (λ t. one t + one (e && (a && not s))) (sym (all_right (e && s))) ∙ ap (λ t. one ((e && s) && true) + one t) (sym (all_right (e && (a && not s))))))
+    ap one_if (all_right (e && (s || a)))
+    ∙ (hole_parts e s a ∙ (ap (λ t. one_if t + one_if (e && (a && not s))) (sym (all_right (e && s))) ∙ ap (λ t. one_if ((e && s) && true) + one_if t) (sym (all_right (e && (a && not s))))))
 in_parts e s a false =
-    let x : one ((e && (s || a)) && false) ≡ 0 = ap one (no_right (e && (s || a))) in
-    let y : one ((e && s) && false) ≡ 0 = ap one (no_right (e && s)) in
-    let z : one ((e && (a && not s)) && false) ≡ 0 = ap one (no_right (e && (a && not s))) in
+    let x : one_if ((e && (s || a)) && false) ≡ 0 = ap one_if (no_right (e && (s || a))) in
+    let y : one_if ((e && s) && false) ≡ 0 = ap one_if (no_right (e && s)) in
+    let z : one_if ((e && (a && not s)) && false) ≡ 0 = ap one_if (no_right (e && (a && not s))) in
     omega arith
 
 -- those that a page would make holes of are of its block
@@ -281,7 +281,7 @@ holes_shown : (g : Geometry) (image : Image) (n block : ℕ) → n < length imag
 unfolding holes_below
 holes_shown g image n block l e =
     let before : upto (is_hole_in g image (suc n) block) n ≡ upto (is_hole_in g image n block) n + upto (is_open_in g image n block) n = upto_sum (is_hole_in g image n block) (is_open_in g image n block) (is_hole_in g image (suc n) block) n (λ row less.
-    ap (λ t. one ((is_erased_at image row && t) && (row / g.pages == block))) (shown_now g image n row less (sorted image n false (omega arith) e))
+    ap (λ t. one_if ((is_erased_at image row && t) && (row / g.pages == block))) (shown_now g image n row less (sorted image n false (omega arith) e))
     ∙ in_parts (is_erased_at image row) (shown g image n row) (n / g.pages == row / g.pages) (row / g.pages == block)) in
     let opened = open_in g image n block (omega arith) in
     let more = upto_more (is_hole_in g image (suc n) block) n in

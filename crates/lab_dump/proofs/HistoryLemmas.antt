@@ -24,7 +24,7 @@ use Rattle.page_layout.proofs.ArrayLemmas.{mark-page, page_of_mark}
 use Rattle.page_layout.proofs.KeyLemmas.{key_eq-same, key_eq-true}
 use Rattle.page_layout.proofs.NewestLemmas.{newest-is, sequence_at-is, sequence_at-key}
 use Rattle.page_layout.proofs.RawLemmas.{length-raw_image}
-use Rattle.lab_dump.specs.Count.{one}
+use Rattle.page_layout.specs.Change.{one_if}
 use Rattle.lab_dump.specs.Scan.{IsTaken}
 use Rattle.lab_dump.specs.declared.history.History.{History}
 use Rattle.lab_dump.specs.declared.history.SectorPage.{SectorPage}
@@ -54,10 +54,10 @@ pages_noted image n row p found old new at says before after =
 -- ---- the pages that are neither erased nor sound
 
 pub unsound_same : (image : Image) (row : ℕ) (p : Page) (n : ℕ) → slice_get image row ≡ Some p → is_broken p ≡ false → n ≡ count_by is_broken (take row image) → n ≡ count_by is_broken (take (row + 1) image)
-unsound_same image row p n at whole before = let more = count_more is_broken image row p at ∙ ap (λ b. count_by is_broken (take row image) + one b) whole in omega arith
+unsound_same image row p n at whole before = let more = count_more is_broken image row p at ∙ ap (λ b. count_by is_broken (take row image) + one_if b) whole in omega arith
 
 pub unsound_more : (image : Image) (row : ℕ) (p : Page) (n : ℕ) → slice_get image row ≡ Some p → is_broken p ≡ true → n ≡ count_by is_broken (take row image) → n + 1 ≡ count_by is_broken (take (row + 1) image)
-unsound_more image row p n at broken before = let more = count_more is_broken image row p at ∙ ap (λ b. count_by is_broken (take row image) + one b) broken in omega arith
+unsound_more image row p n at broken before = let more = count_more is_broken image row p at ∙ ap (λ b. count_by is_broken (take row image) + one_if b) broken in omega arith
 
 -- ---- the order
 

@@ -12,6 +12,7 @@ use Rattle.page_layout.specs.Page.{Page, Image}
 use Rattle.page_layout.specs.Sound.{record_of, is_erased_page, code_of_kind}
 use Rattle.page_layout.specs.Key.{key_of}
 use Rattle.page_layout.specs.Block.{is_broken}
+use Rattle.page_layout.specs.Change.{one_if}
 use Rattle.lab_dump.specs.declared.counts.PageCounts.{PageCounts}
 
 -- ---- sorts of records
@@ -56,20 +57,17 @@ page_counts_of g image = record {
 abbrev pub no_counts : PageCounts
 no_counts = record { sectors = 0; trims = 0; translations = 0; tables = 0; erased = 0; unsound = 0; outside = 0; last = 0 }
 
-abbrev pub one : Bool → ℕ
-one b = if b then 1 else 0
-
 -- the counts with one page more, by its record and whether it is erased
 abbrev pub with_page_counted : Geometry → PageCounts → Option Record → Bool → PageCounts
 with_page_counted g c found erased = record {
-  sectors = c.sectors + one (is_of_kind kind.Sector found);
-  trims = c.trims + one (is_of_kind kind.Trim found);
-  translations = c.translations + one (is_of_kind kind.Translation found);
-  tables = c.tables + one (is_of_kind kind.Table found);
-  erased = c.erased + one erased;
-  unsound = c.unsound + one (not erased && not (is_some found));
-  outside = c.outside + one (is_outside g found);
-  last = c.last + one (is_last found);
+  sectors = c.sectors + one_if (is_of_kind kind.Sector found);
+  trims = c.trims + one_if (is_of_kind kind.Trim found);
+  translations = c.translations + one_if (is_of_kind kind.Translation found);
+  tables = c.tables + one_if (is_of_kind kind.Table found);
+  erased = c.erased + one_if erased;
+  unsound = c.unsound + one_if (not erased && not (is_some found));
+  outside = c.outside + one_if (is_outside g found);
+  last = c.last + one_if (is_last found);
 }
 
 -- none is past so many

@@ -70,14 +70,14 @@ fn is_last(found: Option<Record>) -> bool
 
 // 1 where there is a record whose number is out of range, else 0.
 pub(crate) fn one_strange(geometry: &Geometry, found: Option<Record>) -> u32
-    ensures is { result ≡ Rattle.lab_dump.specs.Count.one (is_outside geometry.now found) }
+    ensures is { result ≡ Rattle.page_layout.specs.Change.one_if (is_outside geometry.now found) }
     ensures small { result ≤ 1 }
 {
     one(is_outside(geometry, found))
 }
 
 fn one(is: bool) -> u32
-    ensures is { result ≡ Rattle.lab_dump.specs.Count.one is }
+    ensures is { result ≡ Rattle.page_layout.specs.Change.one_if is }
     ensures small { result ≤ 1 }
 {
     if is { 1 } else { 0 }

@@ -6,7 +6,8 @@ ghost use Rattle.page_layout.specs.Page.{Page, Image, page};
 ghost use Rattle.page_layout.specs.Sound.{record_of, is_erased_page};
 ghost use Rattle.page_layout.specs.Array.{marks};
 ghost use Rattle.image_check.specs.Survey.{HasTableBytes};
-ghost use Rattle.lab_dump.specs.Count.{HasUnsound, one};
+ghost use Rattle.lab_dump.specs.Count.{HasUnsound};
+ghost use Rattle.page_layout.specs.Change.{one_if};
 ghost use Rattle.lab_dump.specs.Doubts.{is_record_past};
 ghost use Rattle.lab_dump.specs.Doubting.{DoubtingStands, HasHoles, HasTraces, IsDoubting};
 ghost use Rattle.lab_dump.specs.Trace.{place_in_trace};
@@ -47,7 +48,7 @@ pub(crate) struct Doubting {
 
 // 1 where there is a record, of a sector at or past the number of sectors, else 0.
 fn one_outside(geometry: &Geometry, found: Option<Record>) -> u32
-    ensures is { result ≡ one (is_record_past geometry.now found) }
+    ensures is { result ≡ one_if (is_record_past geometry.now found) }
     ensures small { result ≤ 1 }
 {
     let Some(found) = found else {
