@@ -1,5 +1,6 @@
 //! How many pages are of each sort.
 ghost use Rattle.std.specs.Prelude.{◌≡◌, ◌+◌, ◌-◌, ◌/◌, ◌<◌, ◌≤◌, ◌^◌, All, length, slice_get, Some, true, not, ◌&&◌, is_some};
+ghost use Rattle.page_layout.specs.Change.{one_if};
 ghost use Rattle.page_layout.specs.Geometry.{row_count};
 ghost use Rattle.page_layout.specs.Page.{Page, Image};
 ghost use Rattle.page_layout.specs.Sound.{record_of, is_erased_page};
@@ -70,14 +71,14 @@ fn is_last(found: Option<Record>) -> bool
 
 // 1 where there is a record whose number is out of range, else 0.
 pub(crate) fn one_strange(geometry: &Geometry, found: Option<Record>) -> u32
-    ensures is { result ≡ Rattle.page_layout.specs.Change.one_if (is_outside geometry.now found) }
+    ensures is { result ≡ one_if (is_outside geometry.now found) }
     ensures small { result ≤ 1 }
 {
     one(is_outside(geometry, found))
 }
 
 fn one(is: bool) -> u32
-    ensures is { result ≡ Rattle.page_layout.specs.Change.one_if is }
+    ensures is { result ≡ one_if is }
     ensures small { result ≤ 1 }
 {
     if is { 1 } else { 0 }

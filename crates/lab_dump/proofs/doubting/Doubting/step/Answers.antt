@@ -4,6 +4,7 @@ use Rattle.std.proofs.lemmas.List.{with_items_is}
 use Rattle.page_layout.specs.Page.{page}
 use Rattle.page_layout.specs.Array.{marks}
 use Rattle.page_layout.specs.Sound.{record_of}
+use Rattle.page_layout.specs.Change.{one_if}
 use Rattle.page_layout.proofs.ArrayLemmas.{mark-page}
 use Rattle.lab_dump.specs.Count as sorts
 use Rattle.lab_dump.specs.Doubts.{is_record_past}
@@ -32,8 +33,8 @@ returns c = record {
         holes = rw holes_is (c.note_holes-self.ensures.noted image p (rw c.deref_mut-2.ensures.value h.holes) h.ending_is at erased);
         ending_is = c.note_holes-self.ensures.ending image p h.ending_is at erased;
         said_is = c.note_said.ensures.noted image p h.said_is at erased found refl;
-        outside_is = counted_more (λ q. is_record_past g (record_of q)) image row p self.outside _ at h.outside_is (c.one_outside.ensures.is ∙ ap (λ o. sorts.one (is_record_past g o)) found);
-        strange_is = counted_more (λ q. sorts.is_outside g (record_of q)) image row p self.strange _ at h.strange_is (c.one_strange.ensures.is ∙ ap (λ o. sorts.one (sorts.is_outside g o)) found);
+        outside_is = counted_more (λ q. is_record_past g (record_of q)) image row p self.outside _ at h.outside_is (c.one_outside.ensures.is ∙ ap (λ o. one_if (is_record_past g o)) found);
+        strange_is = counted_more (λ q. sorts.is_outside g (record_of q)) image row p self.strange _ at h.strange_is (c.one_strange.ensures.is ∙ ap (λ o. one_if (sorts.is_outside g o)) found);
       };
   stands =
       let self = c.args.self.now in
