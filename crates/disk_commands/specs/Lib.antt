@@ -25,7 +25,6 @@ pub mod Damage
 -- what a look at all of a disk finds
 pub mod Check
 -- the lost sectors of a disk that is to be served
-pub mod Guard
 -- how its device is opened anew
 pub mod Anew
 -- and one that is ready
