@@ -24,7 +24,6 @@ pub mod Told
 pub mod Damage
 -- what a look at all of a disk finds
 pub mod Check
--- the lost sectors of a disk that is to be served
 -- how its device is opened anew
 pub mod Anew
 -- and one that is ready
