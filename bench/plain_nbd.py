@@ -2,14 +2,13 @@
 
 Written from the protocol's text alone: the fixed newstyle handshake, the default export by NBD_OPT_GO, simple replies."""
 
-import errno
 import select
 import socket
 import struct
 
 NBDMAGIC, IHAVEOPT, OPTION_REPLY = 0x4E42444D41474943, 0x49484156454F5054, 0x3E889045565A9
 REQUEST, REPLY = 0x25609513, 0x67446698
-OPT_GO, REP_ACK, REP_INFO, INFO_EXPORT = 7, 1, 3, 0
+OPT_GO, REP_ACK, REP_INFO = 7, 1, 3
 READ, WRITE, DISC, FLUSH, TRIM, WRITE_ZEROES = 0, 1, 2, 3, 4, 6
 FIXED_NEWSTYLE_NO_ZEROES = 3
 CMD_FLAG_FUA = 1
@@ -22,7 +21,6 @@ class Error(Exception):
     def __init__(self, text, number=0):
         super().__init__(text)
         self.errnum = number
-        self.errno = errno.errorcode.get(number)
 
 
 class Buffer:
@@ -46,7 +44,6 @@ class NBD:
 
     def __init__(self):
         self.socket = None
-        self.size = 0
         self.came = bytearray()
         self.asked = {}
         self.answers = {}
@@ -60,16 +57,11 @@ class NBD:
         self.send(struct.pack(">IQII", FIXED_NEWSTYLE_NO_ZEROES, IHAVEOPT, OPT_GO, 6) + bytes(6))
         while True:
             magic, option, kind, length = struct.unpack(">QIII", self.exactly(20))
-            body = self.exactly(length)
+            self.exactly(length)
             if (magic, option) != (OPTION_REPLY, OPT_GO) or kind not in (REP_ACK, REP_INFO):
                 raise Error(f"an option was answered by {kind}")
             if kind == REP_ACK:
                 return
-            if struct.unpack(">H", body[:2]) == (INFO_EXPORT,):
-                (self.size,) = struct.unpack(">Q", body[2:10])
-
-    def get_size(self):
-        return self.size
 
     def aio_pread(self, buffer, offset):
         return self.ask(READ, offset, len(buffer.bytes), buffer=buffer)
