@@ -40,145 +40,173 @@ const GAP: [Written; 1] = [page!(41, Sector 5, sequence 3, fill 1)];
 const PAST: [Written; 1] = [page!(8, Sector 32, sequence 3, fill 1)];
 
 // The answers, and each refusal that names places, by its fields in their order.
-static ANSWERED: [Case; 13] = [
-    Case {
-        name: "a formatted die without marks",
-        files: &[
-            ("image.bin", Made::Formatted(&[])),
-            ("cert.bin", Made::Certificate((4, 3, &[META], &[]))),
-        ],
-        steps: &ASKED,
-    },
-    Case {
-        name: "the next sequence is too low",
-        files: &[
-            ("image.bin", Made::Formatted(&[])),
-            ("cert.bin", Made::Certificate((4, 2, &[META], &[]))),
-        ],
-        steps: &[Step::Run(CHECK, 1, "refused check 11 NextSequence\n")],
-    },
-    Case {
-        name: "a shared sequence",
-        files: &[
-            ("image.bin", Made::Formatted(&SHARED)),
-            ("cert.bin", Made::Certificate((4, 12, &[META], &[]))),
-        ],
-        steps: &[Step::Run(CHECK, 1, "refused check 2 SequenceRepeated row 8 row 16\n")],
-    },
-    Case {
-        name: "an older page",
-        files: &[
-            ("image.bin", Made::Formatted(&TWICE)),
-            (
-                "cert.bin",
-                Made::Certificate((4, 5, &[META, (1, 1, 2, 1, 0)], &[(5, 8)])),
-            ),
-        ],
-        steps: &[Step::Run(CHECK, 1, "refused check 3 NotNewest sector 5 row 9\n")],
-    },
-    Case {
-        name: "no such page",
-        files: &[
-            ("image.bin", Made::Formatted(&[])),
-            ("cert.bin", Made::Certificate((4, 3, &[META], &[(5, 8)]))),
-        ],
-        steps: &[Step::Run(CHECK, 1, "refused check 4 NoSuchRecord sector 5 row 8\n")],
-    },
-    Case {
-        name: "a number past the sectors",
-        files: &[
-            ("image.bin", Made::Formatted(&PAST)),
-            ("cert.bin", Made::Certificate((4, 4, &[META], &[]))),
-        ],
-        steps: &[Step::Run(CHECK, 1, "refused check 6 NumberRange row 8\n")],
-    },
-    Case {
-        name: "a pointer of a block that is free",
-        files: &[
-            ("image.bin", Made::Formatted(&[])),
-            (
-                "cert.bin",
-                Made::Certificate((4, 3, &[META, (3, 3, 0, 0, 0)], &[])),
-            ),
-        ],
-        steps: &[Step::Run(CHECK, 1, "refused check 7 BlockState block 3\n")],
-    },
-    Case {
-        name: "a page past a gap, in a block that is not told as bad",
-        files: &[
-            ("image.bin", Made::Formatted(&GAP)),
-            (
-                "cert.bin",
-                Made::Certificate((4, 4, &[META, (5, 3, 0, 1, 0)], &[(5, 41)])),
-            ),
-        ],
-        steps: &[Step::Run(CHECK, 1, "refused check 8 BadSetWrong block 5\n")],
-    },
-    Case {
-        name: "a page past a gap",
-        files: &[
-            ("image.bin", Made::Formatted(&GAP)),
-            (
-                "cert.bin",
-                Made::Certificate((4, 4, &[META, (5, 5, 0, 1, 0)], &[(5, 41)])),
-            ),
-        ],
-        steps: &[Step::Run(CHECK, 0, ACCEPTED)],
-    },
-    Case {
-        name: "a live page too many",
-        files: &[
-            ("image.bin", Made::Formatted(&[])),
-            (
-                "cert.bin",
-                Made::Certificate((4, 3, &[META, (2, 0, 0, 1, 0)], &[])),
-            ),
-        ],
-        steps: &[Step::Run(CHECK, 1, "refused check 9 LiveWrong block 2\n")],
-    },
-    Case {
-        name: "too many stale sectors",
-        files: &[
-            ("image.bin", Made::Formatted(&THREE)),
-            (
-                "cert.bin",
-                Made::Certificate((2, 6, &[META, (1, 1, 3, 3, 0)], &THREE_ROWS)),
-            ),
-        ],
-        steps: &[Step::Run(
-            "nandctl check 64,32,8,32,32 2 image.bin cert.bin",
-            1,
-            "refused check 12 TooStale stale 3 capacity 2\n",
-        )],
-    },
-    Case {
-        name: "as many stale sectors as the cache holds",
-        files: &[
-            ("image.bin", Made::Formatted(&THREE)),
-            (
-                "cert.bin",
-                Made::Certificate((3, 6, &[META, (1, 1, 3, 3, 0)], &THREE_ROWS)),
-            ),
-        ],
-        steps: &[Step::Run(
-            "nandctl check 64,32,8,32,32 3 image.bin cert.bin",
-            0,
-            ACCEPTED,
-        )],
-    },
-    Case {
-        name: "the last sequence",
-        files: &[
-            ("image.bin", Made::Formatted(&[])),
-            ("cert.bin", Made::Certificate((4, u64::MAX, &[META], &[]))),
-        ],
-        steps: &[Step::Run(CHECK, 0, ACCEPTED)],
-    },
-];
+static A_FORMATTED_DIE_WITHOUT_MARKS: Case = Case {
+    name: "a formatted die without marks",
+    files: &[
+        ("image.bin", Made::Formatted(&[])),
+        ("cert.bin", Made::Certificate((4, 3, &[META], &[]))),
+    ],
+    steps: &ASKED,
+};
+
+static THE_NEXT_SEQUENCE_IS_TOO_LOW: Case = Case {
+    name: "the next sequence is too low",
+    files: &[
+        ("image.bin", Made::Formatted(&[])),
+        ("cert.bin", Made::Certificate((4, 2, &[META], &[]))),
+    ],
+    steps: &[Step::Run(CHECK, 1, "refused check 11 NextSequence\n")],
+};
+
+static A_SHARED_SEQUENCE: Case = Case {
+    name: "a shared sequence",
+    files: &[
+        ("image.bin", Made::Formatted(&SHARED)),
+        ("cert.bin", Made::Certificate((4, 12, &[META], &[]))),
+    ],
+    steps: &[Step::Run(CHECK, 1, "refused check 2 SequenceRepeated row 8 row 16\n")],
+};
+
+static AN_OLDER_PAGE: Case = Case {
+    name: "an older page",
+    files: &[
+        ("image.bin", Made::Formatted(&TWICE)),
+        (
+            "cert.bin",
+            Made::Certificate((4, 5, &[META, (1, 1, 2, 1, 0)], &[(5, 8)])),
+        ),
+    ],
+    steps: &[Step::Run(CHECK, 1, "refused check 3 NotNewest sector 5 row 9\n")],
+};
+
+static NO_SUCH_PAGE: Case = Case {
+    name: "no such page",
+    files: &[
+        ("image.bin", Made::Formatted(&[])),
+        ("cert.bin", Made::Certificate((4, 3, &[META], &[(5, 8)]))),
+    ],
+    steps: &[Step::Run(CHECK, 1, "refused check 4 NoSuchRecord sector 5 row 8\n")],
+};
+
+static A_NUMBER_PAST_THE_SECTORS: Case = Case {
+    name: "a number past the sectors",
+    files: &[
+        ("image.bin", Made::Formatted(&PAST)),
+        ("cert.bin", Made::Certificate((4, 4, &[META], &[]))),
+    ],
+    steps: &[Step::Run(CHECK, 1, "refused check 6 NumberRange row 8\n")],
+};
+
+static A_POINTER_OF_A_BLOCK_THAT_IS_FREE: Case = Case {
+    name: "a pointer of a block that is free",
+    files: &[
+        ("image.bin", Made::Formatted(&[])),
+        (
+            "cert.bin",
+            Made::Certificate((4, 3, &[META, (3, 3, 0, 0, 0)], &[])),
+        ),
+    ],
+    steps: &[Step::Run(CHECK, 1, "refused check 7 BlockState block 3\n")],
+};
+
+static A_PAGE_PAST_A_GAP_IN_A_BLOCK_THAT_IS_NOT_TOLD_AS_BAD: Case = Case {
+    name: "a page past a gap, in a block that is not told as bad",
+    files: &[
+        ("image.bin", Made::Formatted(&GAP)),
+        (
+            "cert.bin",
+            Made::Certificate((4, 4, &[META, (5, 3, 0, 1, 0)], &[(5, 41)])),
+        ),
+    ],
+    steps: &[Step::Run(CHECK, 1, "refused check 8 BadSetWrong block 5\n")],
+};
+
+static A_PAGE_PAST_A_GAP: Case = Case {
+    name: "a page past a gap",
+    files: &[
+        ("image.bin", Made::Formatted(&GAP)),
+        (
+            "cert.bin",
+            Made::Certificate((4, 4, &[META, (5, 5, 0, 1, 0)], &[(5, 41)])),
+        ),
+    ],
+    steps: &[Step::Run(CHECK, 0, ACCEPTED)],
+};
+
+static A_LIVE_PAGE_TOO_MANY: Case = Case {
+    name: "a live page too many",
+    files: &[
+        ("image.bin", Made::Formatted(&[])),
+        (
+            "cert.bin",
+            Made::Certificate((4, 3, &[META, (2, 0, 0, 1, 0)], &[])),
+        ),
+    ],
+    steps: &[Step::Run(CHECK, 1, "refused check 9 LiveWrong block 2\n")],
+};
+
+static TOO_MANY_STALE_SECTORS: Case = Case {
+    name: "too many stale sectors",
+    files: &[
+        ("image.bin", Made::Formatted(&THREE)),
+        (
+            "cert.bin",
+            Made::Certificate((2, 6, &[META, (1, 1, 3, 3, 0)], &THREE_ROWS)),
+        ),
+    ],
+    steps: &[Step::Run(
+        "nandctl check 64,32,8,32,32 2 image.bin cert.bin",
+        1,
+        "refused check 12 TooStale stale 3 capacity 2\n",
+    )],
+};
+
+static AS_MANY_STALE_SECTORS_AS_THE_CACHE_HOLDS: Case = Case {
+    name: "as many stale sectors as the cache holds",
+    files: &[
+        ("image.bin", Made::Formatted(&THREE)),
+        (
+            "cert.bin",
+            Made::Certificate((3, 6, &[META, (1, 1, 3, 3, 0)], &THREE_ROWS)),
+        ),
+    ],
+    steps: &[Step::Run(
+        "nandctl check 64,32,8,32,32 3 image.bin cert.bin",
+        0,
+        ACCEPTED,
+    )],
+};
+
+static THE_LAST_SEQUENCE: Case = Case {
+    name: "the last sequence",
+    files: &[
+        ("image.bin", Made::Formatted(&[])),
+        ("cert.bin", Made::Certificate((4, u64::MAX, &[META], &[]))),
+    ],
+    steps: &[Step::Run(CHECK, 0, ACCEPTED)],
+};
 
 #[test]
 fn check_rows(rt: HostRuntime) -> Result<(), Fail> {
-    hold_cases(&rt, rt.alloc(), &ANSWERED)
+    hold_cases(
+        &rt,
+        rt.alloc(),
+        &[
+            &A_FORMATTED_DIE_WITHOUT_MARKS,
+            &THE_NEXT_SEQUENCE_IS_TOO_LOW,
+            &A_SHARED_SEQUENCE,
+            &AN_OLDER_PAGE,
+            &NO_SUCH_PAGE,
+            &A_NUMBER_PAST_THE_SECTORS,
+            &A_POINTER_OF_A_BLOCK_THAT_IS_FREE,
+            &A_PAGE_PAST_A_GAP_IN_A_BLOCK_THAT_IS_NOT_TOLD_AS_BAD,
+            &A_PAGE_PAST_A_GAP,
+            &A_LIVE_PAGE_TOO_MANY,
+            &TOO_MANY_STALE_SECTORS,
+            &AS_MANY_STALE_SECTORS_AS_THE_CACHE_HOLDS,
+            &THE_LAST_SEQUENCE,
+        ],
+    )
 }
 
 // The numbers by their words, the geometry, the capacity, the files by their words, the certificate's bytes, the image's length,
@@ -230,50 +258,62 @@ const FIRST: [Step; 9] = [
 // A certificate for a cache of 5 entries, so that a checker that were asked would refuse it.
 const OTHER: Claimed = (5, 3, &[META], &[]);
 
-static FIRST_FAULTS: [Case; 5] = [
-    Case {
-        name: "an image that is too short and an empty certificate",
-        files: &[
-            ("image.bin", Made::Erased(95)),
-            ("cert.bin", Made::Erased(0)),
-        ],
-        steps: &FIRST,
-    },
-    Case {
-        name: "a certificate with a byte less",
-        files: &[
-            ("image.bin", Made::Erased(95)),
-            ("cert.bin", Made::Cut(OTHER, 471)),
-        ],
-        steps: &[Step::Run(CHECK, 1, "refused certificate 2 Short\n")],
-    },
-    Case {
-        name: "an image that is too short and a certificate for another capacity",
-        files: &[
-            ("image.bin", Made::Erased(95)),
-            ("cert.bin", Made::Cut(OTHER, 472)),
-        ],
-        steps: &[Step::Run(CHECK, 1, "refused check 1 GeometryDiffers\n")],
-    },
-    Case {
-        name: "an image that is too short",
-        files: &[
-            ("image.bin", Made::Erased(95)),
-            ("cert.bin", Made::Certificate((4, 3, &[META], &[]))),
-        ],
-        steps: &[Step::Run(CHECK, 1, "refused image 1 WrongLength\n")],
-    },
-    Case {
-        name: "a certificate with a byte more",
-        files: &[
-            ("image.bin", Made::Erased(95)),
-            ("cert.bin", Made::Cut(OTHER, 473)),
-        ],
-        steps: &[Step::Run(CHECK, 1, "refused certificate 3 Long\n")],
-    },
-];
+static AN_IMAGE_THAT_IS_TOO_SHORT_AND_AN_EMPTY_CERTIFICATE: Case = Case {
+    name: "an image that is too short and an empty certificate",
+    files: &[
+        ("image.bin", Made::Erased(95)),
+        ("cert.bin", Made::Erased(0)),
+    ],
+    steps: &FIRST,
+};
+
+static A_CERTIFICATE_WITH_A_BYTE_LESS: Case = Case {
+    name: "a certificate with a byte less",
+    files: &[
+        ("image.bin", Made::Erased(95)),
+        ("cert.bin", Made::Cut(OTHER, 471)),
+    ],
+    steps: &[Step::Run(CHECK, 1, "refused certificate 2 Short\n")],
+};
+
+static AN_IMAGE_THAT_IS_TOO_SHORT_AND_A_CERTIFICATE_FOR_ANOTHER_CAPACITY: Case = Case {
+    name: "an image that is too short and a certificate for another capacity",
+    files: &[
+        ("image.bin", Made::Erased(95)),
+        ("cert.bin", Made::Cut(OTHER, 472)),
+    ],
+    steps: &[Step::Run(CHECK, 1, "refused check 1 GeometryDiffers\n")],
+};
+
+static AN_IMAGE_THAT_IS_TOO_SHORT: Case = Case {
+    name: "an image that is too short",
+    files: &[
+        ("image.bin", Made::Erased(95)),
+        ("cert.bin", Made::Certificate((4, 3, &[META], &[]))),
+    ],
+    steps: &[Step::Run(CHECK, 1, "refused image 1 WrongLength\n")],
+};
+
+static A_CERTIFICATE_WITH_A_BYTE_MORE: Case = Case {
+    name: "a certificate with a byte more",
+    files: &[
+        ("image.bin", Made::Erased(95)),
+        ("cert.bin", Made::Cut(OTHER, 473)),
+    ],
+    steps: &[Step::Run(CHECK, 1, "refused certificate 3 Long\n")],
+};
 
 #[test]
 fn first_fault_is_told(rt: HostRuntime) -> Result<(), Fail> {
-    hold_cases(&rt, rt.alloc(), &FIRST_FAULTS)
+    hold_cases(
+        &rt,
+        rt.alloc(),
+        &[
+            &AN_IMAGE_THAT_IS_TOO_SHORT_AND_AN_EMPTY_CERTIFICATE,
+            &A_CERTIFICATE_WITH_A_BYTE_LESS,
+            &AN_IMAGE_THAT_IS_TOO_SHORT_AND_A_CERTIFICATE_FOR_ANOTHER_CAPACITY,
+            &AN_IMAGE_THAT_IS_TOO_SHORT,
+            &A_CERTIFICATE_WITH_A_BYTE_MORE,
+        ],
+    )
 }

@@ -85,48 +85,64 @@ const CLOSED: [Step; 4] = [
     Step::Stored(2, "out.bin", true),
 ];
 
-static CASES: [Case; 7] = [
-    Case {
-        name: "marked blocks are left out",
-        files: &[("in.bin", Made::Marked(&MARKED)), EMPTY],
-        steps: &STORED,
-    },
-    Case {
-        name: "17 good blocks",
-        files: &[("in.bin", Made::Marked(&FROM_17)), EMPTY],
-        steps: &[Step::Run(FORMAT, 0, "good 17\n")],
-    },
-    Case {
-        name: "16 good blocks",
-        files: &[("in.bin", Made::Marked(&FROM_16)), EMPTY],
-        steps: &[Step::Run(FORMAT, 1, "refused format 1 TooFewGood good 16 need 17\n")],
-    },
-    Case {
-        name: "a byte of row 40 was programmed",
-        files: &[
-            ("in.bin", Made::ImageBut(&[], 40 * PAGE_BYTES + 7, 0)),
-            EMPTY,
-        ],
-        steps: &[Step::Run(FORMAT, 1, "refused format 5 NotFresh row 40\n")],
-    },
-    Case {
-        name: "an image that was formatted",
-        files: &[("in.bin", Made::Erased(IMAGE_BYTES)), EMPTY],
-        steps: &TWICE,
-    },
-    Case {
-        name: "other refusals",
-        files: &[("in.bin", Made::Erased(IMAGE_BYTES - 1)), EMPTY],
-        steps: &REFUSED,
-    },
-    Case {
-        name: "the image is stored before the line",
-        files: &[("in.bin", Made::Erased(IMAGE_BYTES)), EMPTY],
-        steps: &CLOSED,
-    },
-];
+static MARKED_BLOCKS_ARE_LEFT_OUT: Case = Case {
+    name: "marked blocks are left out",
+    files: &[("in.bin", Made::Marked(&MARKED)), EMPTY],
+    steps: &STORED,
+};
+
+static WITH_17_GOOD_BLOCKS: Case = Case {
+    name: "17 good blocks",
+    files: &[("in.bin", Made::Marked(&FROM_17)), EMPTY],
+    steps: &[Step::Run(FORMAT, 0, "good 17\n")],
+};
+
+static WITH_16_GOOD_BLOCKS: Case = Case {
+    name: "16 good blocks",
+    files: &[("in.bin", Made::Marked(&FROM_16)), EMPTY],
+    steps: &[Step::Run(FORMAT, 1, "refused format 1 TooFewGood good 16 need 17\n")],
+};
+
+static A_BYTE_OF_ROW_40_WAS_PROGRAMMED: Case = Case {
+    name: "a byte of row 40 was programmed",
+    files: &[
+        ("in.bin", Made::ImageBut(&[], 40 * PAGE_BYTES + 7, 0)),
+        EMPTY,
+    ],
+    steps: &[Step::Run(FORMAT, 1, "refused format 5 NotFresh row 40\n")],
+};
+
+static AN_IMAGE_THAT_WAS_FORMATTED: Case = Case {
+    name: "an image that was formatted",
+    files: &[("in.bin", Made::Erased(IMAGE_BYTES)), EMPTY],
+    steps: &TWICE,
+};
+
+static OTHER_REFUSALS: Case = Case {
+    name: "other refusals",
+    files: &[("in.bin", Made::Erased(IMAGE_BYTES - 1)), EMPTY],
+    steps: &REFUSED,
+};
+
+static THE_IMAGE_IS_STORED_BEFORE_THE_LINE: Case = Case {
+    name: "the image is stored before the line",
+    files: &[("in.bin", Made::Erased(IMAGE_BYTES)), EMPTY],
+    steps: &CLOSED,
+};
 
 #[test]
 fn format_rows(rt: HostRuntime) -> Result<(), Fail> {
-    hold_cases(&rt, rt.alloc(), &CASES)
+    hold_cases(
+        &rt,
+        rt.alloc(),
+        &[
+            &MARKED_BLOCKS_ARE_LEFT_OUT,
+            &WITH_17_GOOD_BLOCKS,
+            &WITH_16_GOOD_BLOCKS,
+            &A_BYTE_OF_ROW_40_WAS_PROGRAMMED,
+            &AN_IMAGE_THAT_WAS_FORMATTED,
+            &OTHER_REFUSALS,
+            &THE_IMAGE_IS_STORED_BEFORE_THE_LINE,
+        ],
+    )
 }

@@ -97,160 +97,174 @@ const OLD_FILES: &[(&str, Made)] = &[
     ("out.bin", Made::Erased(0)),
 ];
 
-static MIGRATED: [Case; 6] = [
-    Case {
-        name: "pages of version 1",
-        files: OLD_FILES,
-        steps: &[
-            MOUNT,
-            Step::Run(MIGRATE, 0, "migrated 2\n"),
-            Step::Stored(2, "out.bin", true),
-            Step::Holds("out.bin", RENEWED),
-            Step::Run(
-                "nandctl mount 64,40,8,32,32 1 out.bin cert.bin",
-                0,
-                "mounted next 10 good 32 stale 0\n",
-            ),
-            Step::Run(
-                "nandctl show 64,40,8,32,32 out.bin 10",
-                0,
-                "data 5 sequence 5 wear 0 version 2\n",
-            ),
-            Step::Run(
-                "nandctl show 64,40,8,32,32 out.bin 8",
-                0,
-                "data 5 sequence 3 wear 0\n",
-            ),
-            Step::Run(
-                "nandctl migrate 64,40,8,32,32 1 out.bin cert.bin out.bin",
-                0,
-                "migrated 0\n",
-            ),
-            Step::Run(
-                "nandctl mount 64,40,8,32,32 1 out.bin cert.bin",
-                0,
-                "mounted next 12 good 32 stale 0\n",
-            ),
-        ],
-    },
-    Case {
-        name: "a file that cannot be written, and a line",
-        files: OLD_FILES,
-        steps: &[
-            MOUNT,
-            Step::Unstored(
-                "nandctl migrate 64,40,8,32,32 4 image.bin cert.bin none.bin",
-                "fault write none.bin\n",
-            ),
-            Step::Stored(2, "none.bin", false),
-            Step::Closed(MIGRATE, 3, "fault write -\n"),
-            Step::Stored(3, "out.bin", true),
-            Step::Holds("out.bin", RENEWED),
-        ],
-    },
-    Case {
-        name: "read-only after the first page, and before it",
-        files: &[
-            ("image.bin", Made::LaidOut(OLD, &SCARCE)),
-            ("cert.bin", Made::Erased(0)),
-            ("out.bin", Made::Erased(0)),
-        ],
-        steps: &[
-            Step::Run(
-                "nandctl mount 64,40,8,32,32 8 image.bin cert.bin",
-                0,
-                "mounted next 20 good 7 stale 8\n",
-            ),
-            Step::Serve(
-                "nandctl migrate 64,40,8,32,32 8 image.bin cert.bin out.bin",
-                b"",
-                1,
-                b"",
-                READ_ONLY,
-            ),
-            Step::Stored(2, "out.bin", true),
-            Step::Holds("out.bin", ONE_COPIED),
-            Step::Run(
-                "nandctl mount 64,40,8,32,32 8 out.bin cert.bin",
-                0,
-                "mounted next 21 good 7 stale 8\n",
-            ),
-            Step::Serve(
-                "nandctl migrate 64,40,8,32,32 8 out.bin cert.bin out.bin",
-                b"",
-                1,
-                b"",
-                READ_ONLY,
-            ),
-            Step::Stored(4, "out.bin", true),
-            Step::Holds("out.bin", ONE_COPIED),
-            Step::Serve(
-                "nandctl migrate 64,40,8,32,32 8 out.bin cert.bin none.bin",
-                b"",
-                3,
-                b"",
-                "refused migrate 2 ReadOnly good 7 need 17 failed 0\nfault write none.bin\n",
-            ),
-            Step::Stored(5, "none.bin", false),
-        ],
-    },
-    Case {
-        name: "no room for version 2",
-        files: FORMATTED_FILES,
-        steps: &[
-            Step::Run(SMALL, 1, "refused migrate 8 SpareSize\n"),
-            Step::Run(
-                "nandctl migrate 64,32,8,32,32 5 image.bin cert.bin out.bin",
-                1,
-                "refused check 1 GeometryDiffers\n",
-            ),
-            Step::Run(
-                "nandctl migrate 64,32,8,32,32 4 cert.bin cert.bin out.bin",
-                1,
-                "refused image 1 WrongLength\n",
-            ),
-            Step::Run(
-                "nandctl migrate 64,32,8,32,32 4 image.bin image.bin out.bin",
-                1,
-                "refused certificate 1 Magic\n",
-            ),
-            Step::Run(
-                "nandctl migrate 64,32,8,32,32 4 none.bin cert.bin out.bin",
-                3,
-                "fault read none.bin\n",
-            ),
-            Step::Run(
-                "nandctl migrate 64,32,8,32,32 0 none.bin cert.bin out.bin",
-                1,
-                "refused geometry 6 Capacity\n",
-            ),
-            Step::Run(
-                "nandctl migrate 64,32,8,32,32 4 image.bin cert.bin",
-                2,
-                "usage: no such command\n",
-            ),
-        ],
-    },
-    Case {
-        name: "a certificate that does not agree",
-        files: DISAGREEING_FILES,
-        steps: &[Step::Run(SMALL, 1, "refused check 11 NextSequence\n")],
-    },
-    Case {
-        name: "no memory for a file",
-        files: &[
-            ("image.bin", Made::LaidOut(OLD, &PAGES)),
-            ("cert.bin", Made::Erased(0)),
-        ],
-        steps: &[
-            MOUNT,
-            Step::RefuseMemory,
-            Step::Run(MIGRATE, 1, "refused image 3 OutOfMemory\n"),
-        ],
-    },
-];
+static PAGES_OF_VERSION_1: Case = Case {
+    name: "pages of version 1",
+    files: OLD_FILES,
+    steps: &[
+        MOUNT,
+        Step::Run(MIGRATE, 0, "migrated 2\n"),
+        Step::Stored(2, "out.bin", true),
+        Step::Holds("out.bin", RENEWED),
+        Step::Run(
+            "nandctl mount 64,40,8,32,32 1 out.bin cert.bin",
+            0,
+            "mounted next 10 good 32 stale 0\n",
+        ),
+        Step::Run(
+            "nandctl show 64,40,8,32,32 out.bin 10",
+            0,
+            "data 5 sequence 5 wear 0 version 2\n",
+        ),
+        Step::Run(
+            "nandctl show 64,40,8,32,32 out.bin 8",
+            0,
+            "data 5 sequence 3 wear 0\n",
+        ),
+        Step::Run(
+            "nandctl migrate 64,40,8,32,32 1 out.bin cert.bin out.bin",
+            0,
+            "migrated 0\n",
+        ),
+        Step::Run(
+            "nandctl mount 64,40,8,32,32 1 out.bin cert.bin",
+            0,
+            "mounted next 12 good 32 stale 0\n",
+        ),
+    ],
+};
+
+static A_FILE_THAT_CANNOT_BE_WRITTEN_AND_A_LINE: Case = Case {
+    name: "a file that cannot be written, and a line",
+    files: OLD_FILES,
+    steps: &[
+        MOUNT,
+        Step::Unstored(
+            "nandctl migrate 64,40,8,32,32 4 image.bin cert.bin none.bin",
+            "fault write none.bin\n",
+        ),
+        Step::Stored(2, "none.bin", false),
+        Step::Closed(MIGRATE, 3, "fault write -\n"),
+        Step::Stored(3, "out.bin", true),
+        Step::Holds("out.bin", RENEWED),
+    ],
+};
+
+static READ_ONLY_AFTER_THE_FIRST_PAGE_AND_BEFORE_IT: Case = Case {
+    name: "read-only after the first page, and before it",
+    files: &[
+        ("image.bin", Made::LaidOut(OLD, &SCARCE)),
+        ("cert.bin", Made::Erased(0)),
+        ("out.bin", Made::Erased(0)),
+    ],
+    steps: &[
+        Step::Run(
+            "nandctl mount 64,40,8,32,32 8 image.bin cert.bin",
+            0,
+            "mounted next 20 good 7 stale 8\n",
+        ),
+        Step::Serve(
+            "nandctl migrate 64,40,8,32,32 8 image.bin cert.bin out.bin",
+            b"",
+            1,
+            b"",
+            READ_ONLY,
+        ),
+        Step::Stored(2, "out.bin", true),
+        Step::Holds("out.bin", ONE_COPIED),
+        Step::Run(
+            "nandctl mount 64,40,8,32,32 8 out.bin cert.bin",
+            0,
+            "mounted next 21 good 7 stale 8\n",
+        ),
+        Step::Serve(
+            "nandctl migrate 64,40,8,32,32 8 out.bin cert.bin out.bin",
+            b"",
+            1,
+            b"",
+            READ_ONLY,
+        ),
+        Step::Stored(4, "out.bin", true),
+        Step::Holds("out.bin", ONE_COPIED),
+        Step::Serve(
+            "nandctl migrate 64,40,8,32,32 8 out.bin cert.bin none.bin",
+            b"",
+            3,
+            b"",
+            "refused migrate 2 ReadOnly good 7 need 17 failed 0\nfault write none.bin\n",
+        ),
+        Step::Stored(5, "none.bin", false),
+    ],
+};
+
+static NO_ROOM_FOR_VERSION_2: Case = Case {
+    name: "no room for version 2",
+    files: FORMATTED_FILES,
+    steps: &[
+        Step::Run(SMALL, 1, "refused migrate 8 SpareSize\n"),
+        Step::Run(
+            "nandctl migrate 64,32,8,32,32 5 image.bin cert.bin out.bin",
+            1,
+            "refused check 1 GeometryDiffers\n",
+        ),
+        Step::Run(
+            "nandctl migrate 64,32,8,32,32 4 cert.bin cert.bin out.bin",
+            1,
+            "refused image 1 WrongLength\n",
+        ),
+        Step::Run(
+            "nandctl migrate 64,32,8,32,32 4 image.bin image.bin out.bin",
+            1,
+            "refused certificate 1 Magic\n",
+        ),
+        Step::Run(
+            "nandctl migrate 64,32,8,32,32 4 none.bin cert.bin out.bin",
+            3,
+            "fault read none.bin\n",
+        ),
+        Step::Run(
+            "nandctl migrate 64,32,8,32,32 0 none.bin cert.bin out.bin",
+            1,
+            "refused geometry 6 Capacity\n",
+        ),
+        Step::Run(
+            "nandctl migrate 64,32,8,32,32 4 image.bin cert.bin",
+            2,
+            "usage: no such command\n",
+        ),
+    ],
+};
+
+static A_CERTIFICATE_THAT_DOES_NOT_AGREE: Case = Case {
+    name: "a certificate that does not agree",
+    files: DISAGREEING_FILES,
+    steps: &[Step::Run(SMALL, 1, "refused check 11 NextSequence\n")],
+};
+
+static NO_MEMORY_FOR_A_FILE: Case = Case {
+    name: "no memory for a file",
+    files: &[
+        ("image.bin", Made::LaidOut(OLD, &PAGES)),
+        ("cert.bin", Made::Erased(0)),
+    ],
+    steps: &[
+        MOUNT,
+        Step::RefuseMemory,
+        Step::Run(MIGRATE, 1, "refused image 3 OutOfMemory\n"),
+    ],
+};
 
 #[test]
 fn migrate_rows(rt: HostRuntime) -> Result<(), Fail> {
-    hold_cases(&rt, rt.alloc(), &MIGRATED)
+    hold_cases(
+        &rt,
+        rt.alloc(),
+        &[
+            &PAGES_OF_VERSION_1,
+            &A_FILE_THAT_CANNOT_BE_WRITTEN_AND_A_LINE,
+            &READ_ONLY_AFTER_THE_FIRST_PAGE_AND_BEFORE_IT,
+            &NO_ROOM_FOR_VERSION_2,
+            &A_CERTIFICATE_THAT_DOES_NOT_AGREE,
+            &NO_MEMORY_FOR_A_FILE,
+        ],
+    )
 }

@@ -300,7 +300,8 @@ fn files_of(rt: &impl Abort, alloc: Global, case: &Case) -> Result<MemoryFiles, 
     Ok(files)
 }
 
-impl<R: Abort> TestCase<R> for Case {
+// A case stands by itself, so that no table of them is one value.
+impl<R: Abort> TestCase<R> for &Case {
     // Takes its steps in their order.
     fn hold(&self, rt: &R, alloc: Global) -> Result<(), Fail> {
         let mut files = files_of(rt, alloc, self)?;

@@ -117,82 +117,108 @@ const NUMBERS: [Step; 4] = [
     ),
 ];
 
-static CASES: [Case; 12] = [
-    Case {
-        name: "the newest page",
-        files: &[("image.bin", Made::Image(&NEWEST))],
-        steps: &[Step::Run(SECTOR, 0, ONES)],
-    },
-    Case {
-        name: "a trim",
-        files: &[("image.bin", Made::Image(&TRIMMED))],
-        steps: &[Step::Run(SECTOR, 0, ZEROS)],
-    },
-    Case {
-        name: "a tie",
-        files: &[("image.bin", Made::Image(&TIED))],
-        steps: &[Step::Run(
-            SECTOR,
-            1,
-            "refused sector 2 SequenceRepeated row 8 row 16\n",
-        )],
-    },
-    Case {
-        name: "an erased image",
-        files: &[("image.bin", Made::Erased(IMAGE_BYTES))],
-        steps: &ERASED,
-    },
-    Case {
-        name: "an empty file",
-        files: &[("image.bin", Made::Erased(0))],
-        steps: &[Step::Run(SECTOR, 1, "refused image 1 WrongLength\n")],
-    },
-    Case {
-        name: "a byte less",
-        files: &[("image.bin", Made::Erased(IMAGE_BYTES - 1))],
-        steps: &[Step::Run(SECTOR, 1, "refused image 1 WrongLength\n")],
-    },
-    Case {
-        name: "the most blocks",
-        files: &[("image.bin", Made::Erased(98304))],
-        steps: &[Step::Run("nandctl sector 64,32,8,128,32 image.bin 5", 0, ZEROS)],
-    },
-    Case {
-        name: "less than a page, and no such sector",
-        files: &[("image.bin", Made::Erased(95))],
-        steps: &[Step::Run(
-            "nandctl sector 64,32,8,32,32 image.bin 32",
-            1,
-            "refused image 1 WrongLength\n",
-        )],
-    },
-    Case {
-        name: "no such file",
-        files: &[],
-        steps: &[Step::Run(SECTOR, 3, "fault read image.bin\n")],
-    },
-    Case {
-        name: "the first fault",
-        files: &[],
-        steps: &WITHOUT_FILE,
-    },
-    Case {
-        name: "words that are almost numbers",
-        files: &[("image.bin", Made::Erased(IMAGE_BYTES))],
-        steps: &NUMBERS,
-    },
-    Case {
-        name: "closed output and refused memory",
-        files: &[("image.bin", Made::Erased(IMAGE_BYTES))],
-        steps: &[
-            Step::Closed(SECTOR, 3, "fault write -\n"),
-            Step::RefuseMemory,
-            Step::Closed(SECTOR, 1, "refused image 3 OutOfMemory\n"),
-        ],
-    },
-];
+static THE_NEWEST_PAGE: Case = Case {
+    name: "the newest page",
+    files: &[("image.bin", Made::Image(&NEWEST))],
+    steps: &[Step::Run(SECTOR, 0, ONES)],
+};
+
+static A_TRIM: Case = Case {
+    name: "a trim",
+    files: &[("image.bin", Made::Image(&TRIMMED))],
+    steps: &[Step::Run(SECTOR, 0, ZEROS)],
+};
+
+static A_TIE: Case = Case {
+    name: "a tie",
+    files: &[("image.bin", Made::Image(&TIED))],
+    steps: &[Step::Run(
+        SECTOR,
+        1,
+        "refused sector 2 SequenceRepeated row 8 row 16\n",
+    )],
+};
+
+static AN_ERASED_IMAGE: Case = Case {
+    name: "an erased image",
+    files: &[("image.bin", Made::Erased(IMAGE_BYTES))],
+    steps: &ERASED,
+};
+
+static AN_EMPTY_FILE: Case = Case {
+    name: "an empty file",
+    files: &[("image.bin", Made::Erased(0))],
+    steps: &[Step::Run(SECTOR, 1, "refused image 1 WrongLength\n")],
+};
+
+static A_BYTE_LESS: Case = Case {
+    name: "a byte less",
+    files: &[("image.bin", Made::Erased(IMAGE_BYTES - 1))],
+    steps: &[Step::Run(SECTOR, 1, "refused image 1 WrongLength\n")],
+};
+
+static THE_MOST_BLOCKS: Case = Case {
+    name: "the most blocks",
+    files: &[("image.bin", Made::Erased(98304))],
+    steps: &[Step::Run("nandctl sector 64,32,8,128,32 image.bin 5", 0, ZEROS)],
+};
+
+static LESS_THAN_A_PAGE_AND_NO_SUCH_SECTOR: Case = Case {
+    name: "less than a page, and no such sector",
+    files: &[("image.bin", Made::Erased(95))],
+    steps: &[Step::Run(
+        "nandctl sector 64,32,8,32,32 image.bin 32",
+        1,
+        "refused image 1 WrongLength\n",
+    )],
+};
+
+static NO_SUCH_FILE: Case = Case {
+    name: "no such file",
+    files: &[],
+    steps: &[Step::Run(SECTOR, 3, "fault read image.bin\n")],
+};
+
+static THE_FIRST_FAULT: Case = Case {
+    name: "the first fault",
+    files: &[],
+    steps: &WITHOUT_FILE,
+};
+
+static WORDS_THAT_ARE_ALMOST_NUMBERS: Case = Case {
+    name: "words that are almost numbers",
+    files: &[("image.bin", Made::Erased(IMAGE_BYTES))],
+    steps: &NUMBERS,
+};
+
+static CLOSED_OUTPUT_AND_REFUSED_MEMORY: Case = Case {
+    name: "closed output and refused memory",
+    files: &[("image.bin", Made::Erased(IMAGE_BYTES))],
+    steps: &[
+        Step::Closed(SECTOR, 3, "fault write -\n"),
+        Step::RefuseMemory,
+        Step::Closed(SECTOR, 1, "refused image 3 OutOfMemory\n"),
+    ],
+};
 
 #[test]
 fn sector_rows(rt: HostRuntime) -> Result<(), Fail> {
-    hold_cases(&rt, rt.alloc(), &CASES)
+    hold_cases(
+        &rt,
+        rt.alloc(),
+        &[
+            &THE_NEWEST_PAGE,
+            &A_TRIM,
+            &A_TIE,
+            &AN_ERASED_IMAGE,
+            &AN_EMPTY_FILE,
+            &A_BYTE_LESS,
+            &THE_MOST_BLOCKS,
+            &LESS_THAN_A_PAGE_AND_NO_SUCH_SECTOR,
+            &NO_SUCH_FILE,
+            &THE_FIRST_FAULT,
+            &WORDS_THAT_ARE_ALMOST_NUMBERS,
+            &CLOSED_OUTPUT_AND_REFUSED_MEMORY,
+        ],
+    )
 }

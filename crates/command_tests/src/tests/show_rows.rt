@@ -53,39 +53,49 @@ const EITHER: [Step; 2] = [
     ),
 ];
 
-static CASES: [Case; 4] = [
-    Case {
-        name: "a page of each kind",
-        files: &[("image.bin", Made::ImageBut(&KINDS, IMAGE_BYTES - 1, 0xFE))],
-        steps: &SHOWN,
-    },
-    Case {
-        name: "a page of each version",
-        files: &[(
-            "image.bin",
-            Made::LaidOut(
-                Layout {
-                    spare_bytes: 40,
-                    old: Old::Odd,
-                },
-                &KINDS,
-            ),
-        )],
-        steps: &EITHER,
-    },
-    Case {
-        name: "a row past the die",
-        files: &[("image.bin", Made::Erased(IMAGE_BYTES))],
-        steps: &[Step::Run(PAST, 1, "refused image 2 RowRange\n")],
-    },
-    Case {
-        name: "the file's length is looked at before the row",
-        files: &[("image.bin", Made::Erased(24575))],
-        steps: &[Step::Run(PAST, 1, "refused image 1 WrongLength\n")],
-    },
-];
+static A_PAGE_OF_EACH_KIND: Case = Case {
+    name: "a page of each kind",
+    files: &[("image.bin", Made::ImageBut(&KINDS, IMAGE_BYTES - 1, 0xFE))],
+    steps: &SHOWN,
+};
+
+static A_PAGE_OF_EACH_VERSION: Case = Case {
+    name: "a page of each version",
+    files: &[(
+        "image.bin",
+        Made::LaidOut(
+            Layout {
+                spare_bytes: 40,
+                old: Old::Odd,
+            },
+            &KINDS,
+        ),
+    )],
+    steps: &EITHER,
+};
+
+static A_ROW_PAST_THE_DIE: Case = Case {
+    name: "a row past the die",
+    files: &[("image.bin", Made::Erased(IMAGE_BYTES))],
+    steps: &[Step::Run(PAST, 1, "refused image 2 RowRange\n")],
+};
+
+static THE_FILE_S_LENGTH_IS_LOOKED_AT_BEFORE_THE_ROW: Case = Case {
+    name: "the file's length is looked at before the row",
+    files: &[("image.bin", Made::Erased(24575))],
+    steps: &[Step::Run(PAST, 1, "refused image 1 WrongLength\n")],
+};
 
 #[test]
 fn show_rows(rt: HostRuntime) -> Result<(), Fail> {
-    hold_cases(&rt, rt.alloc(), &CASES)
+    hold_cases(
+        &rt,
+        rt.alloc(),
+        &[
+            &A_PAGE_OF_EACH_KIND,
+            &A_PAGE_OF_EACH_VERSION,
+            &A_ROW_PAST_THE_DIE,
+            &THE_FILE_S_LENGTH_IS_LOOKED_AT_BEFORE_THE_ROW,
+        ],
+    )
 }

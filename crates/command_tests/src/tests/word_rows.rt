@@ -38,38 +38,50 @@ const LENGTHS: [Step; 6] = [
 // A blank is no digit.
 const BLANK: [&str; 5] = ["nandctl", "sector", " 64,32,8,32,32", "image.bin", "5"];
 
-static CASES: [Case; 5] = [
-    Case {
-        name: "no words",
-        files: &[("image.bin", Made::Erased(IMAGE_BYTES))],
-        steps: &[Step::Words(&[], 2, NO_COMMAND)],
-    },
-    Case {
-        name: "words that are no command",
-        files: &[("image.bin", Made::Erased(IMAGE_BYTES))],
-        steps: &LINES,
-    },
-    Case {
-        name: "no other number of words",
-        files: &[
-            ("image.bin", Made::Formatted(&[])),
-            ("cert.bin", Made::Certificate((4, 3, &[META], &[]))),
-        ],
-        steps: &LENGTHS,
-    },
-    Case {
-        name: "blanks are told",
-        files: &[],
-        steps: &[Step::Words(&BLANK, 2, "usage: bad number  64,32,8,32,32\n")],
-    },
-    Case {
-        name: "a line that cannot be written",
-        files: &[],
-        steps: &[Step::BothClosed("nandctl", 3)],
-    },
-];
+static NO_WORDS: Case = Case {
+    name: "no words",
+    files: &[("image.bin", Made::Erased(IMAGE_BYTES))],
+    steps: &[Step::Words(&[], 2, NO_COMMAND)],
+};
+
+static WORDS_THAT_ARE_NO_COMMAND: Case = Case {
+    name: "words that are no command",
+    files: &[("image.bin", Made::Erased(IMAGE_BYTES))],
+    steps: &LINES,
+};
+
+static NO_OTHER_NUMBER_OF_WORDS: Case = Case {
+    name: "no other number of words",
+    files: &[
+        ("image.bin", Made::Formatted(&[])),
+        ("cert.bin", Made::Certificate((4, 3, &[META], &[]))),
+    ],
+    steps: &LENGTHS,
+};
+
+static BLANKS_ARE_TOLD: Case = Case {
+    name: "blanks are told",
+    files: &[],
+    steps: &[Step::Words(&BLANK, 2, "usage: bad number  64,32,8,32,32\n")],
+};
+
+static A_LINE_THAT_CANNOT_BE_WRITTEN: Case = Case {
+    name: "a line that cannot be written",
+    files: &[],
+    steps: &[Step::BothClosed("nandctl", 3)],
+};
 
 #[test]
 fn word_rows(rt: HostRuntime) -> Result<(), Fail> {
-    hold_cases(&rt, rt.alloc(), &CASES)
+    hold_cases(
+        &rt,
+        rt.alloc(),
+        &[
+            &NO_WORDS,
+            &WORDS_THAT_ARE_NO_COMMAND,
+            &NO_OTHER_NUMBER_OF_WORDS,
+            &BLANKS_ARE_TOLD,
+            &A_LINE_THAT_CANNOT_BE_WRITTEN,
+        ],
+    )
 }

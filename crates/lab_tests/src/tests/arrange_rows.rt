@@ -230,35 +230,39 @@ const REFUSALS: [Step; 13] = [
     Step::Holds("block.bin", BY_BLOCK),
 ];
 
-static CASES: [Case; 3] = [
-    Case {
-        name: "puts in order",
-        files: &[
-            ("plain.bin", ORDERED),
-            ("block.bin", BY_BLOCK),
-            ("die.bin", BY_DIE),
-            ("first.bin", SPARE_FIRST),
-            ("swapped.bin", SWAPPED),
-            ("inverted.bin", INVERTED),
-            ("planes.bin", PLANES),
-            ("padded.bin", PADDED),
-            ("all.bin", ALL),
-        ],
-        steps: &STEPS,
-    },
-    Case {
-        name: "failures",
-        files: &[("block.bin", BY_BLOCK)],
-        steps: &TROUBLES,
-    },
-    Case {
-        name: "refusals",
-        files: &[("plain.bin", ORDERED), ("block.bin", BY_BLOCK)],
-        steps: &REFUSALS,
-    },
-];
+static PUTS_IN_ORDER: Case = Case {
+    name: "puts in order",
+    files: &[
+        ("plain.bin", ORDERED),
+        ("block.bin", BY_BLOCK),
+        ("die.bin", BY_DIE),
+        ("first.bin", SPARE_FIRST),
+        ("swapped.bin", SWAPPED),
+        ("inverted.bin", INVERTED),
+        ("planes.bin", PLANES),
+        ("padded.bin", PADDED),
+        ("all.bin", ALL),
+    ],
+    steps: &STEPS,
+};
+
+static FAILURES: Case = Case {
+    name: "failures",
+    files: &[("block.bin", BY_BLOCK)],
+    steps: &TROUBLES,
+};
+
+static REFUSALS_CASE: Case = Case {
+    name: "refusals",
+    files: &[("plain.bin", ORDERED), ("block.bin", BY_BLOCK)],
+    steps: &REFUSALS,
+};
 
 #[test]
 fn arrange_puts_in_order(rt: HostRuntime) -> Result<(), Fail> {
-    expect_cases(&rt, rt.alloc(), &CASES)
+    expect_cases(
+        &rt,
+        rt.alloc(),
+        &[&PUTS_IN_ORDER, &FAILURES, &REFUSALS_CASE],
+    )
 }

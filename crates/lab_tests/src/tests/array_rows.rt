@@ -186,159 +186,187 @@ const DOCUMENT: &str = r#"[{"command":"array","line":"command","program":"nandla
 ]
 "#;
 
-static CASES: [Case; 13] = [
-    Case {
-        name: "sectors",
-        files: &[("dump.bin", Made::Dump(&PAGES))],
-        steps: &[Step::Run(ARRAY, 0, TOLD), Step::Holds("out.bin", SHOWN)],
-    },
-    Case {
-        name: "ties",
-        files: &[("dump.bin", Made::Dump(&TIED))],
-        steps: &[
-            Step::Run(
-                ARRAY,
-                0,
-                "tied sector 0\ntied sector 3\nunsound 0: the array is that of every page that was programmed, if no page was lost behind the last one of its block\n",
-            ),
-            Step::Holds("out.bin", Made::Disk(&[(1, 0x11)])),
-            Step::Run(
-                "nandlab array 64,32,8,32,32 dump.bin out.bin --force --json",
-                0,
-                DOCUMENT,
-            ),
-        ],
-    },
-    // the newest page of sector 3 is lost, and so is an erased one
-    Case {
-        name: "unsound pages",
-        files: &[("dump.bin", Made::Changed(&PAGES, &[(768, 0), (9600, 0)]))],
-        steps: &[
-            Step::Run(
-                ARRAY,
-                0,
-                "unsound row 8 says sector 3 sequence 9 newer\nholes 11\nlegible 1: if what these pages say is so, at most 12 sectors may be older that are not said newer here\nunsound 2: at most 13 sectors may be older than the last write, if no page was lost behind the last one of its block\n",
-            ),
-            Step::Holds("out.bin", Made::Disk(&[(3, 0x31), (31, 0x99)])),
-        ],
-    },
-    // the table names blocks 16 to 31 factory bad; the mark stands in the last page of block 20
-    Case {
-        name: "a factory mark",
-        files: &[("dump.bin", Made::Changed(&MARKED, &[(16096, 0)]))],
-        steps: &[
-            Step::Run(
-                ARRAY,
-                0,
-                "factory 8\nunsound 0: the array is that of every page that was programmed, if no page was lost behind the last one of its block\n",
-            ),
-            Step::Run(
-                "nandlab array 64,32,8,32,32 dump.bin new.bin --json",
-                0,
-                MARKED_DOCUMENT,
-            ),
-        ],
-    },
-    // the table names them grown bad; what block 16 had is written again, and block 17 has the newest page of sector 5
-    Case {
-        name: "grown bad blocks",
-        files: &[
-            ("dump.bin", Made::Changed(&GROWN, &[(12384, 0)])),
-            ("both.bin", Made::Changed(&GROWN, &[(12384, 0), (13152, 0)])),
-        ],
-        steps: &[
-            Step::Run(
-                ARRAY,
-                0,
-                "rewritten 1\nunsound 0: the array is that of every page that was programmed, if no page was lost behind the last one of its block, nor a newest one in a rewritten block\n",
-            ),
-            Step::Run(
-                "nandlab array 64,32,8,32,32 both.bin new.bin",
-                0,
-                "rewritten 1\nunsound 1: at most 1 sectors may be older than the last write, if no page was lost behind the last one of its block, nor a newest one in a rewritten block\n",
-            ),
-        ],
-    },
-    // sectors 3 and 31 are past the last one
-    Case {
-        name: "too few sectors",
-        files: &[
-            ("dump.bin", Made::Dump(&PAGES)),
-            ("whole.bin", Made::Dump(&TIED)),
-        ],
-        steps: &[
-            Step::Run(
-                "nandlab array 64,32,8,32,3 dump.bin out.bin",
-                0,
-                "holes 7\noutside 4\nunsound 0: at most 7 sectors may be older than the last write, if no page was lost behind the last one of its block\n",
-            ),
-            Step::Run(
-                "nandlab array 64,32,8,32,2 whole.bin few.bin",
-                0,
-                "tied sector 0\noutside 2\nunsound 0: of these sectors the array is that of every page that was programmed, if no page was lost behind the last one of its block\n",
-            ),
-        ],
-    },
-    Case {
-        name: "names that are taken",
-        files: &[("dump.bin", Made::Dump(&PAGES))],
-        steps: &TAKEN,
-    },
-    Case {
-        name: "names that are no plain text",
-        files: &[("dump.bin", Made::Dump(&PAGES))],
-        steps: &NAMES,
-    },
-    Case {
-        name: "lengths",
-        files: &[
-            ("dump.bin", Made::Cut(&PAGES, 24577)),
-            ("short.bin", Made::Cut(&PAGES, 24480)),
-            ("empty.bin", Made::Text("")),
-        ],
-        steps: &[
-            Step::Run(ARRAY, 1, "refused image 1 WrongLength\n"),
-            Step::Run(
-                "nandlab array 64,32,8,32,32 short.bin out.bin",
-                1,
-                "refused image 1 WrongLength\n",
-            ),
-            Step::Run(
-                "nandlab array 64,32,8,32,32 empty.bin out.bin",
-                1,
-                "refused image 1 WrongLength\n",
-            ),
-            Step::Lacks("out.bin"),
-        ],
-    },
-    Case {
-        name: "other files",
-        files: &[
-            ("dump.bin", Made::Dump(&PAGES)),
-            ("out.bin", Made::Text("other")),
-        ],
-        steps: &OTHERS,
-    },
-    Case {
-        name: "failures",
-        files: &[("dump.bin", Made::Dump(&PAGES))],
-        steps: &TROUBLES,
-    },
-    Case {
-        name: "pieces",
-        files: &[("dump.bin", Made::Dump(&PAGES))],
-        steps: &PIECES,
-    },
-    Case {
-        name: "the first fault",
-        files: &[("out.bin", Made::Text("other"))],
-        steps: &FIRST,
-    },
-];
+static SECTORS: Case = Case {
+    name: "sectors",
+    files: &[("dump.bin", Made::Dump(&PAGES))],
+    steps: &[Step::Run(ARRAY, 0, TOLD), Step::Holds("out.bin", SHOWN)],
+};
+
+static TIES: Case = Case {
+    name: "ties",
+    files: &[("dump.bin", Made::Dump(&TIED))],
+    steps: &[
+        Step::Run(
+            ARRAY,
+            0,
+            "tied sector 0\ntied sector 3\nunsound 0: the array is that of every page that was programmed, if no page was lost behind the last one of its block\n",
+        ),
+        Step::Holds("out.bin", Made::Disk(&[(1, 0x11)])),
+        Step::Run(
+            "nandlab array 64,32,8,32,32 dump.bin out.bin --force --json",
+            0,
+            DOCUMENT,
+        ),
+    ],
+};
+
+// the newest page of sector 3 is lost, and so is an erased one
+static UNSOUND_PAGES: Case = Case {
+    name: "unsound pages",
+    files: &[("dump.bin", Made::Changed(&PAGES, &[(768, 0), (9600, 0)]))],
+    steps: &[
+        Step::Run(
+            ARRAY,
+            0,
+            "unsound row 8 says sector 3 sequence 9 newer\nholes 11\nlegible 1: if what these pages say is so, at most 12 sectors may be older that are not said newer here\nunsound 2: at most 13 sectors may be older than the last write, if no page was lost behind the last one of its block\n",
+        ),
+        Step::Holds("out.bin", Made::Disk(&[(3, 0x31), (31, 0x99)])),
+    ],
+};
+
+// the table names blocks 16 to 31 factory bad; the mark stands in the last page of block 20
+static A_FACTORY_MARK: Case = Case {
+    name: "a factory mark",
+    files: &[("dump.bin", Made::Changed(&MARKED, &[(16096, 0)]))],
+    steps: &[
+        Step::Run(
+            ARRAY,
+            0,
+            "factory 8\nunsound 0: the array is that of every page that was programmed, if no page was lost behind the last one of its block\n",
+        ),
+        Step::Run(
+            "nandlab array 64,32,8,32,32 dump.bin new.bin --json",
+            0,
+            MARKED_DOCUMENT,
+        ),
+    ],
+};
+
+// the table names them grown bad; what block 16 had is written again, and block 17 has the newest page of sector 5
+static GROWN_BAD_BLOCKS: Case = Case {
+    name: "grown bad blocks",
+    files: &[
+        ("dump.bin", Made::Changed(&GROWN, &[(12384, 0)])),
+        ("both.bin", Made::Changed(&GROWN, &[(12384, 0), (13152, 0)])),
+    ],
+    steps: &[
+        Step::Run(
+            ARRAY,
+            0,
+            "rewritten 1\nunsound 0: the array is that of every page that was programmed, if no page was lost behind the last one of its block, nor a newest one in a rewritten block\n",
+        ),
+        Step::Run(
+            "nandlab array 64,32,8,32,32 both.bin new.bin",
+            0,
+            "rewritten 1\nunsound 1: at most 1 sectors may be older than the last write, if no page was lost behind the last one of its block, nor a newest one in a rewritten block\n",
+        ),
+    ],
+};
+
+// sectors 3 and 31 are past the last one
+static TOO_FEW_SECTORS: Case = Case {
+    name: "too few sectors",
+    files: &[
+        ("dump.bin", Made::Dump(&PAGES)),
+        ("whole.bin", Made::Dump(&TIED)),
+    ],
+    steps: &[
+        Step::Run(
+            "nandlab array 64,32,8,32,3 dump.bin out.bin",
+            0,
+            "holes 7\noutside 4\nunsound 0: at most 7 sectors may be older than the last write, if no page was lost behind the last one of its block\n",
+        ),
+        Step::Run(
+            "nandlab array 64,32,8,32,2 whole.bin few.bin",
+            0,
+            "tied sector 0\noutside 2\nunsound 0: of these sectors the array is that of every page that was programmed, if no page was lost behind the last one of its block\n",
+        ),
+    ],
+};
+
+static NAMES_THAT_ARE_TAKEN: Case = Case {
+    name: "names that are taken",
+    files: &[("dump.bin", Made::Dump(&PAGES))],
+    steps: &TAKEN,
+};
+
+static NAMES_THAT_ARE_NO_PLAIN_TEXT: Case = Case {
+    name: "names that are no plain text",
+    files: &[("dump.bin", Made::Dump(&PAGES))],
+    steps: &NAMES,
+};
+
+static LENGTHS: Case = Case {
+    name: "lengths",
+    files: &[
+        ("dump.bin", Made::Cut(&PAGES, 24577)),
+        ("short.bin", Made::Cut(&PAGES, 24480)),
+        ("empty.bin", Made::Text("")),
+    ],
+    steps: &[
+        Step::Run(ARRAY, 1, "refused image 1 WrongLength\n"),
+        Step::Run(
+            "nandlab array 64,32,8,32,32 short.bin out.bin",
+            1,
+            "refused image 1 WrongLength\n",
+        ),
+        Step::Run(
+            "nandlab array 64,32,8,32,32 empty.bin out.bin",
+            1,
+            "refused image 1 WrongLength\n",
+        ),
+        Step::Lacks("out.bin"),
+    ],
+};
+
+static OTHER_FILES: Case = Case {
+    name: "other files",
+    files: &[
+        ("dump.bin", Made::Dump(&PAGES)),
+        ("out.bin", Made::Text("other")),
+    ],
+    steps: &OTHERS,
+};
+
+static FAILURES: Case = Case {
+    name: "failures",
+    files: &[("dump.bin", Made::Dump(&PAGES))],
+    steps: &TROUBLES,
+};
+
+static PIECES_CASE: Case = Case {
+    name: "pieces",
+    files: &[("dump.bin", Made::Dump(&PAGES))],
+    steps: &PIECES,
+};
+
+static THE_FIRST_FAULT: Case = Case {
+    name: "the first fault",
+    files: &[("out.bin", Made::Text("other"))],
+    steps: &FIRST,
+};
 
 #[test]
 fn array_writes_what_the_dump_holds(rt: HostRuntime) -> Result<(), Fail> {
-    expect_cases(&rt, rt.alloc(), &CASES)
+    expect_cases(
+        &rt,
+        rt.alloc(),
+        &[
+            &SECTORS,
+            &TIES,
+            &UNSOUND_PAGES,
+            &A_FACTORY_MARK,
+            &GROWN_BAD_BLOCKS,
+            &TOO_FEW_SECTORS,
+            &NAMES_THAT_ARE_TAKEN,
+            &NAMES_THAT_ARE_NO_PLAIN_TEXT,
+            &LENGTHS,
+            &OTHER_FILES,
+            &FAILURES,
+            &PIECES_CASE,
+            &THE_FIRST_FAULT,
+        ],
+    )
 }
 
 const MAPPED: &str = "nandlab array 64,32,8,32,32 dump.bin out.bin --map map";
@@ -395,13 +423,13 @@ const MAPS: [Step; 15] = [
 const MAP: &str =
     "# Mapfile of an array, made by nandlab\n0x0 + 1\n0x0 0xc0 ?\n0xc0 0x80 +\n0x140 0x680 ?\n0x7c0 0x40 +\n";
 
-static MAP_CASES: [Case; 1] = [Case {
+static MAPS_CASE: Case = Case {
     name: "maps",
     files: &[("dump.bin", Made::Dump(&PAGES))],
     steps: &MAPS,
-}];
+};
 
 #[test]
 fn array_writes_its_map(rt: HostRuntime) -> Result<(), Fail> {
-    expect_cases(&rt, rt.alloc(), &MAP_CASES)
+    expect_cases(&rt, rt.alloc(), &[&MAPS_CASE])
 }

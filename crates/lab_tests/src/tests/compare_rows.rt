@@ -52,67 +52,67 @@ const DOCUMENT: &str = r#"[{"command":"compare","line":"command","program":"nand
 ]
 "#;
 
-static CASES: [Case; 3] = [
-    Case {
-        name: "since",
-        files: &[("cert.bin", BEFORE), ("dump.bin", Made::Dump(&SINCE))],
-        steps: &[
-            Step::Run(
-                COMPARE,
-                0,
-                "lost sector 5\nholes 1\nunsound 0: at most 1 sectors may be older than the last write, if no page was lost behind the last one of its block\n",
-            ),
-            Step::Run(
-                "nandlab compare 64,32,8,32,32 cert.bin dump.bin --json",
-                0,
-                DOCUMENT,
-            ),
-        ],
-    },
-    Case {
-        name: "failures",
-        files: &[("cert.bin", BEFORE), ("dump.bin", Made::Dump(&LATER))],
-        steps: &TROUBLES,
-    },
-    Case {
-        name: "refusals",
-        files: &[("cert.bin", BEFORE), ("dump.bin", Made::Dump(&LATER))],
-        steps: &[
-            Step::Run(
-                "nandlab compare 64,32,8,32 cert.bin dump.bin",
-                2,
-                "usage: bad number 64,32,8,32\n",
-            ),
-            Step::Run(
-                "nandlab compare 64,31,8,32,32 cert.bin dump.bin",
-                1,
-                "refused geometry 2 SpareSize\n",
-            ),
-            Step::Run(
-                "nandlab compare 64,32,8,32,32 none.bin dump.bin",
-                3,
-                "fault read none.bin\n",
-            ),
-            Step::Run(
-                "nandlab compare 64,32,8,32,32 dump.bin cert.bin",
-                1,
-                "refused certificate 1 Magic\n",
-            ),
-            Step::Run(
-                "nandlab compare 64,32,8,32,31 cert.bin dump.bin",
-                1,
-                "refused compare 1 GeometryDiffers\n",
-            ),
-            Step::Run(
-                "nandlab compare 64,32,8,32,32 cert.bin none.bin",
-                3,
-                "fault read none.bin\n",
-            ),
-        ],
-    },
-];
+static SINCE_CASE: Case = Case {
+    name: "since",
+    files: &[("cert.bin", BEFORE), ("dump.bin", Made::Dump(&SINCE))],
+    steps: &[
+        Step::Run(
+            COMPARE,
+            0,
+            "lost sector 5\nholes 1\nunsound 0: at most 1 sectors may be older than the last write, if no page was lost behind the last one of its block\n",
+        ),
+        Step::Run(
+            "nandlab compare 64,32,8,32,32 cert.bin dump.bin --json",
+            0,
+            DOCUMENT,
+        ),
+    ],
+};
+
+static FAILURES: Case = Case {
+    name: "failures",
+    files: &[("cert.bin", BEFORE), ("dump.bin", Made::Dump(&LATER))],
+    steps: &TROUBLES,
+};
+
+static REFUSALS: Case = Case {
+    name: "refusals",
+    files: &[("cert.bin", BEFORE), ("dump.bin", Made::Dump(&LATER))],
+    steps: &[
+        Step::Run(
+            "nandlab compare 64,32,8,32 cert.bin dump.bin",
+            2,
+            "usage: bad number 64,32,8,32\n",
+        ),
+        Step::Run(
+            "nandlab compare 64,31,8,32,32 cert.bin dump.bin",
+            1,
+            "refused geometry 2 SpareSize\n",
+        ),
+        Step::Run(
+            "nandlab compare 64,32,8,32,32 none.bin dump.bin",
+            3,
+            "fault read none.bin\n",
+        ),
+        Step::Run(
+            "nandlab compare 64,32,8,32,32 dump.bin cert.bin",
+            1,
+            "refused certificate 1 Magic\n",
+        ),
+        Step::Run(
+            "nandlab compare 64,32,8,32,31 cert.bin dump.bin",
+            1,
+            "refused compare 1 GeometryDiffers\n",
+        ),
+        Step::Run(
+            "nandlab compare 64,32,8,32,32 cert.bin none.bin",
+            3,
+            "fault read none.bin\n",
+        ),
+    ],
+};
 
 #[test]
 fn compare_tells_what_was_lost(rt: HostRuntime) -> Result<(), Fail> {
-    expect_cases(&rt, rt.alloc(), &CASES)
+    expect_cases(&rt, rt.alloc(), &[&SINCE_CASE, &FAILURES, &REFUSALS])
 }

@@ -127,25 +127,25 @@ const OTHERS: [Step; 10] = [
     Step::Holds("out.bin", RIGHT),
 ];
 
-static CASES: [Case; 3] = [
-    Case {
-        name: "puts right",
-        files: &[("dump.bin", SPOILED)],
-        steps: &STEPS,
-    },
-    Case {
-        name: "failures",
-        files: &[("dump.bin", SPOILED)],
-        steps: &TROUBLES,
-    },
-    Case {
-        name: "other files",
-        files: &[("dump.bin", SPOILED), ("out.bin", Made::Text("other"))],
-        steps: &OTHERS,
-    },
-];
+static PUTS_RIGHT: Case = Case {
+    name: "puts right",
+    files: &[("dump.bin", SPOILED)],
+    steps: &STEPS,
+};
+
+static FAILURES: Case = Case {
+    name: "failures",
+    files: &[("dump.bin", SPOILED)],
+    steps: &TROUBLES,
+};
+
+static OTHER_FILES: Case = Case {
+    name: "other files",
+    files: &[("dump.bin", SPOILED), ("out.bin", Made::Text("other"))],
+    steps: &OTHERS,
+};
 
 #[test]
 fn correct_turns_bits_back(rt: HostRuntime) -> Result<(), Fail> {
-    expect_cases(&rt, rt.alloc(), &CASES)
+    expect_cases(&rt, rt.alloc(), &[&PUTS_RIGHT, &FAILURES, &OTHER_FILES])
 }

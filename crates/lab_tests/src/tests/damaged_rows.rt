@@ -136,13 +136,13 @@ const STEPS: [Step; 12] = [
     Step::Closed("nandlab array 64,32,8,32,32 dump.bin last.bin --damaged", 1),
 ];
 
-static CASES: [Case; 1] = [Case {
+static UNSOUND_PAGES_SHOWN: Case = Case {
     name: "unsound pages shown",
     files: &[("dump.bin", Made::Changed(&PAGES, CHANGES))],
     steps: &STEPS,
-}];
+};
 
 #[test]
 fn array_shows_unsound_pages_where_asked(rt: HostRuntime) -> Result<(), Fail> {
-    expect_cases(&rt, rt.alloc(), &CASES)
+    expect_cases(&rt, rt.alloc(), &[&UNSOUND_PAGES_SHOWN])
 }

@@ -294,62 +294,78 @@ const TROUBLES: [Step; 9] = [
     ),
 ];
 
-static CASES: [Case; 7] = [
-    Case {
-        name: "the shapes",
-        files: &[("dump.bin", Made::Changed(&PAGES, &[(1632, 0)]))],
-        steps: &[
-            Step::Run(GEOMETRY, 0, TOLD),
-            Step::Run("nandlab geometry --json dump.bin --progress", 0, DOCUMENT),
-            Step::Closed(GEOMETRY, 0),
-        ],
-    },
-    Case {
-        name: "with codes",
-        files: &[("dump.bin", CODED)],
-        steps: &STEPS_CODED,
-    },
-    Case {
-        name: "in other arrangements",
-        files: &[
-            ("die.bin", BY_DIE),
-            ("block.bin", BY_BLOCK),
-            ("swapped.bin", SWAPPED),
-            ("planes.bin", PLANES),
-        ],
-        steps: &STEPS_ARRANGED,
-    },
-    Case {
-        name: "two planes alone",
-        files: &[("turns.bin", TURNS), ("plain.bin", Made::Dump(&PROGRAMMED))],
-        steps: &STEPS_TURNS,
-    },
-    Case {
-        name: "a part of the last block cut off",
-        files: &[("short.bin", SHORT)],
-        steps: &STEPS_SHORT,
-    },
-    Case {
-        name: "what came nearest",
-        files: &[
-            ("behind.bin", BEHIND),
-            ("none.bin", BEHIND_NO_TABLE),
-            ("first.bin", BEHIND_SECTOR),
-        ],
-        steps: &STEPS_BEHIND,
-    },
-    Case {
-        name: "refusals",
-        files: &[
-            ("dump.bin", Made::Dump(&PAGES)),
-            ("empty.bin", Made::Text("")),
-            ("erased.bin", Made::Dump(&[])),
-        ],
-        steps: &TROUBLES,
-    },
-];
+static THE_SHAPES: Case = Case {
+    name: "the shapes",
+    files: &[("dump.bin", Made::Changed(&PAGES, &[(1632, 0)]))],
+    steps: &[
+        Step::Run(GEOMETRY, 0, TOLD),
+        Step::Run("nandlab geometry --json dump.bin --progress", 0, DOCUMENT),
+        Step::Closed(GEOMETRY, 0),
+    ],
+};
+
+static WITH_CODES: Case = Case {
+    name: "with codes",
+    files: &[("dump.bin", CODED)],
+    steps: &STEPS_CODED,
+};
+
+static IN_OTHER_ARRANGEMENTS: Case = Case {
+    name: "in other arrangements",
+    files: &[
+        ("die.bin", BY_DIE),
+        ("block.bin", BY_BLOCK),
+        ("swapped.bin", SWAPPED),
+        ("planes.bin", PLANES),
+    ],
+    steps: &STEPS_ARRANGED,
+};
+
+static TWO_PLANES_ALONE: Case = Case {
+    name: "two planes alone",
+    files: &[("turns.bin", TURNS), ("plain.bin", Made::Dump(&PROGRAMMED))],
+    steps: &STEPS_TURNS,
+};
+
+static A_PART_OF_THE_LAST_BLOCK_CUT_OFF: Case = Case {
+    name: "a part of the last block cut off",
+    files: &[("short.bin", SHORT)],
+    steps: &STEPS_SHORT,
+};
+
+static WHAT_CAME_NEAREST: Case = Case {
+    name: "what came nearest",
+    files: &[
+        ("behind.bin", BEHIND),
+        ("none.bin", BEHIND_NO_TABLE),
+        ("first.bin", BEHIND_SECTOR),
+    ],
+    steps: &STEPS_BEHIND,
+};
+
+static REFUSALS: Case = Case {
+    name: "refusals",
+    files: &[
+        ("dump.bin", Made::Dump(&PAGES)),
+        ("empty.bin", Made::Text("")),
+        ("erased.bin", Made::Dump(&[])),
+    ],
+    steps: &TROUBLES,
+};
 
 #[test]
 fn geometry_tells_the_shapes(rt: HostRuntime) -> Result<(), Fail> {
-    expect_cases(&rt, rt.alloc(), &CASES)
+    expect_cases(
+        &rt,
+        rt.alloc(),
+        &[
+            &THE_SHAPES,
+            &WITH_CODES,
+            &IN_OTHER_ARRANGEMENTS,
+            &TWO_PLANES_ALONE,
+            &A_PART_OF_THE_LAST_BLOCK_CUT_OFF,
+            &WHAT_CAME_NEAREST,
+            &REFUSALS,
+        ],
+    )
 }

@@ -62,115 +62,115 @@ const UNTIL_4: &str =
 const UNTIL_GREATEST: &str =
     "unsound 1: as of sequence 18446744073709551615, the newest of what is still there\n";
 
-static CASES: [Case; 3] = [
-    Case {
-        name: "history",
-        files: &[("dump.bin", Made::Changed(&PAGES, CHANGES))],
-        steps: &[
-            Step::Run(HISTORY, 0, TOLD),
-            Step::Trouble(Trouble::Pieces(13)),
-            Step::Run(HISTORY, 0, TOLD),
-            Step::Run("nandlab history 64,32,8,32,32 dump.bin 03", 0, TOLD),
-            Step::Run(
-                "nandlab history --json 64,32,8,32,32 dump.bin 3",
-                0,
-                DOCUMENT,
-            ),
-            Step::Run("nandlab history 64,32,8,32,32 dump.bin 30", 0, NONE),
-            Step::Closed(HISTORY, 0),
-        ],
-    },
-    Case {
-        name: "until",
-        files: &[("dump.bin", Made::Changed(&PAGES, CHANGES))],
-        steps: &[
-            Step::Run(
-                "nandlab array 64,32,8,32,32 dump.bin eight.bin --until 8",
-                0,
-                UNTIL_8,
-            ),
-            Step::Holds("eight.bin", Made::Disk(&[(31, 0x99)])),
-            Step::Run(
-                "nandlab array 64,32,8,32,32 --until 8 dump.bin eight.bin --force --json",
-                0,
-                UNTIL_8_DOCUMENT,
-            ),
-            Step::Run(
-                "nandlab array 64,32,8,32,32 dump.bin five.bin --until 5 --map five.map",
-                0,
-                UNTIL_5,
-            ),
-            Step::Holds("five.bin", Made::Disk(&[(3, 0x31)])),
-            Step::Holds("five.map", Made::Text(MAP_5)),
-            Step::Run(
-                "nandlab array 64,32,8,32,32 dump.bin four.bin --until 4",
-                0,
-                UNTIL_4,
-            ),
-            Step::Holds("four.bin", Made::Disk(&[])),
-            Step::Run(
-                "nandlab array 64,32,8,32,32 dump.bin all.bin --until 18446744073709551615",
-                0,
-                UNTIL_GREATEST,
-            ),
-            Step::Holds("all.bin", Made::Disk(&[(3, 0x33), (31, 0x99)])),
-        ],
-    },
-    Case {
-        name: "refusals",
-        files: &[("dump.bin", Made::Dump(&PAGES))],
-        steps: &[
-            Step::Run(
-                "nandlab history 64,32,8,32 dump.bin x",
-                2,
-                "usage: bad number 64,32,8,32\n",
-            ),
-            Step::Run(
-                "nandlab history 64,32,3,32,32 dump.bin x",
-                1,
-                "refused geometry 3 PagesPerBlock\n",
-            ),
-            Step::Run(
-                "nandlab history 64,32,8,32,32 none.bin x",
-                2,
-                "usage: bad number x\n",
-            ),
-            Step::Run(
-                "nandlab history 64,32,8,32,32 none.bin 32",
-                1,
-                "refused sector 1 OutOfRange\n",
-            ),
-            Step::Run(
-                "nandlab history 64,32,8,32,32 none.bin 31",
-                3,
-                "fault read none.bin\n",
-            ),
-            Step::Run(
-                "nandlab history 64,32,8,31,32 dump.bin 3",
-                1,
-                "refused image 1 WrongLength\n",
-            ),
-            Step::Run(
-                "nandlab array 64,32,8,32,32 dump.bin dump.bin --until 18446744073709551616",
-                2,
-                "usage: bad number 18446744073709551616\n",
-            ),
-            Step::Run(
-                "nandlab array 64,32,8,32,32 dump.bin dump.bin --until 9x",
-                2,
-                "usage: bad number 9x\n",
-            ),
-            Step::Trouble(Trouble::ReadsEnd(96)),
-            Step::Run(HISTORY, 3, "fault read dump.bin\n"),
-            Step::Trouble(Trouble::Ends(96)),
-            Step::Run(HISTORY, 1, "refused image 1 WrongLength\n"),
-            Step::Trouble(Trouble::NoMemory),
-            Step::Run(HISTORY, 1, "refused image 3 OutOfMemory\n"),
-        ],
-    },
-];
+static HISTORY_CASE: Case = Case {
+    name: "history",
+    files: &[("dump.bin", Made::Changed(&PAGES, CHANGES))],
+    steps: &[
+        Step::Run(HISTORY, 0, TOLD),
+        Step::Trouble(Trouble::Pieces(13)),
+        Step::Run(HISTORY, 0, TOLD),
+        Step::Run("nandlab history 64,32,8,32,32 dump.bin 03", 0, TOLD),
+        Step::Run(
+            "nandlab history --json 64,32,8,32,32 dump.bin 3",
+            0,
+            DOCUMENT,
+        ),
+        Step::Run("nandlab history 64,32,8,32,32 dump.bin 30", 0, NONE),
+        Step::Closed(HISTORY, 0),
+    ],
+};
+
+static UNTIL: Case = Case {
+    name: "until",
+    files: &[("dump.bin", Made::Changed(&PAGES, CHANGES))],
+    steps: &[
+        Step::Run(
+            "nandlab array 64,32,8,32,32 dump.bin eight.bin --until 8",
+            0,
+            UNTIL_8,
+        ),
+        Step::Holds("eight.bin", Made::Disk(&[(31, 0x99)])),
+        Step::Run(
+            "nandlab array 64,32,8,32,32 --until 8 dump.bin eight.bin --force --json",
+            0,
+            UNTIL_8_DOCUMENT,
+        ),
+        Step::Run(
+            "nandlab array 64,32,8,32,32 dump.bin five.bin --until 5 --map five.map",
+            0,
+            UNTIL_5,
+        ),
+        Step::Holds("five.bin", Made::Disk(&[(3, 0x31)])),
+        Step::Holds("five.map", Made::Text(MAP_5)),
+        Step::Run(
+            "nandlab array 64,32,8,32,32 dump.bin four.bin --until 4",
+            0,
+            UNTIL_4,
+        ),
+        Step::Holds("four.bin", Made::Disk(&[])),
+        Step::Run(
+            "nandlab array 64,32,8,32,32 dump.bin all.bin --until 18446744073709551615",
+            0,
+            UNTIL_GREATEST,
+        ),
+        Step::Holds("all.bin", Made::Disk(&[(3, 0x33), (31, 0x99)])),
+    ],
+};
+
+static REFUSALS: Case = Case {
+    name: "refusals",
+    files: &[("dump.bin", Made::Dump(&PAGES))],
+    steps: &[
+        Step::Run(
+            "nandlab history 64,32,8,32 dump.bin x",
+            2,
+            "usage: bad number 64,32,8,32\n",
+        ),
+        Step::Run(
+            "nandlab history 64,32,3,32,32 dump.bin x",
+            1,
+            "refused geometry 3 PagesPerBlock\n",
+        ),
+        Step::Run(
+            "nandlab history 64,32,8,32,32 none.bin x",
+            2,
+            "usage: bad number x\n",
+        ),
+        Step::Run(
+            "nandlab history 64,32,8,32,32 none.bin 32",
+            1,
+            "refused sector 1 OutOfRange\n",
+        ),
+        Step::Run(
+            "nandlab history 64,32,8,32,32 none.bin 31",
+            3,
+            "fault read none.bin\n",
+        ),
+        Step::Run(
+            "nandlab history 64,32,8,31,32 dump.bin 3",
+            1,
+            "refused image 1 WrongLength\n",
+        ),
+        Step::Run(
+            "nandlab array 64,32,8,32,32 dump.bin dump.bin --until 18446744073709551616",
+            2,
+            "usage: bad number 18446744073709551616\n",
+        ),
+        Step::Run(
+            "nandlab array 64,32,8,32,32 dump.bin dump.bin --until 9x",
+            2,
+            "usage: bad number 9x\n",
+        ),
+        Step::Trouble(Trouble::ReadsEnd(96)),
+        Step::Run(HISTORY, 3, "fault read dump.bin\n"),
+        Step::Trouble(Trouble::Ends(96)),
+        Step::Run(HISTORY, 1, "refused image 1 WrongLength\n"),
+        Step::Trouble(Trouble::NoMemory),
+        Step::Run(HISTORY, 1, "refused image 3 OutOfMemory\n"),
+    ],
+};
 
 #[test]
 fn history_tells_what_is_still_there(rt: HostRuntime) -> Result<(), Fail> {
-    expect_cases(&rt, rt.alloc(), &CASES)
+    expect_cases(&rt, rt.alloc(), &[&HISTORY_CASE, &UNTIL, &REFUSALS])
 }

@@ -137,76 +137,90 @@ const TURNED_DOCUMENT: &str = r#"[{"command":"merge","line":"command","program":
 ]
 "#;
 
-static CASES: [Case; 6] = [
-    Case {
-        name: "three readings",
-        files: &[("a.bin", A), ("b.bin", B), ("c.bin", C)],
-        steps: &[
-            Step::Run(THREE, 0, NONE_SOUND),
-            Step::Holds("out.bin", Made::Changed(&PAGES, &[(1920, 0x00)])),
-        ],
-    },
-    // of a row that differs nothing is taken, and of one that is sound in none the first page that is not erased
-    Case {
-        name: "a row of each kind",
-        files: &[("a.bin", FIRST), ("b.bin", SECOND), ("c.bin", THIRD)],
-        steps: &[
-            Step::Run(THREE, 0, EACH),
-            Step::Holds(
-                "out.bin",
-                Made::Zeroed(&PAGES, 17, &[(1920, 0x00), (2016, 0x00)]),
-            ),
-        ],
-    },
-    Case {
-        name: "two that differ",
-        files: &[("a.bin", A), ("b.bin", Made::Dump(&OTHERS))],
-        steps: &[
-            Step::Trouble(Trouble::Pieces(31)),
-            Step::Run(
-                TWO,
-                0,
-                "differ row 17\nunsound row 20\nsound 3 differ 1 majority 0 turned 0 erased 251 unsound 1\n",
-            ),
-            Step::Run(
-                "nandlab merge --json 64,32,8,32,32 json.bin a.bin b.bin",
-                0,
-                DOCUMENT,
-            ),
-        ],
-    },
-    // the seal decides between the bits in which two readings differ of which none is sound
-    Case {
-        name: "two of which none is sound",
-        files: &[("a.bin", A), ("b.bin", B)],
-        steps: &[
-            Step::Run(TWO, 0, TURNED),
-            Step::Holds("out.bin", Made::Changed(&PAGES, &[(1920, 0x00)])),
-            Step::Run(
-                "nandlab merge --json 64,32,8,32,32 json.bin a.bin b.bin",
-                0,
-                TURNED_DOCUMENT,
-            ),
-        ],
-    },
-    Case {
-        name: "failures",
-        files: &[("a.bin", A), ("b.bin", B)],
-        steps: &TROUBLES,
-    },
-    Case {
-        name: "other files",
-        files: &[
-            ("a.bin", A),
-            ("b.bin", B),
-            ("out.bin", Made::Text("other")),
-            ("short.bin", Made::Cut(&PAGES, 24575)),
-        ],
-        steps: &WORDS,
-    },
-];
+static THREE_READINGS: Case = Case {
+    name: "three readings",
+    files: &[("a.bin", A), ("b.bin", B), ("c.bin", C)],
+    steps: &[
+        Step::Run(THREE, 0, NONE_SOUND),
+        Step::Holds("out.bin", Made::Changed(&PAGES, &[(1920, 0x00)])),
+    ],
+};
+
+// of a row that differs nothing is taken, and of one that is sound in none the first page that is not erased
+static A_ROW_OF_EACH_KIND: Case = Case {
+    name: "a row of each kind",
+    files: &[("a.bin", FIRST), ("b.bin", SECOND), ("c.bin", THIRD)],
+    steps: &[
+        Step::Run(THREE, 0, EACH),
+        Step::Holds(
+            "out.bin",
+            Made::Zeroed(&PAGES, 17, &[(1920, 0x00), (2016, 0x00)]),
+        ),
+    ],
+};
+
+static TWO_THAT_DIFFER: Case = Case {
+    name: "two that differ",
+    files: &[("a.bin", A), ("b.bin", Made::Dump(&OTHERS))],
+    steps: &[
+        Step::Trouble(Trouble::Pieces(31)),
+        Step::Run(
+            TWO,
+            0,
+            "differ row 17\nunsound row 20\nsound 3 differ 1 majority 0 turned 0 erased 251 unsound 1\n",
+        ),
+        Step::Run(
+            "nandlab merge --json 64,32,8,32,32 json.bin a.bin b.bin",
+            0,
+            DOCUMENT,
+        ),
+    ],
+};
+
+// the seal decides between the bits in which two readings differ of which none is sound
+static TWO_OF_WHICH_NONE_IS_SOUND: Case = Case {
+    name: "two of which none is sound",
+    files: &[("a.bin", A), ("b.bin", B)],
+    steps: &[
+        Step::Run(TWO, 0, TURNED),
+        Step::Holds("out.bin", Made::Changed(&PAGES, &[(1920, 0x00)])),
+        Step::Run(
+            "nandlab merge --json 64,32,8,32,32 json.bin a.bin b.bin",
+            0,
+            TURNED_DOCUMENT,
+        ),
+    ],
+};
+
+static FAILURES: Case = Case {
+    name: "failures",
+    files: &[("a.bin", A), ("b.bin", B)],
+    steps: &TROUBLES,
+};
+
+static OTHER_FILES: Case = Case {
+    name: "other files",
+    files: &[
+        ("a.bin", A),
+        ("b.bin", B),
+        ("out.bin", Made::Text("other")),
+        ("short.bin", Made::Cut(&PAGES, 24575)),
+    ],
+    steps: &WORDS,
+};
 
 #[test]
 fn merge_joins_readings(rt: HostRuntime) -> Result<(), Fail> {
-    expect_cases(&rt, rt.alloc(), &CASES)
+    expect_cases(
+        &rt,
+        rt.alloc(),
+        &[
+            &THREE_READINGS,
+            &A_ROW_OF_EACH_KIND,
+            &TWO_THAT_DIFFER,
+            &TWO_OF_WHICH_NONE_IS_SOUND,
+            &FAILURES,
+            &OTHER_FILES,
+        ],
+    )
 }

@@ -240,41 +240,46 @@ const TROUBLES: [Step; 17] = [
     Step::Run(ONE, 0, MENDED_2),
 ];
 
-static CASES: [Case; 4] = [
-    Case {
-        name: "marks",
-        files: &[
-            ("dump.bin", Made::Dump(&PAGES)),
-            ("a.bin", A),
-            ("b.bin", B),
-            ("other.bin", Made::Dump(&OTHERS)),
-        ],
-        steps: &MARKS,
-    },
-    Case {
-        name: "made",
-        files: &[("a.bin", A), ("c.bin", C), ("d.bin", D)],
-        steps: &MADE,
-    },
-    Case {
-        name: "words",
-        files: &[
-            ("dump.bin", Made::Dump(&PAGES)),
-            ("a.bin", A),
-            ("b.bin", B),
-            ("short.bin", Made::Cut(&PAGES, 24575)),
-            ("map", Made::Text("a map")),
-        ],
-        steps: &WORDS,
-    },
-    Case {
-        name: "troubles",
-        files: &[("dump.bin", Made::Dump(&PAGES)), ("a.bin", A)],
-        steps: &TROUBLES,
-    },
-];
+static MARKS_CASE: Case = Case {
+    name: "marks",
+    files: &[
+        ("dump.bin", Made::Dump(&PAGES)),
+        ("a.bin", A),
+        ("b.bin", B),
+        ("other.bin", Made::Dump(&OTHERS)),
+    ],
+    steps: &MARKS,
+};
+
+static MADE_CASE: Case = Case {
+    name: "made",
+    files: &[("a.bin", A), ("c.bin", C), ("d.bin", D)],
+    steps: &MADE,
+};
+
+static WORDS_CASE: Case = Case {
+    name: "words",
+    files: &[
+        ("dump.bin", Made::Dump(&PAGES)),
+        ("a.bin", A),
+        ("b.bin", B),
+        ("short.bin", Made::Cut(&PAGES, 24575)),
+        ("map", Made::Text("a map")),
+    ],
+    steps: &WORDS,
+};
+
+static TROUBLES_CASE: Case = Case {
+    name: "troubles",
+    files: &[("dump.bin", Made::Dump(&PAGES)), ("a.bin", A)],
+    steps: &TROUBLES,
+};
 
 #[test]
 fn origin_marks_what_no_reading_has(rt: HostRuntime) -> Result<(), Fail> {
-    expect_cases(&rt, rt.alloc(), &CASES)
+    expect_cases(
+        &rt,
+        rt.alloc(),
+        &[&MARKS_CASE, &MADE_CASE, &WORDS_CASE, &TROUBLES_CASE],
+    )
 }

@@ -222,40 +222,46 @@ const OTHERS: [Step; 8] = [
     Step::Holds("out.bin", WHOLE),
 ];
 
-static CASES: [Case; 5] = [
-    Case {
-        name: "mends",
-        files: &[("dump.bin", SPOILED)],
-        steps: &[
-            Step::Run(REPAIR, 0, SAID_OF_ALL),
-            Step::Holds("out.bin", WHOLE),
-            Step::Closed(FORCED, 1),
-            Step::Holds("dump.bin", SPOILED),
-        ],
-    },
-    Case {
-        name: "rows",
-        files: &[("dump.bin", SPOILED)],
-        steps: &ROWS,
-    },
-    Case {
-        name: "two bits",
-        files: &[("dump.bin", SPOILED), ("far.bin", FAR)],
-        steps: &BITS,
-    },
-    Case {
-        name: "failures",
-        files: &[("dump.bin", SPOILED)],
-        steps: &TROUBLES,
-    },
-    Case {
-        name: "other files",
-        files: &[("dump.bin", SPOILED), ("out.bin", Made::Text("other"))],
-        steps: &OTHERS,
-    },
-];
+static MENDS: Case = Case {
+    name: "mends",
+    files: &[("dump.bin", SPOILED)],
+    steps: &[
+        Step::Run(REPAIR, 0, SAID_OF_ALL),
+        Step::Holds("out.bin", WHOLE),
+        Step::Closed(FORCED, 1),
+        Step::Holds("dump.bin", SPOILED),
+    ],
+};
+
+static ROWS_CASE: Case = Case {
+    name: "rows",
+    files: &[("dump.bin", SPOILED)],
+    steps: &ROWS,
+};
+
+static TWO_BITS: Case = Case {
+    name: "two bits",
+    files: &[("dump.bin", SPOILED), ("far.bin", FAR)],
+    steps: &BITS,
+};
+
+static FAILURES: Case = Case {
+    name: "failures",
+    files: &[("dump.bin", SPOILED)],
+    steps: &TROUBLES,
+};
+
+static OTHER_FILES: Case = Case {
+    name: "other files",
+    files: &[("dump.bin", SPOILED), ("out.bin", Made::Text("other"))],
+    steps: &OTHERS,
+};
 
 #[test]
 fn repair_mends_one_bit(rt: HostRuntime) -> Result<(), Fail> {
-    expect_cases(&rt, rt.alloc(), &CASES)
+    expect_cases(
+        &rt,
+        rt.alloc(),
+        &[&MENDS, &ROWS_CASE, &TWO_BITS, &FAILURES, &OTHER_FILES],
+    )
 }

@@ -209,7 +209,7 @@ fn expect_case(rt: &impl Abort, alloc: Global, case: &Case) -> Result<(), Fail> 
 }
 
 /// Holds each case of a table to what it says.
-pub fn expect_cases(rt: &impl Abort, alloc: Global, cases: &[Case]) -> Result<(), Fail> {
+pub fn expect_cases(rt: &impl Abort, alloc: Global, cases: &[&Case]) -> Result<(), Fail> {
     for case in cases {
         expect_case(rt, alloc, case)?;
     }

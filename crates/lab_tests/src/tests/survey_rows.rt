@@ -93,64 +93,63 @@ block 21 unsound 0\nblock 22 unsound 0\nblock 23 unsound 0\nblock 24 unsound 0\n
 block 28 unsound 0\nblock 29 unsound 0\nblock 30 unsound 0\nblock 31 unsound 0
 unsound 1: of these rows alone, of others nothing is told\n";
 
-static CASES: [Case; 2] = [
-    Case {
-        name: "reasons",
-        files: &[("dump.bin", Made::Changed(&PAGES, &[(1600, 0)]))],
-        steps: &[
-            Step::Run(SURVEY, 0, TOLD),
-            Step::Trouble(Trouble::Pieces(13)),
-            Step::Run(SURVEY, 0, TOLD),
-            Step::Run(SOME_ROWS, 0, TOLD_OF_ROWS),
-            Step::Run("nandlab survey --json 64,32,8,32,32 dump.bin", 0, DOCUMENT),
-            Step::Closed(SURVEY, 0),
-        ],
-    },
-    Case {
-        name: "refusals",
-        files: &[("dump.bin", Made::Dump(&PAGES))],
-        steps: &[
-            Step::Run(
-                "nandlab survey 64,32,8,32,x dump.bin",
-                2,
-                "usage: bad number 64,32,8,32,x\n",
-            ),
-            Step::Run(
-                "nandlab survey 64,32,3,32,32 dump.bin",
-                1,
-                "refused geometry 3 PagesPerBlock\n",
-            ),
-            Step::Run(
-                "nandlab survey 64,32,8,32,32 none.bin --rows 256..257",
-                1,
-                "refused rows 1 RowRange\n",
-            ),
-            Step::Run(
-                "nandlab survey 64,32,8,32,32 none.bin --rows 8,24",
-                2,
-                "usage: bad number 8,24\n",
-            ),
-            Step::Run(
-                "nandlab survey 64,32,8,32,32 none.bin",
-                3,
-                "fault read none.bin\n",
-            ),
-            Step::Run(
-                "nandlab survey 64,32,8,31,32 dump.bin",
-                1,
-                "refused image 1 WrongLength\n",
-            ),
-            Step::Trouble(Trouble::ReadsEnd(96)),
-            Step::Run(SURVEY, 3, "fault read dump.bin\n"),
-            Step::Trouble(Trouble::Ends(96)),
-            Step::Run(SURVEY, 1, "refused image 1 WrongLength\n"),
-            Step::Trouble(Trouble::NoMemory),
-            Step::Run(SURVEY, 1, "refused image 3 OutOfMemory\n"),
-        ],
-    },
-];
+static REASONS: Case = Case {
+    name: "reasons",
+    files: &[("dump.bin", Made::Changed(&PAGES, &[(1600, 0)]))],
+    steps: &[
+        Step::Run(SURVEY, 0, TOLD),
+        Step::Trouble(Trouble::Pieces(13)),
+        Step::Run(SURVEY, 0, TOLD),
+        Step::Run(SOME_ROWS, 0, TOLD_OF_ROWS),
+        Step::Run("nandlab survey --json 64,32,8,32,32 dump.bin", 0, DOCUMENT),
+        Step::Closed(SURVEY, 0),
+    ],
+};
+
+static REFUSALS: Case = Case {
+    name: "refusals",
+    files: &[("dump.bin", Made::Dump(&PAGES))],
+    steps: &[
+        Step::Run(
+            "nandlab survey 64,32,8,32,x dump.bin",
+            2,
+            "usage: bad number 64,32,8,32,x\n",
+        ),
+        Step::Run(
+            "nandlab survey 64,32,3,32,32 dump.bin",
+            1,
+            "refused geometry 3 PagesPerBlock\n",
+        ),
+        Step::Run(
+            "nandlab survey 64,32,8,32,32 none.bin --rows 256..257",
+            1,
+            "refused rows 1 RowRange\n",
+        ),
+        Step::Run(
+            "nandlab survey 64,32,8,32,32 none.bin --rows 8,24",
+            2,
+            "usage: bad number 8,24\n",
+        ),
+        Step::Run(
+            "nandlab survey 64,32,8,32,32 none.bin",
+            3,
+            "fault read none.bin\n",
+        ),
+        Step::Run(
+            "nandlab survey 64,32,8,31,32 dump.bin",
+            1,
+            "refused image 1 WrongLength\n",
+        ),
+        Step::Trouble(Trouble::ReadsEnd(96)),
+        Step::Run(SURVEY, 3, "fault read dump.bin\n"),
+        Step::Trouble(Trouble::Ends(96)),
+        Step::Run(SURVEY, 1, "refused image 1 WrongLength\n"),
+        Step::Trouble(Trouble::NoMemory),
+        Step::Run(SURVEY, 1, "refused image 3 OutOfMemory\n"),
+    ],
+};
 
 #[test]
 fn survey_tells_what_the_dump_holds(rt: HostRuntime) -> Result<(), Fail> {
-    expect_cases(&rt, rt.alloc(), &CASES)
+    expect_cases(&rt, rt.alloc(), &[&REASONS, &REFUSALS])
 }

@@ -5,7 +5,7 @@ use std::test::Fail;
 
 const NONE: &str = "usage: no such command, see nandlab --help\n";
 
-static CASES: [Case; 1] = [Case {
+static WORDS: Case = Case {
     name: "words",
     files: &[("dump.bin", Made::Dump(&[]))],
     steps: &[
@@ -28,9 +28,9 @@ static CASES: [Case; 1] = [Case {
         Step::Run("nandlab --version", 0, "nandlab 0.1.0\n"),
         Step::Closed("nandlab --version", 0),
     ],
-}];
+};
 
 #[test]
 fn words_are_those_of_the_program(rt: HostRuntime) -> Result<(), Fail> {
-    expect_cases(&rt, rt.alloc(), &CASES)
+    expect_cases(&rt, rt.alloc(), &[&WORDS])
 }
