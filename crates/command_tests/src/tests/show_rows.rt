@@ -80,7 +80,7 @@ static A_ROW_PAST_THE_DIE: Case = Case {
     steps: &[Step::Run(PAST, 1, "refused image 2 RowRange\n")],
 };
 
-static THE_FILE_S_LENGTH_IS_LOOKED_AT_BEFORE_THE_ROW: Case = Case {
+static THE_LENGTH_IS_LOOKED_AT_FIRST: Case = Case {
     name: "the file's length is looked at before the row",
     files: &[("image.bin", Made::Erased(24575))],
     steps: &[Step::Run(PAST, 1, "refused image 1 WrongLength\n")],
@@ -95,7 +95,7 @@ fn show_rows(rt: HostRuntime) -> Result<(), Fail> {
             &A_PAGE_OF_EACH_KIND,
             &A_PAGE_OF_EACH_VERSION,
             &A_ROW_PAST_THE_DIE,
-            &THE_FILE_S_LENGTH_IS_LOOKED_AT_BEFORE_THE_ROW,
+            &THE_LENGTH_IS_LOOKED_AT_FIRST,
         ],
     )
 }

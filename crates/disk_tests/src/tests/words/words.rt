@@ -1,5 +1,5 @@
 //! The words of `nanddisk`.
-use crate::tests::hold_at;
+use crate::tests::hold_step;
 use disk_commands::{
     Code, CreateWords, DiskServeWords, DiskWords, GrammarFault, InfoWords, MakeWords, parse,
 };
@@ -191,16 +191,16 @@ fn holds(alloc: Global, words: &[&str], told: &[&str]) -> bool {
     is_told(alloc, &all, told)
 }
 
-fn hold_rows(rt: &impl Abort, alloc: Global, rows: &[Row]) {
+fn hold_rows(rt: &impl Abort, alloc: Global, table: &str, rows: &[Row]) {
     for (number, (words, told)) in rows.iter().enumerate() {
-        hold_at(rt, holds(alloc, words, told), number);
+        hold_step(rt, holds(alloc, words, told), table, number);
     }
 }
 
 #[test]
 fn words_ask_for_commands(rt: HostRuntime) {
-    hold_rows(&rt, rt.alloc(), &CREATES);
-    hold_rows(&rt, rt.alloc(), &SERVES);
-    hold_rows(&rt, rt.alloc(), &TELLS);
-    hold_rows(&rt, rt.alloc(), &OTHERS);
+    hold_rows(&rt, rt.alloc(), "create", &CREATES);
+    hold_rows(&rt, rt.alloc(), "serve", &SERVES);
+    hold_rows(&rt, rt.alloc(), "info and check", &TELLS);
+    hold_rows(&rt, rt.alloc(), "others", &OTHERS);
 }
