@@ -64,7 +64,7 @@ static WRITTEN_TWICE: Case = Case {
     ],
 };
 
-static TRIMMED_CASE: Case = Case {
+static A_TRIM: Case = Case {
     name: "trimmed",
     files: &[("image.bin", Made::Formatted(&TRIMMED)), CERT],
     steps: &[
@@ -135,7 +135,7 @@ fn certificates_are_stored(rt: HostRuntime) -> Result<(), Fail> {
         &[
             &NOTHING_WAS_WRITTEN,
             &WRITTEN_TWICE,
-            &TRIMMED_CASE,
+            &A_TRIM,
             &A_PAGE_PAST_A_GAP,
             &THE_LAST_SEQUENCE,
         ],

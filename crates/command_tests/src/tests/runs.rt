@@ -300,7 +300,7 @@ fn files_of(rt: &impl Abort, alloc: Global, case: &Case) -> Result<MemoryFiles, 
     Ok(files)
 }
 
-// A case stands by itself, so that no table of them is one value.
+// A table has references: each case is a `static` by itself, since one of many texts is dear to check.
 impl<R: Abort> TestCase<R> for &Case {
     // Takes its steps in their order.
     fn hold(&self, rt: &R, alloc: Global) -> Result<(), Fail> {

@@ -252,7 +252,7 @@ static FAILURES: Case = Case {
     steps: &TROUBLES,
 };
 
-static REFUSALS_CASE: Case = Case {
+static REFUSED: Case = Case {
     name: "refusals",
     files: &[("plain.bin", ORDERED), ("block.bin", BY_BLOCK)],
     steps: &REFUSALS,
@@ -260,9 +260,5 @@ static REFUSALS_CASE: Case = Case {
 
 #[test]
 fn arrange_puts_in_order(rt: HostRuntime) -> Result<(), Fail> {
-    expect_cases(
-        &rt,
-        rt.alloc(),
-        &[&PUTS_IN_ORDER, &FAILURES, &REFUSALS_CASE],
-    )
+    expect_cases(&rt, rt.alloc(), &[&PUTS_IN_ORDER, &FAILURES, &REFUSED])
 }

@@ -334,7 +334,7 @@ static FAILURES: Case = Case {
     steps: &TROUBLES,
 };
 
-static PIECES_CASE: Case = Case {
+static READ_IN_PIECES: Case = Case {
     name: "pieces",
     files: &[("dump.bin", Made::Dump(&PAGES))],
     steps: &PIECES,
@@ -363,7 +363,7 @@ fn array_writes_what_the_dump_holds(rt: HostRuntime) -> Result<(), Fail> {
             &LENGTHS,
             &OTHER_FILES,
             &FAILURES,
-            &PIECES_CASE,
+            &READ_IN_PIECES,
             &THE_FIRST_FAULT,
         ],
     )
@@ -423,7 +423,7 @@ const MAPS: [Step; 15] = [
 const MAP: &str =
     "# Mapfile of an array, made by nandlab\n0x0 + 1\n0x0 0xc0 ?\n0xc0 0x80 +\n0x140 0x680 ?\n0x7c0 0x40 +\n";
 
-static MAPS_CASE: Case = Case {
+static WITH_A_MAP: Case = Case {
     name: "maps",
     files: &[("dump.bin", Made::Dump(&PAGES))],
     steps: &MAPS,
@@ -431,5 +431,5 @@ static MAPS_CASE: Case = Case {
 
 #[test]
 fn array_writes_its_map(rt: HostRuntime) -> Result<(), Fail> {
-    expect_cases(&rt, rt.alloc(), &[&MAPS_CASE])
+    expect_cases(&rt, rt.alloc(), &[&WITH_A_MAP])
 }

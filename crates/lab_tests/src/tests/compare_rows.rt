@@ -52,7 +52,7 @@ const DOCUMENT: &str = r#"[{"command":"compare","line":"command","program":"nand
 ]
 "#;
 
-static SINCE_CASE: Case = Case {
+static LOST_SINCE: Case = Case {
     name: "since",
     files: &[("cert.bin", BEFORE), ("dump.bin", Made::Dump(&SINCE))],
     steps: &[
@@ -114,5 +114,5 @@ static REFUSALS: Case = Case {
 
 #[test]
 fn compare_tells_what_was_lost(rt: HostRuntime) -> Result<(), Fail> {
-    expect_cases(&rt, rt.alloc(), &[&SINCE_CASE, &FAILURES, &REFUSALS])
+    expect_cases(&rt, rt.alloc(), &[&LOST_SINCE, &FAILURES, &REFUSALS])
 }

@@ -62,7 +62,7 @@ const UNTIL_4: &str =
 const UNTIL_GREATEST: &str =
     "unsound 1: as of sequence 18446744073709551615, the newest of what is still there\n";
 
-static HISTORY_CASE: Case = Case {
+static ONE_SECTOR: Case = Case {
     name: "history",
     files: &[("dump.bin", Made::Changed(&PAGES, CHANGES))],
     steps: &[
@@ -172,5 +172,5 @@ static REFUSALS: Case = Case {
 
 #[test]
 fn history_tells_what_is_still_there(rt: HostRuntime) -> Result<(), Fail> {
-    expect_cases(&rt, rt.alloc(), &[&HISTORY_CASE, &UNTIL, &REFUSALS])
+    expect_cases(&rt, rt.alloc(), &[&ONE_SECTOR, &UNTIL, &REFUSALS])
 }

@@ -240,7 +240,7 @@ const TROUBLES: [Step; 17] = [
     Step::Run(ONE, 0, MENDED_2),
 ];
 
-static MARKS_CASE: Case = Case {
+static MARKED: Case = Case {
     name: "marks",
     files: &[
         ("dump.bin", Made::Dump(&PAGES)),
@@ -251,13 +251,13 @@ static MARKS_CASE: Case = Case {
     steps: &MARKS,
 };
 
-static MADE_CASE: Case = Case {
+static OF_NO_READING: Case = Case {
     name: "made",
     files: &[("a.bin", A), ("c.bin", C), ("d.bin", D)],
     steps: &MADE,
 };
 
-static WORDS_CASE: Case = Case {
+static OTHER_WORDS: Case = Case {
     name: "words",
     files: &[
         ("dump.bin", Made::Dump(&PAGES)),
@@ -269,7 +269,7 @@ static WORDS_CASE: Case = Case {
     steps: &WORDS,
 };
 
-static TROUBLES_CASE: Case = Case {
+static FAILURES: Case = Case {
     name: "troubles",
     files: &[("dump.bin", Made::Dump(&PAGES)), ("a.bin", A)],
     steps: &TROUBLES,
@@ -280,6 +280,6 @@ fn origin_marks_what_no_reading_has(rt: HostRuntime) -> Result<(), Fail> {
     expect_cases(
         &rt,
         rt.alloc(),
-        &[&MARKS_CASE, &MADE_CASE, &WORDS_CASE, &TROUBLES_CASE],
+        &[&MARKED, &OF_NO_READING, &OTHER_WORDS, &FAILURES],
     )
 }

@@ -233,7 +233,7 @@ static MENDS: Case = Case {
     ],
 };
 
-static ROWS_CASE: Case = Case {
+static SOME_ROWS: Case = Case {
     name: "rows",
     files: &[("dump.bin", SPOILED)],
     steps: &ROWS,
@@ -262,6 +262,6 @@ fn repair_mends_one_bit(rt: HostRuntime) -> Result<(), Fail> {
     expect_cases(
         &rt,
         rt.alloc(),
-        &[&MENDS, &ROWS_CASE, &TWO_BITS, &FAILURES, &OTHER_FILES],
+        &[&MENDS, &SOME_ROWS, &TWO_BITS, &FAILURES, &OTHER_FILES],
     )
 }
