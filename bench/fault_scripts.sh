@@ -1,7 +1,6 @@
 #!/usr/bin/env bash
-# Runs the scripts of four hundred commands whole: each program and erase fails in turn, alone and with the one or two after it; one
-# call of the bus fails, each in turn; and the die stops at each program and erase. The gate tries some of each, evenly apart. (Those of
-# `failing/stops.rt` it tries whole.) The tests are proved, built and run in a copy, in which the distances are 1; each may take a
+# Runs the scripts of four hundred commands whole: each program and erase fails in turn, alone and with the one or two after it; and one
+# call of the bus fails, each in turn. The gate tries some of each, evenly apart. (The stops of `failing/stops.rt` it tries whole.) The tests are proved, built and run in a copy, in which the distances are 1; each may take a
 # quarter of an hour. Takes what earlier checks kept of the libraries (out/rlib) and of device_tests, and proves the rest first. It
 # prints the tests.
 #
@@ -25,5 +24,4 @@ tighten() {
 cd "$folder/crates/device_tests"
 tighten src/tests/failing/fault_scripts.rt EACH
 tighten src/tests/hostile/scripts.rt CALLS_APART
-tighten src/tests/hostile/scripts.rt CHANGES_APART
 RT_SECONDS=900 rt test 2>&1 | grep '^\(test\|rt:\) '

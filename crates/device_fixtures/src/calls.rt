@@ -46,6 +46,19 @@ pub const CLOSING_READ: [Call; 7] = [
     Call::Read(5, 0x15),
 ];
 
+/// What a device that has stopped is asked, out of range too. It answers all of it with `BusFault`.
+pub const ASKED: [Call; 6] = [
+    Call::Read(5, 0),
+    Call::Read(99, 0),
+    Call::Write(6, 1),
+    Call::Trim(7),
+    Call::Flush,
+    Call::Turn,
+];
+
+/// The answer of a device that has stopped.
+pub const BROKEN: Answer = Err(DeviceFault::BusFault);
+
 impl Call {
     /// The sector of a call: 0 of one that has none.
     pub fn sector(self) -> u32 {
@@ -94,11 +107,32 @@ fn write<N: Nand>(device: &mut Device<N>, sector: u32, byte: u8) -> Result<Answe
     write_body(device, sector, &[byte; 64])
 }
 
+/// Reads a sector over 64 bytes of this one, and gives the answer and the bytes.
+///
+/// # Errors
+///
+/// The read is refused and the bytes are others, or the sectors don't have 64 bytes.
+pub fn read_over<N: Nand>(
+    device: &mut Device<N>,
+    sector: u32,
+    byte: u8,
+) -> Result<(Answer, [u8; 64]), Fail>
+    requires { IsDevice N.view.flash device.old }
+    ensures { IsDevice N.view.flash device.new }
+{
+    let mut out = [byte; 64];
+    let answer = read_into(device, sector, &mut out)?;
+    if answer.is_err() {
+        hold_same("refused", "a sector", &(sector, out), &(sector, [byte; 64]))?;
+    }
+    Ok((answer, out))
+}
+
 /// Reads a sector, which has 64 bytes of this one, and gives the answer.
 ///
 /// # Errors
 ///
-/// The read is done and the sector has others, or the sectors don't have 64 bytes.
+/// The read is done and the sector has others, or those of `read_over`.
 pub fn read<N: Nand>(
     device: &mut Device<N>,
     name: &str,
@@ -108,8 +142,7 @@ pub fn read<N: Nand>(
     requires { IsDevice N.view.flash device.old }
     ensures { IsDevice N.view.flash device.new }
 {
-    let mut out = [!byte; 64];
-    let answer = read_into(device, sector, &mut out)?;
+    let (answer, out) = read_over(device, sector, !byte)?;
     if answer.is_ok() {
         hold_same(name, "a sector", &(sector, out), &(sector, [byte; 64]))?;
     }

@@ -1,7 +1,7 @@
 //! The devices of these tests are those of `device_fixtures`.
 mod collecting;
 mod courses;
-mod fault_scripts;
+pub mod fault_scripts;
 mod faults;
 mod forward;
 mod listed;

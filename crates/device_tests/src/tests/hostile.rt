@@ -5,7 +5,6 @@
 //! cut at each length (`server`: `cut_write_changes_nothing`), a failing reader and a failing writer (`server`: `failing_streams_end`;
 //! `command_tests`: `requests_are_served`), programs and erases that fail (`failing::fault_scripts`).
 mod buses;
-mod calls;
 mod images;
 mod list;
 mod noise;

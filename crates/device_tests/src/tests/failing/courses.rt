@@ -7,7 +7,7 @@ use super::fault_scripts::nth_call;
 use super::noise::{noisy, quiet};
 use super::script::Script;
 use device_fixtures::bench::{driver_on, formatted_die_at, handed_on, started, started_at};
-use device_fixtures::calls::{Answer, CLOSING, Call, make};
+use device_fixtures::calls::{ASKED, Answer, BROKEN, CLOSING, Call, hold_calls, make};
 use device_fixtures::dies::image_of;
 use ftl_device::{Device, DeviceFault};
 use nand_die::{Die, Stop};
@@ -164,7 +164,7 @@ fn give<N: Nand>(device: &mut Device<N>, script: &mut Script, call: Call) -> Res
     goes_on(script, call, answer)
 }
 
-// Makes the first calls, up to the one at which the device stops, if it does.
+// Makes the first calls, up to the one at which the device stops, if it does. A device that stops stays so.
 fn give_until_stop<N: Nand>(
     device: &mut Device<N>,
     calls: Calls,
@@ -178,7 +178,7 @@ fn give_until_stop<N: Nand>(
         let call = calls.nth(i);
         if !give(device, &mut went.script, call)? {
             went.stopped = Some(call);
-            return Ok(());
+            return hold_calls(device, "stopped", &ASKED, BROKEN);
         }
     }
     Ok(())

@@ -5,12 +5,12 @@ ghost use Rattle.ftl_device.specs.Device.{IsDevice};
 use super::collecting::collected;
 use device_fixtures::again::{Mounted, hold_mounted};
 use device_fixtures::bench::{driver_on, formatted_die, handed_on, mounted, small, started};
-use device_fixtures::calls::Call::{self, Flush, Read, Trim, Turn, Write};
-use device_fixtures::calls::{Answer, CLOSING, CLOSING_READ, hold_call, hold_calls};
+use device_fixtures::calls::Call::{self, Read, Trim, Write};
+use device_fixtures::calls::{ASKED, BROKEN, CLOSING, CLOSING_READ, hold_call, hold_calls};
 use device_fixtures::dies::{image_of, loaded};
 use device_fixtures::hold::hold_same;
 use device_fixtures::pages::{NO, PageAt, hold_pages};
-use ftl_device::{Device, DeviceFault};
+use ftl_device::Device;
 use nand_die::{Die, Stop};
 use onfi_cycles::{Driver, Nand};
 use page_layout::geometry::Geometry;
@@ -152,11 +152,6 @@ fn stopped_collecting<N: Nand + Drop>(device: Device<N>, row: &Row) -> Result<(N
     hold_same(row.name, "stopped", &stopped, &true)?;
     Ok(pair)
 }
-
-// What a device that has stopped is asked. It answers all of it with `BusFault`.
-static ASKED: [Call; 6] = [Read(5, 0), Read(99, 0), Write(6, 1), Trim(7), Flush, Turn];
-
-const BROKEN: Answer = Err(DeviceFault::BusFault);
 
 // A device stops in this call, and stays so.
 fn hold_stopping<N: Nand>(device: &mut Device<N>, name: &str, call: Call) -> Result<(), Fail>

@@ -4,27 +4,21 @@ ghost use Rattle.page_layout.specs.declared.geometry.Geometry.{Geometry};
 ghost use Rattle.certificate.specs.Claim.{sizes_of};
 ghost use Rattle.ftl_device.specs.Device.{IsDevice};
 
-use super::calls::Call::{Flush, Read, Trim, Turn, Write};
-use super::calls::{Call, hold_call, make};
 use certificate::Certificate;
 use device_fixtures::bench::{
     after_calls, checked, driver_on, formatted_die, mounted, small, start_on,
 };
-use device_fixtures::calls::Call as Done;
+use device_fixtures::calls::Call::{self, Flush, Read, Trim, Turn, Write};
+use device_fixtures::calls::{Answer, BROKEN, hold_call};
 use ftl_device::{Device, DeviceFault};
 use image_check::Accepted;
 use nand_die::{CycleFuse, Die, Garble};
 use onfi_cycles::{Bus, Driver, Nand};
 use page_layout::geometry::Geometry;
 use std::alloc::Global;
-use std::process::Abort;
 use std::test::Fail;
 
-type Answer = Result<(), DeviceFault>;
-
 const DONE: Answer = Ok(());
-
-const BROKEN: Answer = Err(DeviceFault::BusFault);
 
 const DAMAGED: Answer = Err(DeviceFault::Damaged);
 
@@ -37,29 +31,29 @@ enum Round {
     Fuse(u64, u64),
 }
 
-// Calls that are done on a formatted die, and then on a new device over the bus: calls, what a read finds, and their answers.
+// Calls that are done on a formatted die, and then on a new device over the bus, with their answers.
 struct Row {
     name: &'static str,
-    before: &'static [Done],
+    before: &'static [Call],
     round: Round,
-    steps: &'static [(Call, u8, Answer)],
+    steps: &'static [(Call, Answer)],
 }
 
-const ELEVEN: &[Done] = &[Done::Write(5, 0x11)];
+const ELEVEN: &[Call] = &[Write(5, 0x11)];
 
 // The entry of sector 5 is in a translation page, and in no cache.
-const FLUSHED: &[Done] = &[Done::Write(5, 0x11), Done::Flush];
+const FLUSHED: &[Call] = &[Write(5, 0x11), Flush];
 
 // All calls of a device that is stopped, those out of range too.
-const STOPPED: &[(Call, u8, Answer)] = &[
-    (Write(5, 0x22), 0, BROKEN),
-    (Write(6, 0x22), 0, BROKEN),
-    (Read(5), 0, BROKEN),
-    (Read(40), 0, BROKEN),
-    (Trim(5), 0, BROKEN),
-    (Trim(40), 0, BROKEN),
-    (Flush, 0, BROKEN),
-    (Turn, 0, BROKEN),
+const STOPPED: &[(Call, Answer)] = &[
+    (Write(5, 0x22), BROKEN),
+    (Write(6, 0x22), BROKEN),
+    (Read(5, 0), BROKEN),
+    (Read(40, 0), BROKEN),
+    (Trim(5), BROKEN),
+    (Trim(40), BROKEN),
+    (Flush, BROKEN),
+    (Turn, BROKEN),
 ];
 
 static ROWS: [Row; 8] = [
@@ -67,17 +61,17 @@ static ROWS: [Row; 8] = [
         name: "a byte of a page is garbled",
         before: ELEVEN,
         round: Round::Garble(1, 0, 0x01),
-        steps: &[(Read(5), 0, DAMAGED), (Read(5), 0x11, DONE)],
+        steps: &[(Read(5, 0), DAMAGED), (Read(5, 0x11), DONE)],
     },
     Row {
         name: "a byte of a spare area is garbled",
         before: ELEVEN,
         round: Round::Garble(2, 8, 0x01),
         steps: &[
-            (Read(5), 0, DAMAGED),
-            (Read(5), 0x11, DONE),
-            (Write(5, 0x22), 0, DONE),
-            (Read(5), 0x22, DONE),
+            (Read(5, 0), DAMAGED),
+            (Read(5, 0x11), DONE),
+            (Write(5, 0x22), DONE),
+            (Read(5, 0x22), DONE),
         ],
     },
     Row {
@@ -91,13 +85,13 @@ static ROWS: [Row; 8] = [
         before: ELEVEN,
         round: Round::Fuse(1, 1),
         steps: &[
-            (Read(5), 0, BROKEN),
-            (Read(5), 0, BROKEN),
-            (Read(40), 0, BROKEN),
-            (Write(5, 0x22), 0, BROKEN),
-            (Trim(5), 0, BROKEN),
-            (Flush, 0, BROKEN),
-            (Turn, 0, BROKEN),
+            (Read(5, 0), BROKEN),
+            (Read(5, 0), BROKEN),
+            (Read(40, 0), BROKEN),
+            (Write(5, 0x22), BROKEN),
+            (Trim(5), BROKEN),
+            (Flush, BROKEN),
+            (Turn, BROKEN),
         ],
     },
     Row {
@@ -112,47 +106,46 @@ static ROWS: [Row; 8] = [
         before: ELEVEN,
         round: Round::Fuse(2, 1),
         steps: &[
-            (Read(32), 0, Err(DeviceFault::OutOfRange)),
-            (Write(32, 1), 0, Err(DeviceFault::OutOfRange)),
-            (Trim(32), 0, Err(DeviceFault::OutOfRange)),
-            (Read(5), 0, BROKEN),
-            (Read(32), 0, BROKEN),
+            (Read(32, 0), Err(DeviceFault::OutOfRange)),
+            (Write(32, 1), Err(DeviceFault::OutOfRange)),
+            (Trim(32), Err(DeviceFault::OutOfRange)),
+            (Read(5, 0), BROKEN),
+            (Read(32, 0), BROKEN),
         ],
     },
     Row {
         name: "a translation page is garbled for a read",
         before: FLUSHED,
         round: Round::Garble(1, 20, 0x01),
-        steps: &[(Read(5), 0, DAMAGED), (Read(5), 0x11, DONE)],
+        steps: &[(Read(5, 0), DAMAGED), (Read(5, 0x11), DONE)],
     },
     Row {
         name: "a translation page is garbled for a write",
         before: FLUSHED,
         round: Round::Garble(1, 20, 0x01),
         steps: &[
-            (Write(5, 0x22), 0, DAMAGED),
-            (Read(5), 0, DAMAGED),
-            (Write(6, 0x22), 0, DAMAGED),
-            (Trim(40), 0, DAMAGED),
-            (Flush, 0, DAMAGED),
-            (Turn, 0, DAMAGED),
+            (Write(5, 0x22), DAMAGED),
+            (Read(5, 0), DAMAGED),
+            (Write(6, 0x22), DAMAGED),
+            (Trim(40), DAMAGED),
+            (Flush, DAMAGED),
+            (Turn, DAMAGED),
         ],
     },
 ];
 
 // Each call has its answer.
-fn hold_steps<N: Nand>(rt: &impl Abort, device: &mut Device<N>, row: &Row)
+fn hold_steps<N: Nand>(device: &mut Device<N>, row: &Row) -> Result<(), Fail>
     requires { IsDevice N.view.flash device.old }
 {
-    for (call, held, answer) in row.steps {
-        let found = make(rt, device, *call, *held);
-        hold_call(rt, row.name, *call, found == *answer);
+    for (call, answer) in row.steps {
+        hold_call(device, row.name, *call, *answer)?;
     }
+    Ok(())
 }
 
 // The device on a die.
 fn hold_started<N: Nand + Drop>(
-    rt: &impl Abort,
     alloc: Global,
     nand: N,
     accepted: Accepted<'_>,
@@ -161,14 +154,13 @@ fn hold_started<N: Nand + Drop>(
     requires { sizes_of (N.view.flash nand).geometry ≡ accepted.claim.sizes }
 {
     let mut device = start_on(alloc, nand, accepted)?;
-    hold_steps(rt, &mut device, row);
+    let came = hold_steps(&mut device, row);
     device.into_nand();
-    Ok(())
+    came
 }
 
 // The device over a bus.
 fn hold_on<B: Bus + Drop>(
-    rt: &impl Abort,
     alloc: Global,
     bus: B,
     geometry: Geometry,
@@ -179,7 +171,7 @@ fn hold_on<B: Bus + Drop>(
     requires asked { sizes_of geometry ≡ accepted.claim.sizes }
 {
     let driver = driver_on(bus, geometry)?;
-    hold_started(rt, alloc, driver, accepted, row)
+    hold_started(alloc, driver, accepted, row)
 }
 
 // The die after the calls before.
@@ -193,7 +185,6 @@ fn prepared(alloc: Global, row: &Row) -> Result<(Driver<Die>, Geometry), Fail>
 
 // The device over the bus of a row.
 fn hold_round(
-    rt: &impl Abort,
     alloc: Global,
     die: Die,
     geometry: Geometry,
@@ -206,18 +197,17 @@ fn hold_round(
     match row.round {
         Round::Garble(nth, byte, mask) => {
             let bus = Garble::new(die, nth, byte, mask);
-            hold_on(rt, alloc, bus, geometry, accepted, row)
+            hold_on(alloc, bus, geometry, accepted, row)
         }
         Round::Fuse(passed, failing) => {
             let bus = CycleFuse::new(die, passed, failing);
-            hold_on(rt, alloc, bus, geometry, accepted, row)
+            hold_on(alloc, bus, geometry, accepted, row)
         }
     }
 }
 
 // The same of a die that was mounted.
 fn hold_mounted(
-    rt: &impl Abort,
     alloc: Global,
     mut driver: Driver<Die>,
     geometry: Geometry,
@@ -227,19 +217,19 @@ fn hold_mounted(
     requires { driver.geometry ≡ geometry }
 {
     let accepted = checked(alloc, &mut driver, &geometry, 4, certificate)?;
-    hold_round(rt, alloc, driver.into_bus(), geometry, accepted, row)
+    hold_round(alloc, driver.into_bus(), geometry, accepted, row)
 }
 
-fn hold_row(rt: &impl Abort, alloc: Global, row: &Row) -> Result<(), Fail> {
+fn hold_row(alloc: Global, row: &Row) -> Result<(), Fail> {
     let (mut driver, geometry) = prepared(alloc, row)?;
     let certificate = mounted(alloc, &mut driver, &geometry, 4)?;
-    hold_mounted(rt, alloc, driver, geometry, &certificate, row)
+    hold_mounted(alloc, driver, geometry, &certificate, row)
 }
 
 #[test]
 fn hostile_buses_are_answered(rt: HostRuntime) -> Result<(), Fail> {
     for row in &ROWS {
-        hold_row(&rt, rt.alloc(), row)?;
+        hold_row(rt.alloc(), row)?;
     }
     Ok(())
 }

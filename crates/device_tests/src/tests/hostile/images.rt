@@ -3,11 +3,11 @@ ghost use Rattle.std.specs.Prelude.{◌≡◌};
 ghost use Rattle.page_layout.specs.Geometry.{row_count};
 ghost use Rattle.ftl_device.specs.Device.{IsDevice};
 
-use super::calls::{Call, hold_call, make, write};
 use super::list::{List, SECTORS, hold_device, hold_sector, scanned};
 use super::noise::Noise;
 use certificate::Certificate;
 use device_fixtures::bench::{fresh, small, started};
+use device_fixtures::calls::{Call, hold_answer, hold_call, make};
 use device_fixtures::dies::{certified_image, loaded};
 use device_fixtures::hold::hold_same;
 use ftl_device::{Device, DeviceFault};
@@ -216,42 +216,43 @@ fn is_answer(answer: Result<(), DeviceFault>) -> bool {
     }
 }
 
-// Gives a device a flush or a turn.
-fn hold_idle<N: Nand>(rt: &impl Abort, device: &mut Device<N>, call: Call)
+// Makes a change, a flush or a turn. Whether it is done.
+fn change<N: Nand>(device: &mut Device<N>, call: Call) -> Result<bool, Fail>
     requires { IsDevice N.view.flash device.old }
     ensures { IsDevice N.view.flash device.new }
 {
-    let answer = make(rt, device, call, 0);
-    hold_call(rt, "idle", call, is_answer(answer));
+    let answer = make(device, "changed", call)?;
+    if !is_answer(answer) {
+        hold_answer("changed", call, answer, Ok(()))?;
+    }
+    Ok(answer.is_ok())
 }
 
 // Writes a sector, and the list the same where that is done.
-fn hold_write<N: Nand>(rt: &impl Abort, device: &mut Device<N>, list: &mut List, number: u32)
+fn write<N: Nand>(device: &mut Device<N>, list: &mut List, number: u32) -> Result<(), Fail>
     requires { IsDevice N.view.flash device.old }
     ensures { IsDevice N.view.flash device.new }
 {
-    let answer = write(rt, device, number, &[0x5A; 64]);
-    hold_sector(rt, "written", number, is_answer(answer));
-    if answer.is_ok() {
+    if change(device, Call::Write(number, 0x5A))? {
         list.set(number, [0x5A; 64]);
     }
+    Ok(())
 }
 
 // A device's sectors are the list's, and stay so.
-fn hold_changes<N: Nand>(rt: &impl Abort, device: &mut Device<N>, list: &mut List)
+fn hold_changes<N: Nand>(device: &mut Device<N>, list: &mut List) -> Result<(), Fail>
     requires { IsDevice N.view.flash device.old }
 {
-    hold_device(rt, device, list, "started");
-    hold_idle(rt, device, Call::Turn);
-    hold_write(rt, device, list, 7);
-    hold_write(rt, device, list, 30);
-    hold_idle(rt, device, Call::Flush);
-    hold_device(rt, device, list, "changed");
+    hold_device(device, list, "started")?;
+    change(device, Call::Turn)?;
+    write(device, list, 7)?;
+    write(device, list, 30)?;
+    change(device, Call::Flush)?;
+    hold_device(device, list, "changed")
 }
 
 // A device on a die has the list's sectors, and they stay so.
 fn hold_started<N: Nand + Drop>(
-    rt: &impl Abort,
     alloc: Global,
     nand: N,
     geometry: &Geometry,
@@ -260,21 +261,20 @@ fn hold_started<N: Nand + Drop>(
     requires { (N.view.flash nand).geometry ≡ geometry.now }
 {
     let mut device = started(alloc, nand, geometry, 12)?;
-    hold_changes(rt, &mut device, list);
+    let came = hold_changes(&mut device, list);
     device.into_nand();
-    Ok(())
+    came
 }
 
 // The same of a device over an image.
 fn hold_loaded(
-    rt: &impl Abort,
     alloc: Global,
     geometry: &Geometry,
     bytes: &[u8],
     list: &mut List,
 ) -> Result<(), Fail> {
     let driver = loaded(alloc, *geometry, bytes)?;
-    hold_started(rt, alloc, driver, geometry, list)
+    hold_started(alloc, driver, geometry, list)
 }
 
 // The certificate of an image, where it mounts.
@@ -299,7 +299,7 @@ fn hold_mounted(
     let refusal = hold_check(rt, alloc, geometry, bytes, certificate)?;
     hold_same("mounted", "refusal", &refusal, &None)?;
     match list {
-        Some(mut list) => hold_loaded(rt, alloc, geometry, bytes, &mut list),
+        Some(mut list) => hold_loaded(alloc, geometry, bytes, &mut list),
         None => Err(Fail::new("two pages share a sequence")),
     }
 }
@@ -355,21 +355,26 @@ fn nth_call(i: u32) -> Call {
 }
 
 // Sixty of them.
-fn do_sixty<N: Nand>(rt: &impl Abort, device: &mut Device<N>)
+fn do_sixty<N: Nand>(device: &mut Device<N>) -> Result<(), Fail>
     requires { IsDevice N.view.flash device.old }
     ensures { IsDevice N.view.flash device.new }
 {
     for i in 0..60 {
-        let answer = make(rt, device, nth_call(i), 0);
-        hold_call(rt, "valid", nth_call(i), answer.is_ok());
+        hold_call(device, "valid", nth_call(i), Ok(()))?;
     }
+    Ok(())
 }
 
 // A valid image, which has pages of each kind in its first eleven blocks, and its certificate.
-fn valid(rt: &impl Abort, alloc: Global) -> Result<(Vec<u8>, Certificate), Fail> {
+fn valid(alloc: Global) -> Result<(Vec<u8>, Certificate), Fail> {
     let mut device = fresh(alloc, small()?, 4)?;
-    do_sixty(rt, &mut device);
-    certified_image(alloc, device, 12)
+    match do_sixty(&mut device) {
+        Ok(()) => certified_image(alloc, device, 12),
+        Err(fail) => {
+            drop(device);
+            Err(fail)
+        }
+    }
 }
 
 // A valid image is filled with noise, again and again.
@@ -392,7 +397,7 @@ fn fill_each(
 
 #[test]
 fn noise_is_no_image(rt: HostRuntime) -> Result<(), Fail> {
-    let (mut image, certificate) = valid(&rt, rt.alloc())?;
+    let (mut image, certificate) = valid(rt.alloc())?;
     fill_each(&rt, rt.alloc(), &mut image, &certificate)
 }
 
@@ -431,7 +436,7 @@ fn mounting(
 // A changed page has no record any more, so the certificate from before is refused.
 #[test]
 fn changed_images_are_told(rt: HostRuntime) -> Result<(), Fail> {
-    let (image, certificate) = valid(&rt, rt.alloc())?;
+    let (image, certificate) = valid(rt.alloc())?;
     let mounting = mounting(&rt, rt.alloc(), &image, &certificate)?;
     assert!(rt; mounting > 100, "{mounting}");
     Ok(())

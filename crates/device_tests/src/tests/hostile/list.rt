@@ -1,12 +1,14 @@
 //! A plain list of sectors, and what is held against it.
 ghost use Rattle.ftl_device.specs.Device.{IsDevice};
 
-use super::calls::read;
+use device_fixtures::calls::read_over;
+use device_fixtures::hold::hold_same;
 use ftl_device::Device;
 use image_check::sector_in;
 use onfi_cycles::Nand;
 use page_layout::source::ImageSlice;
 use std::process::Abort;
+use std::test::Fail;
 
 pub const SECTORS: u32 = 32;
 
@@ -45,14 +47,21 @@ pub fn hold_sector(rt: &impl Abort, name: &str, sector: u32, is_held: bool) {
 }
 
 // Each read gives what the list has.
-pub fn hold_device<N: Nand>(rt: &impl Abort, device: &mut Device<N>, list: &List, name: &str)
+pub fn hold_device<N: Nand>(device: &mut Device<N>, list: &List, name: &str) -> Result<(), Fail>
     requires { IsDevice N.view.flash device.old }
     ensures { IsDevice N.view.flash device.new }
 {
     for sector in 0..SECTORS {
-        let found = read(rt, device, sector);
-        hold_sector(rt, name, sector, found == Ok(list.get(sector)));
+        let wanted = list.get(sector);
+        let found = read_over(device, sector, !wanted[0])?;
+        hold_same(
+            name,
+            "a sector",
+            &(sector, found),
+            &(sector, (Ok(()), wanted)),
+        )?;
     }
+    Ok(())
 }
 
 // The sector that the plain scan of an image gives.

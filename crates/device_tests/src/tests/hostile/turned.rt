@@ -1,11 +1,11 @@
 //! A bit of an image turned over, against the certificate from before, and mounted anew.
 ghost use Rattle.std.specs.Prelude.{◌≡◌};
 
-use super::calls::write;
 use super::list::scanned;
 use crate::tests::serving::refusal_of;
 use certificate::Certificate;
 use device_fixtures::bench::{fresh, mounted, small};
+use device_fixtures::calls::{Call, hold_call};
 use device_fixtures::dies::certified_image;
 use device_fixtures::hold::hold_same;
 use image_check::Refusal;
@@ -80,14 +80,15 @@ static ROWS: [Row; 6] = [
 ];
 
 // A formatted die on which sector 5 was written, and its certificate.
-fn written(
-    rt: &impl Abort,
-    alloc: Global,
-    geometry: &Geometry,
-) -> Result<(Vec<u8>, Certificate), Fail> {
+fn written(alloc: Global, geometry: &Geometry) -> Result<(Vec<u8>, Certificate), Fail> {
     let mut device = fresh(alloc, *geometry, 4)?;
-    assert!(rt; write(rt, &mut device, 5, &[0x11; 64]).is_ok());
-    certified_image(alloc, device, 4)
+    match hold_call(&mut device, "written", Call::Write(5, 0x11), Ok(())) {
+        Ok(()) => certified_image(alloc, device, 4),
+        Err(fail) => {
+            drop(device);
+            Err(fail)
+        }
+    }
 }
 
 // Whether a certificate gives a block this class.
@@ -153,6 +154,6 @@ fn hold_rows(
 #[test]
 fn a_turned_bit_is_refused(rt: HostRuntime) -> Result<(), Fail> {
     let geometry = small()?;
-    let (mut image, certificate) = written(&rt, rt.alloc(), &geometry)?;
+    let (mut image, certificate) = written(rt.alloc(), &geometry)?;
     hold_rows(&rt, rt.alloc(), &geometry, &mut image, &certificate)
 }
