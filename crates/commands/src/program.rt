@@ -64,8 +64,9 @@ fn obey<'a, F: FileStore, R: Read, W: Write>(
 ///
 /// Where several faults hold, the first of this order is told: words that are no command, numbers by
 /// the order of the words, the geometry, the cache's capacity, the files by the order of the words,
-/// the certificate's bytes, the image's length, and the command's own refusals. After each of these
-/// nothing was stored. A file is stored before the line that tells of it is printed.
+/// the certificate's bytes, the image's length (of `check`, which reads its image last, `GeometryDiffers`
+/// before it), and the command's own refusals. After each of these nothing was stored, but OUT where `serve`
+/// was stopped or `migrate` refused by the device. A file is stored before the line that tells of it is printed.
 ///
 /// (The words, the lines and the statuses are this project's.)
 pub fn run<F: FileStore, R: Read, W: Write, E: Write>(

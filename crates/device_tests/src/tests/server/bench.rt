@@ -1,7 +1,7 @@
 //! A die in memory that is formatted, mounted and served.
 ghost use Rattle.std.specs.Prelude.{◌≡◌, IfOk};
 
-use super::streams::{Narrow, Pieces};
+use super::narrow::Narrow;
 use crate::tests::serving::{Answer, serve_at};
 use device_fixtures::bench::{formatted_die, small};
 use device_fixtures::dies::image_of;
@@ -9,8 +9,10 @@ use nand_die::Die;
 use onfi_cycles::{Driver, Nand};
 use page_layout::geometry::Geometry;
 use std::alloc::Global;
+use std::io::ErrorKind;
 use std::process::Abort;
 use std::test::Fail;
+use test_images::Pieces;
 
 // A stream of requests in pieces, and what is to come of it.
 #[derive(Drop)]
@@ -39,12 +41,7 @@ pub fn served<N: Nand + Drop>(
     requires { (N.view.flash nand).geometry ≡ geometry.now }
     ensures { IfOk result (λ nand. (N.view.flash nand).geometry ≡ geometry.now) }
 {
-    let mut reader = Pieces {
-        left: input,
-        piece: 7,
-        failing: 0,
-        reads: 0,
-    };
+    let mut reader = Pieces::new(input, 7);
     match serve_at(alloc, nand, geometry, share, capacity, &mut reader, writer)? {
         (Ok(_), nand) => Ok(nand),
         (Err(_), _) => Err(Fail::new("not served")),
@@ -96,8 +93,8 @@ pub fn hold_row(rt: &impl Abort, alloc: Global, row: &Row, piece: usize) -> Resu
     let mut reader = Pieces {
         left: row.input,
         piece,
-        failing: row.failing_read,
-        reads: 0,
+        reads_left: row.failing_read.checked_sub(1),
+        fault: ErrorKind::Interrupted,
     };
     let mut writer = Narrow::new(alloc, piece, row.failing_write);
     let came = serve_new(alloc, &mut reader, &mut writer)?;

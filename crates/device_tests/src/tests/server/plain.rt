@@ -2,7 +2,7 @@
 ghost use Rattle.std.specs.Prelude.{◌≡◌, IfOk};
 
 use super::bench::served;
-use super::streams::Narrow;
+use super::narrow::Narrow;
 use device_fixtures::bench::{formatted_die, small};
 use onfi_cycles::Nand;
 use page_layout::geometry::Geometry;

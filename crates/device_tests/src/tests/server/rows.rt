@@ -1,12 +1,13 @@
 //! Streams of requests, and what is written for them.
 use super::bench::{Came, Row, hold_row, serve_new};
-use super::streams::{Narrow, Pieces};
+use super::narrow::Narrow;
 use block_server::Served;
 use promises::stream::End;
 use request_stream::ServeFault;
 use std::alloc::Global;
 use std::process::Abort;
 use std::test::Fail;
+use test_images::Pieces;
 
 // One request that is done, in pieces that are all taken.
 const ONE: Row = Row {
@@ -229,12 +230,7 @@ static WRITE: &[u8] = b"\
 // What came of so many bytes of the write.
 fn cut(alloc: Global, count: usize) -> Result<Came, Fail> {
     let (front, _) = WRITE.split_at(count.min(WRITE.len()));
-    let mut reader = Pieces {
-        left: front,
-        piece: 1000,
-        failing: 0,
-        reads: 0,
-    };
+    let mut reader = Pieces::new(front, 1000);
     let mut writer = Narrow::new(alloc, 1000, 0);
     serve_new(alloc, &mut reader, &mut writer)
 }

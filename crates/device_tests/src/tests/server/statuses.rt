@@ -4,7 +4,7 @@ ghost use Rattle.certificate.specs.Claim.{sizes_of};
 ghost use Rattle.ftl_device.specs.Device.{IsDevice};
 
 use super::bench::served;
-use super::streams::{Narrow, Pieces};
+use super::narrow::Narrow;
 use block_server::serve;
 use certificate::Certificate;
 use device_fixtures::bench::{checked, driver_on, formatted_die, mounted_with, small, start_on};
@@ -18,6 +18,7 @@ use request_stream::{Header, send_reply};
 use std::alloc::Global;
 use std::process::Abort;
 use std::test::Fail;
+use test_images::Pieces;
 
 // A write of sector 5.
 const WRITE: &[u8] = b"\
@@ -174,12 +175,7 @@ fn answers<N: Nand + Drop>(
 ) -> Result<Vec<u8>, Fail>
     requires { IsDevice N.view.flash device }
 {
-    let mut reader = Pieces {
-        left: input,
-        piece: 1000,
-        failing: 0,
-        reads: 0,
-    };
+    let mut reader = Pieces::new(input, 1000);
     let mut writer = Narrow::new(alloc, 1000, 0);
     let served = serve(alloc, &mut reader, &mut writer, &mut device);
     device.into_nand();

@@ -1,27 +1,6 @@
-//! A reader and a writer that take their bytes in pieces, and fail where they are told to.
+//! A writer that takes its bytes in pieces, and fails where it is told to.
 use std::alloc::Global;
-use std::io::{self, ErrorKind, Read, Write};
-
-// Gives its bytes in pieces of one length at most. Its read of this number, from 1, is interrupted, and it alone, so that
-// whoever tries it again is given the bytes; 0 for none.
-#[derive(Drop)]
-pub struct Pieces<'a> {
-    pub piece: usize,
-    pub left: &'a [u8],
-    pub failing: usize,
-    pub reads: usize,
-}
-
-impl Read for Pieces<'_> {
-    fn read(&mut self, buf: &mut [u8]) -> io::Result<usize> {
-        self.reads = self.reads.saturating_add(1);
-        if self.failing != 0 && self.reads == self.failing {
-            return Err(io::Error::from(ErrorKind::Interrupted));
-        }
-        let n = buf.len().min(self.piece);
-        self.left.read(&mut buf[..n])
-    }
-}
+use std::io::{self, ErrorKind, Write};
 
 // Takes its bytes in pieces of one length at most. Its write of this number, from 1, is interrupted, and it alone, so that
 // whoever tries it again has the bytes taken; 0 for none. It notes how many bytes it had as it was last told to hand them on.
