@@ -5,6 +5,7 @@ use Rattle.std.specs.Map.{lookup}
 use Rattle.std.proofs.lemmas.Bool.{eq-eqb}
 use Rattle.page_layout.specs.declared.geometry.Geometry.{Geometry}
 use Rattle.page_layout.specs.declared.record.Key.{Key}
+use Rattle.page_layout.specs.declared.record.Record.{Record}
 use Rattle.page_layout.specs.Page.{Image}
 use Rattle.page_layout.specs.Live.{live, keys, is_in_block}
 use Rattle.page_layout.specs.Array.{marks}
@@ -19,6 +20,7 @@ use Rattle.allocation.specs.State.{live_at, is_closed}
 use Rattle.collection.specs.State.{Ram}
 use Rattle.collection.specs.Safe.{IsRam, IsIdle, is_shut}
 use Rattle.collection.specs.Truth.{IsTrue}
+use Rattle.collection.specs.Live.{HoldsNoneIn, FindsFirst}
 use Rattle.collection.specs.declared.fault.EngineFault.{EngineFault}
 use Rattle.collection.specs.declared.fault.EngineFault.TheVariants.{Bus}
 use Rattle.collection.specs.Results.{IsSame, IsImageKept, LeavesNewest, Goes, Refused}
@@ -27,7 +29,7 @@ use Rattle.collection.proofs.Puts.{same_then, same_kept, refused_then}
 use Rattle.collection.proofs.Copies.{exact_at}
 use Rattle.collection.proofs.Dues.{erased_refreshes}
 use Rattle.collection.proofs.Costs.{err_as}
-use Rattle.collection.proofs.Lowest.{shut_closed}
+use Rattle.collection.proofs.Lowest.{copied_none, shut_closed}
 
 pub goes_but : (block : ℕ) (a b : Ram) → Goes a b → GoesBut block a b
 goes_but block a b g = record { geometry = g.geometry; next = g.next; shut = λ k w ne is. g.shut k w is }
@@ -55,6 +57,13 @@ zero_live g image block h = count_by_none (λ key. is_in_block g.pages block (ne
 
 pub live_none : (r : Ram) (image : Image) (block : ℕ) → IsRam r → IsTrue None r image → block < r.geometry.blocks → HoldsNone r.geometry.pages block image → live_at r.blocks block ≡ 0
 live_none r image block s w lt h = exact_at r image block s w lt ∙ zero_live r.geometry image block h
+
+-- a look that finds none, from a page on before which there is none: so none is counted
+pub none_counted : (r r1 : Ram) (x x1 : Image) (block first : ℕ) (live : Option (ℕ × Record)) (body : List ℕ) → IsRam r → IsTrue None r x → block < r.geometry.blocks → r1 ≡ r → x1 ≡ x
+    → HoldsNoneIn r.geometry.pages block 0 first x → FindsFirst r.geometry.pages block first body x live → live ≡ None → live_at r.blocks block ≡ 0
+none_counted r r1 x x1 block first live body s w lt same still none finds is =
+    let gone : HoldsNone r.geometry.pages block x1 = (copied_none r r1 x x1 block first live body w same still none finds is).1 in
+    live_none r x block s w lt (subst (λ (z : Image). HoldsNone r.geometry.pages block z) still gone)
 
 pub hold_leaves : (r : Ram) (x y : Image) (block : ℕ) → is_shut r.blocks block ≡ true → HoldsNone r.geometry.pages block x → LeavesNewest r x y → HoldsNone r.geometry.pages block y
 hold_leaves r x y block shut h l = record {

@@ -56,7 +56,7 @@ module _ (flushing : Bool) (block first : ℕ) (r b : Ram) (to : Option Pinned) 
   written_pinned c = record { put = record { failures = c.put.failures; put = c.put.put; next = c.put.next }; page = c.page; lowest = c.lowest; of_moved = c.of_moved; mapping = c.mapping; moved = c.moved; many = c.many; due = c.due; owed = c.owed }
 
   erased_pinned : HasErased block r b → HasErased block r (pinned_to to b)
-  erased_pinned c = record { failures = c.failures; counts = c.counts; blocks = c.blocks; geometry = c.geometry; directory = c.directory; mapping = c.mapping; next = c.next; fault = c.fault }
+  erased_pinned c = record { spent = c.spent; failures = c.failures; counts = c.counts; blocks = c.blocks; geometry = c.geometry; directory = c.directory; mapping = c.mapping; next = c.next; fault = c.fault }
 
   pub cost_pinned : (done : Progress) → StepCosts flushing block first r b (Ok done) → StepCosts flushing block first r (pinned_to to b) (Ok done)
   cost_pinned (step.Copied page) (low, high, c, f) = (low, high, copied_pinned c, f)

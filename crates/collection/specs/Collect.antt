@@ -129,8 +129,10 @@ IsReleased block old new = ((is_free new block ≡ true) × (wear_at new.table b
 
 -- ---- what a step costs, whatever the die does
 
--- the block was erased, or has failed; nothing else in memory has changed but that no translation page is marked
+-- the block, of which no page was counted as the newest of its key, was erased, or has failed; nothing else in memory has changed but that no translation page
+-- is marked
 pub record HasErased (block : ℕ) (old new : Ram) : Type 0 where
+  pub spent : live_at old.blocks block ≡ 0
   pub failures : ℕ
   pub counts : Erased failures (counts_of old.blocks) (counts_of new.blocks)
   pub blocks : (new.blocks ≡ erased block old.blocks) ⊎ (new.blocks ≡ without block old.blocks)

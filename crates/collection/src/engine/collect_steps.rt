@@ -141,6 +141,7 @@ impl<N: Nand> Engine<N> {
         ensures keys { KeepsKeys self.old.mapping self.new.mapping }
         ensures refreshes { flushing ≡ true → Refreshes (ram self.old) (ram self.new) }
         ensures none { result ≡ Ok None → ram self.new ≡ ram self.old }
+        ensures spent { result ≡ Ok None → live_at (ram self.old).blocks block ≡ 0 }
         ensures within { IfOk result (λ copied. ForSome copied (λ page. (first ≤ page) × (page < self.old.geometry.pages))) }
         ensures pin { (ram self.new).pin.block ≡ (ram self.old).pin.block }
         ensures unmoved { OnErr result (self.new.mapping ≡ self.old.mapping) }
@@ -164,8 +165,9 @@ impl<N: Nand> Engine<N> {
             return Ok(None);
         }
         let live = self.first_live(block, first)?;
+        // A page that is counted and not found was lost while the device runs: what is left of it is not erased.
         let Some((page, found)) = live else {
-            return Ok(None);
+            return Err(EngineFault::Damaged);
         };
         let row = self.geometry.row(block, page);
         self.bring_out(&found, row, flushing)?;
@@ -235,11 +237,13 @@ impl<N: Nand> Engine<N> {
         Ok(true)
     }
 
-    // Erases a closed block. Where the erase fails, the block is grown bad.
+    // Erases a closed block, of which no page is counted as the newest of its key, whatever the die did. Where the erase fails, the
+    // block is grown bad.
     fn erase_block(&mut self, block: u32) -> Result<(), EngineFault>
         requires safe { IsSafe N.view.flash self.old }
         requires block { block < self.old.geometry.blocks }
         requires closed { is_closed (ram self.old).blocks block ≡ true }
+        requires spent { live_at (ram self.old).blocks block ≡ 0 }
         ensures acts { EngineActs N.view self.old self.new result }
         ensures goes { GoesBut block (ram self.old) (ram self.new) }
         ensures erased { OnOk result (HasErased block (ram self.old) (ram self.new)) }

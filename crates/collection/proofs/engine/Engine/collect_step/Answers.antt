@@ -2,6 +2,7 @@ use Rattle.std.proofs.Common.{◌∙◌, inr, Ok, replicate, false, None, ap, sy
 use Rattle.std.proofs.lemmas.Result.{err_from_is_err_and}
 use Rattle.page_layout.specs.Change.{HoldsNone}
 use Rattle.page_layout.specs.Geometry.{translation_pages}
+use Rattle.allocation.specs.State.{live_at}
 use Rattle.collection.specs.State.{Ram, Pin}
 use Rattle.collection.specs.Safe.{ram, image_in}
 use Rattle.collection.specs.Truth.{IsTrue}
@@ -260,3 +261,9 @@ returns-in-Some g c = record {
   stops = λ honest w none_in ne. c.in_ok-copied.ensures.stops honest w (ok_not_bus _);
   cut = λ _ _ _ is. absurd (ok_not_bus _ is);
 }
+
+pub erase_block-requires-clause-spent : goal.erase_block-requires-clause-spent
+erase_block-requires-clause-spent g c =
+    let none = ap Ok (none_from c.in_ok-copied.copied c.in_default.not-Some) in
+    let back = ap (λ e. ram e) (c.in_ok-written.ensures.none (ap Ok c.if-written.false)).1 ∙ c.in_ok-copied.ensures.none none in
+    subst (λ (z : Ram). live_at z.blocks c.args.block ≡ 0) (sym back) (c.in_ok-copied.ensures.spent none)

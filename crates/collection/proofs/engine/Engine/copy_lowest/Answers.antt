@@ -1,18 +1,20 @@
-use Rattle.std.proofs.Common.{◌∙◌, ap, None, refl, sym, subst, ◌<◌}
+use Rattle.std.proofs.Common.{◌≡◌, ◌∙◌, ap, None, refl, sym, subst, ◌<◌}
 use Rattle.std.proofs.lemmas.Result.{err_from_is_err_and}
 use Rattle.collection.specs.Safe.{ram}
-use Rattle.collection.proofs.Acts.{acts_ok, acts_err, acts_then, looked, acts_same}
+use Rattle.collection.proofs.Acts.{acts_ok, acts_err, acts_end, acts_then, looked, acts_same}
 use Rattle.collection.proofs.Looks.{none_from, ok_not_bus}
-use Rattle.collection.proofs.Lowest.{same_here, holds_none, copied_none, copied_from}
+use Rattle.collection.proofs.Ends.{damaged_apart}
+use Rattle.collection.proofs.Lowest.{same_here, holds_none, copied_from}
 use Rattle.collection.proofs.Turns.{touched_from}
 use Rattle.promises.proofs.StopLemmas.{leaves_nothing}
 use Rattle.collection.proofs.Stops.{same_left, leaves_still, stops_looked, fault_not_bus, live_known}
 use Rattle.collection.proofs.Costs.{not_bus}
 use Rattle.collection.proofs.Cuts.{cut_read, cut_looking}
-use Rattle.collection.proofs.Steps.{err_same, at_start}
+use Rattle.collection.proofs.Steps.{err_same, at_start, none_counted}
 use Rattle.collection.proofs.Memory.{goes_same}
 use Rattle.collection.proofs.Copies.{keys_same, refreshes_same}
 use Rattle.collection.specs.State.{Ram}
+use Rattle.collection.specs.declared.fault.EngineFault.TheVariants.{Damaged, Bus}
 use Rattle.collection.specs.Collect.{HasBroughtOut, Refreshes, KeepsKeys}
 use Rattle.collection.specs.Results.{Goes}
 use Rattle.collection.proofs.Exits.{ok_not_err, err_not_ok, none_not_some, some_not_none, read_not_full, refused_bus, no_more, as_many, positive_count, reads_at, within_at, goes_looked, keys_looked, refreshes_looked, fault_looked, fault_from, room_left, brought_by, refused_from}
@@ -29,6 +31,7 @@ returns-then-live-eq0 g c = record {
   keys = keys_same _ _ refl;
   refreshes = λ _. refreshes_same _ _ refl refl;
   none = λ _. refl;
+  spent = λ _. sym c.live.ensures ∙ c.if-live-eq0.true;
   within = λ _ is. absurd (none_not_some _ is);
   pin = refl;
   unmoved = tt;
@@ -57,6 +60,7 @@ returns-in_err-live g c =
       keys = keys_looked (ram c.args.self.now) (ram c.first_live.new.self) c.first_live.ensures.looks.memory;
       refreshes = λ _. refreshes_looked _ _ c.first_live.ensures.looks.memory;
       none = λ is. absurd (err_not_ok _ refl is);
+      spent = λ is. absurd (err_not_ok _ refl is);
       within = tt;
       pin = ap (λ (z : Ram). z.pin.block) c.first_live.ensures.looks.memory;
       unmoved = ap (λ (z : Ram). z.mapping) c.first_live.ensures.looks.memory;
@@ -72,27 +76,30 @@ returns-in_err-live g c =
 
 pub returns-in_default : goal.returns-in_default
 returns-in_default g c = record {
-  acts = acts_ok _ _ _ _ (looked _ _ _ c.in_ok-live.ensures.looks);
+  acts = acts_end _ _ _ _ damaged_apart (looked _ _ _ c.in_ok-live.ensures.looks);
   goes = goes_looked _ _ c.first_live.ensures.looks.memory;
   reads = c.first_live.ensures.reads;
-  copied_reads = λ _ is. absurd (none_not_some _ is);
+  copied_reads = tt;
   erases = c.first_live.ensures.looks.only_reads.erases_are;
   keys = keys_looked (ram c.args.self.now) (ram c.first_live.new.self) c.first_live.ensures.looks.memory;
   refreshes = λ _. refreshes_looked _ _ c.first_live.ensures.looks.memory;
-  none = λ _. c.first_live.ensures.looks.memory;
-  within = λ _ is. absurd (none_not_some _ is);
+  none = λ is. absurd (err_not_ok _ refl is);
+  spent = λ is. absurd (err_not_ok _ refl is);
+  within = tt;
   pin = ap (λ (z : Ram). z.pin.block) c.first_live.ensures.looks.memory;
-  unmoved = tt;
-  owed = λ is. absurd (ok_not_err _ _ is);
-  unmarked = λ _. ap (λ (z : Ram). z.pin) c.first_live.ensures.looks.memory;
+  unmoved = ap (λ (z : Ram). z.mapping) c.first_live.ensures.looks.memory;
+  owed = λ is. absurd (read_not_full _ tt is);
+  unmarked = λ _. tt;
   touched = λ _ _. tt;
-  cost = λ _ is. absurd (none_not_some _ is);
-  brought = λ _ is. absurd (none_not_some _ is);
+  cost = fault_looked (ram c.args.self.now) (ram c.first_live.new.self) Damaged tt c.first_live.ensures.looks.memory;
+  brought = tt;
+  -- an honest die holds each page that is counted
   truth = λ honest w none.
       let still = ap (λ f. f.image) (c.in_ok-live.ensures.looks.same honest (ok_not_bus _)) in
-      copied_none (ram c.args.self.now) (ram c.first_live.new.self) _ _ c.args.block c.args.first c.in_ok-live.live _ w c.first_live.ensures.looks.memory still none (c.in_ok-live.ensures.truth honest w) (none_from c.in_ok-live.live c.in_default.not-Some);
+      absurd (c.if-live-eq0.false (c.live.ensures ∙ none_counted (ram c.args.self.now) (ram c.first_live.new.self) _ _ c.args.block c.args.first c.in_ok-live.live _
+      c.requires.safe.memory w c.requires.block c.first_live.ensures.looks.memory still none (c.in_ok-live.ensures.truth honest w) (none_from c.in_ok-live.live c.in_default.not-Some)));
   stops = λ honest w ne. leaves_still _ _ _ _ _ (c.in_ok-live.ensures.looks.same honest (ok_not_bus _)) (c.in_ok-live.ensures.looks.told honest (ok_not_bus _)) (same_left (ram c.args.self.now) _ _ c.requires.safe.memory w);
-  cut = λ _ _ is. absurd (ok_not_bus _ is);
+  cut = λ _ _ is. (let same : ◌≡◌ Damaged Bus = cc in absurd (damaged_apart same));
 }
 
 pub bring_out-requires-clause-key : goal.bring_out-requires-clause-key
@@ -111,6 +118,7 @@ returns-in_err-bring_out g c =
       keys = at_start (λ (z : Ram). KeepsKeys z.mapping c.bring_out.new.self.mapping) (ram c.args.self.now) (ram c.first_live.new.self) c.first_live.ensures.looks.memory c.bring_out.ensures.leaves.keys;
       refreshes = λ on. at_start (λ z. Refreshes z (ram c.bring_out.new.self)) (ram c.args.self.now) (ram c.first_live.new.self) c.first_live.ensures.looks.memory (c.bring_out.ensures.leaves.refreshes on);
       none = λ is. absurd (err_not_ok _ refl is);
+      spent = λ is. absurd (err_not_ok _ refl is);
       within = tt;
       pin = c.bring_out.ensures.leaves.pin ∙ ap (λ (z : Ram). z.pin.block) c.first_live.ensures.looks.memory;
       unmoved = c.in_err-bring_out.ensures.leaves.unmoved ∙ ap (λ (z : Ram). z.mapping) c.first_live.ensures.looks.memory;
@@ -150,6 +158,7 @@ returns g c = record {
   keys = at_start (λ (z : Ram). KeepsKeys z.mapping c.bring_out.new.self.mapping) (ram c.args.self.now) (ram c.first_live.new.self) c.first_live.ensures.looks.memory c.bring_out.ensures.leaves.keys;
   refreshes = λ on. at_start (λ z. Refreshes z (ram c.bring_out.new.self)) (ram c.args.self.now) (ram c.first_live.new.self) c.first_live.ensures.looks.memory (c.bring_out.ensures.leaves.refreshes on);
   none = λ is. absurd (some_not_none _ is);
+  spent = λ is. absurd (some_not_none _ is);
   within = λ page is.
       let within = c.in_ok-live.ensures.within (c.in-Some.page, c.in-Some.found) c.in-Some.is in
       within_at _ _ _ _ is within.0 within.1;
