@@ -11,5 +11,5 @@
 mod laws;
 mod stream;
 
-pub use laws::{account_laws, copy_laws, put_laws, room_laws};
+pub use laws::{account_laws, batch_laws, copy_laws, put_laws, room_laws};
 pub use stream::Stream;
