@@ -1,5 +1,6 @@
 //! Laws on what is said of an image, by the checker, a mount and a format: a refusal says one thing, and what is said to stay does. They
-//! stand in a crate on which `disk_server` alone rests, for what a loss of power leaves, so that a new one has little proved again.
+//! stand in a crate on which `crash_recovery`, `lost_sectors` and those of disks alone rest, for what a loss of power leaves, so that a
+//! new one has little proved again.
 #![tactic(auto)]
 
 ghost use Rattle.image_laws.specs.Refusals.{OnePartLaw, OnePairLaw, OneWordLaw, CertifiedLaw};
