@@ -11,7 +11,7 @@ use Rattle.image_check.specs.declared.refusal.Refusal.TheVariants as refusals
 use Rattle.image_check.specs.Refused.{Tables, Next, Fresh, IsRefusal, StopsCheck, IsUnformatted}
 use Rattle.image_check.specs.Survey.{IsFirstOutside}
 use Rattle.mount.specs.Mounted.{IsUnmountable, Refuses}
-use Rattle.mount.specs.MountLaws.{AcceptedLaw, IsShared, SharedLaw, TableTieLaw}
+use Rattle.mount.specs.MountLaws.{AcceptedLaw, IsShared, SharedLaw, SoundPageLaw, TableTieLaw}
 use Rattle.mount.proofs.RefuseLemmas.{holds}
 
 pub accepted : AcceptedLaw
@@ -40,6 +40,9 @@ tie g capacity image sound why = refuted why
     refuted (inl (inl source)) = cc
     refuted (inl (inr memory)) = cc
     refuted (inr h) = unformatted h.shows
+
+pub sound_page : SoundPageLaw
+sound_page marks row its here = record { row = row; its = its; here = here; of_key = refl }
 
 pub shared : SharedLaw
 shared g capacity image a b r in_range repeated why = by_reason why

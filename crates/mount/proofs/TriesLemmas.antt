@@ -1,5 +1,5 @@
 -- Writing the table pages into one block after another.
-use Rattle.std.proofs.Common.{◌≡◌, refl, ℕ, ◌+◌, ◌*◌, ◌^◌, ◌<◌, ◌≤◌, true, false, List, [], ◌∷◌, Result, Ok, Err, sym, ◌∙◌, ap, subst, arith}
+use Rattle.std.proofs.Common.{◌≡◌, refl, ℕ, ◌+◌, ◌*◌, ◌^◌, ◌<◌, ◌≤◌, Bool, true, false, List, [], ◌∷◌, Result, Ok, Err, sym, ◌∙◌, ap, subst, arith}
 use Rattle.std.proofs.Math.Nat.{mul-le-mul}
 use Rattle.page_layout.specs.declared.geometry.Geometry.{Geometry}
 use Rattle.page_layout.specs.Geometry.{row_count, table_pages}
@@ -11,9 +11,9 @@ use Rattle.bad_blocks.specs.declared.table.TableRow.{TableRow}
 use Rattle.bad_blocks.specs.Table.{good_count, is_good_at, retired}
 use Rattle.promises.specs.Log.{programs_in, erases_in}
 use Rattle.mount.specs.Log.{failures}
-use Rattle.mount.specs.Fresh.{is_used, IsFirstPass}
+use Rattle.mount.specs.Fresh.{is_used, IsFirstPass, IsFresh}
 use Rattle.mount.proofs.TableLemmas.{good_count-table}
-use Rattle.mount.specs.Formatted.{good_after, Answers, IsNotFresh, table_after, IsFormatted, IsTooFewGood, IsWriteFailed, Formats}
+use Rattle.mount.specs.Formatted.{good_after, Answers, IsNotFresh, IsScanned, table_after, IsFormatted, IsTooFewGood, IsWriteFailed, Formats}
 use Rattle.mount.specs.Attempt.{IsTrying, TriesBlock, WritesFormat, AnswersTableWrite}
 use Rattle.mount.specs.declared.format_fault.FormatFault.{FormatFault}
 use Rattle.mount.specs.declared.format_fault.FormatFault.TheVariants.{TooFewGood, Bus, OutOfMemory, WriteFailed, NotFresh}
@@ -102,6 +102,19 @@ used_at g needed old table row is enough first = record {
   enough = (let same : good_count table ≡ good_after g old.image [] = ap good_count is ∙ good_count-table g old.image [] in omega arith);
   first = first;
   untouched = refl;
+}
+
+-- ---- what was read before the first program
+
+pub enough_good : (g : Geometry) (needed : ℕ) (old : Flash) (table : List TableRow) → table ≡ table_after g old.image [] → needed ≤ good_count table → needed ≤ good_after g old.image []
+enough_good g needed old table is enough = (let same : good_count table ≡ good_after g old.image [] = ap good_count is ∙ good_count-table g old.image [] in omega (arith, same, enough))
+
+pub scanned_before : (g : Geometry) (needed : ℕ) (honest : Bool) (old : Flash) (table : List TableRow) (a b c : ℕ) → (a + row_count g < 2 ^ 64 → b ≡ a + row_count g) → c ≡ b → (honest ≡ true → IsFresh g old.image)
+    → (honest ≡ true → table ≡ table_after g old.image []) → needed ≤ good_count table → IsScanned g needed honest old a c
+scanned_before g needed honest old table a b c reads same fresh is enough = record {
+  read = λ fits. same ∙ reads fits;
+  fresh = fresh;
+  enough = λ h. enough_good g needed old table (is h) enough;
 }
 
 -- ---- what the loops of the writes know

@@ -158,6 +158,12 @@ Formats g needed old new (Err (NotFresh row)) = IsNotFresh g needed old new row
 abbrev pub AreThreeMore : ℕ → ℕ → Type 0
 AreThreeMore old new = old + 3 < 2 ^ 64 → old + 3 ≤ new
 
+-- What is true before a page is programmed: each page was read, where the count of reads can tell; and an honest die was fresh, with good blocks enough.
+pub record IsScanned (g : Geometry) (needed : ℕ) (honest : Bool) (old : Flash) (old_reads new_reads : ℕ) : Type 0 where
+  pub read : old_reads + row_count g < 2 ^ 64 → new_reads ≡ old_reads + row_count g
+  pub fresh : honest ≡ true → IsFresh g old.image
+  pub enough : honest ≡ true → needed ≤ good_after g old.image []
+
 -- What any die's format answers, honest or not: numbers in range, and no program before a refusal by the scan. Too few good
 -- blocks are found by the scan, or after a program failed in the last block that could be spared. Writing is given up after
 -- three programs at least.

@@ -43,6 +43,10 @@ pub record HasSoundPage (marks : List (Option Record)) (key : Key) : Type 0 wher
   pub here : get_or marks row None ≡ Some its
   pub of_key : key_of its ≡ key
 
+-- it asks no more of a key than that: the record of any row is one for its own
+abbrev pub SoundPageLaw : Type 0
+SoundPageLaw = (marks : List (Option Record)) (row : ℕ) (its : Record) → get_or marks row None ≡ Some its → HasSoundPage marks (key_of its)
+
 -- an image in which each table page has a sound page isn't refused as not formatted, even if those of some table page tie
 abbrev pub TableTieLaw : Type 0
 TableTieLaw = (g : Geometry) (capacity : ℕ) (image : Image) → ((u : ℕ) → u < table_pages g → HasSoundPage (marks image) (Table u)) → ¬ Refuses g capacity image refusals.NotFormatted

@@ -1,8 +1,8 @@
 //! Formatting a fresh die.
-ghost use Rattle.std.specs.Prelude.{◌≡◌, ◌<◌, ◌≤◌, ◌+◌, ◌*◌, ◌^◌, true, IsErrOf, OnOk};
+ghost use Rattle.std.specs.Prelude.{◌≡◌, ◌⊎◌, ◌<◌, ◌≤◌, ◌+◌, ◌*◌, ◌^◌, true, IsErrOf, OnOk};
 ghost use Rattle.page_layout.specs.Counter.{HasRisen};
 ghost use Rattle.page_layout.specs.Geometry.{need, need_at, row_count, table_pages};
-ghost use Rattle.mount.specs.Formatted.{Answers, Formats};
+ghost use Rattle.mount.specs.Formatted.{Answers, Formats, IsScanned};
 
 use crate::format_fault::FormatFault;
 use crate::format_survey::survey;
@@ -28,11 +28,14 @@ const _: () = prove!(size_of::<Class>() == 1);
 /// was programmed, or where the first or second failure leaves fewer. `NotFresh` names the lowest row
 /// that keeps the die from being fresh, and leaves it as it was. `WriteFailed` is the third failure,
 /// whatever is left. `OutOfMemory` leaves the die untouched. `Bus` comes only where a page read or a
-/// program failed, and then nothing is known of the die.
+/// program failed, and then nothing is known of the die. Whatever it answers, nothing is programmed
+/// before each page was read, nor on an honest die that isn't fresh or has too few good blocks.
 pub fn format<N: Nand>(alloc: Global, nand: &mut N, geometry: &Geometry) -> Result<u32, FormatFault>
     requires { (N.view.flash nand.old).geometry ≡ geometry.now }
     ensures formats { N.view.honest nand.old ≡ true → Formats geometry.now (need geometry.now) (N.view.flash nand.old) (N.view.flash nand.new) result }
     ensures answers { Answers geometry.now (need geometry.now) (N.view.programs nand.old) (N.view.programs nand.new) result }
+    ensures scanned { (N.view.programs nand.new ≡ N.view.programs nand.old)
+        ⊎ IsScanned geometry.now (need geometry.now) (N.view.honest nand.old) (N.view.flash nand.old) (N.view.reads nand.old) (N.view.reads nand.new) }
     ensures bus { IsErrOf result FormatFault.Bus → HasRisen (N.view.failed nand.old) (N.view.failed nand.new) }
     ensures memory { IsErrOf result FormatFault.OutOfMemory → nand.new ≡ nand.old }
 
@@ -61,6 +64,8 @@ pub fn format_at<N: Nand>(
     requires { (N.view.flash nand.old).geometry ≡ geometry.now }
     ensures formats { N.view.honest nand.old ≡ true → Formats geometry.now (need_at geometry.now share) (N.view.flash nand.old) (N.view.flash nand.new) result }
     ensures answers { Answers geometry.now (need_at geometry.now share) (N.view.programs nand.old) (N.view.programs nand.new) result }
+    ensures scanned { (N.view.programs nand.new ≡ N.view.programs nand.old)
+        ⊎ IsScanned geometry.now (need_at geometry.now share) (N.view.honest nand.old) (N.view.flash nand.old) (N.view.reads nand.old) (N.view.reads nand.new) }
     ensures bus { IsErrOf result FormatFault.Bus → HasRisen (N.view.failed nand.old) (N.view.failed nand.new) }
     ensures memory { IsErrOf result FormatFault.OutOfMemory → nand.new ≡ nand.old }
 

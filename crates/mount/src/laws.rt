@@ -1,6 +1,6 @@
 //! What a format may answer, and what the checker finds behind it.
 ghost use Rattle.mount.specs.FormatLaws.{FewLaw, FreshLaw, UsedLaw};
-ghost use Rattle.mount.specs.MountLaws.{AcceptedLaw, SharedLaw, TableTieLaw};
+ghost use Rattle.mount.specs.MountLaws.{AcceptedLaw, SharedLaw, SoundPageLaw, TableTieLaw};
 ghost use Rattle.mount.specs.Ready.{FormattedLaw};
 
 /// What the state of an honest die allows its format to answer: a die with too few unmarked blocks,
@@ -19,11 +19,13 @@ pub fn formatted_laws()
 {}
 
 /// What mounting means to those who use it: the checker accepts a certificate that was mounted, with as many stale sectors
-/// as `mount_counted` tells; an image is refused as not formatted only where some table page has no sound page; and one whose
+/// as `mount_counted` tells; an image is refused as not formatted only where some table page has no sound page, and any row's
+/// record is a sound page of its key; and one whose
 /// sound pages share a sequence is refused as `SequenceRepeated`, if all numbers are in range, also where the pages that tie
 /// are the only ones of a table page.
 pub fn mount_laws()
     ensures accepted { AcceptedLaw }
     ensures tie { TableTieLaw }
+    ensures sound { SoundPageLaw }
     ensures shared { SharedLaw }
 {}

@@ -1,5 +1,5 @@
 use Rattle.std.specs.Option.{IfSome}
-use Rattle.std.proofs.Common.{◌≡◌, ◌<◌, ◌∙◌, ℕ, List, Option, ap, subst, sym, refl, inl}
+use Rattle.std.proofs.Common.{◌≡◌, ◌<◌, ◌∙◌, ℕ, List, Option, ap, subst, sym, refl, inl, inr}
 use Rattle.std.proofs.lemmas.Result.{err_from_is_err_and}
 use Rattle.std.proofs.lemmas.List.{with_items_is}
 use Rattle.page_layout.specs.Flash.{Flash}
@@ -9,10 +9,10 @@ use Rattle.bad_blocks.specs.Table.{good_count, unworn}
 use Rattle.image_check.proofs.ReadLemmas.{reads_same, risen_over}
 use Rattle.mount.specs.Fresh.{is_used, IsFirst, IsFirstPass, IsFresh}
 use Rattle.mount.specs.Attempt.{IsTrying, WritesFormat}
-use Rattle.mount.specs.Formatted.{Answers, IsTooFewGood, IsNotFresh, Formats}
+use Rattle.mount.specs.Formatted.{Answers, IsTooFewGood, IsNotFresh, IsScanned, Formats}
 use Rattle.mount.proofs.CountLemmas.{le_self, no_less, ok_read, as_read, as_programmed}
 use Rattle.mount.proofs.FreshLemmas.{start}
-use Rattle.mount.proofs.TriesLemmas.{writes_formats, writes_answers, not_for_memory, few_at_once, used_at, bus_not_memory, few_not_bus, few_not_memory, memory_not_bus, fresh_not_bus, fresh_not_memory}
+use Rattle.mount.proofs.TriesLemmas.{writes_formats, writes_answers, not_for_memory, few_at_once, used_at, scanned_before, bus_not_memory, few_not_bus, few_not_memory, memory_not_bus, fresh_not_bus, fresh_not_memory}
 use Rattle.mount.proofs.SurveyLemmas.{unprogrammed}
 use Rattle.mount.proofs.format_die.format_at.Goals as goal
 
@@ -24,6 +24,7 @@ returns-in_err-classes g c =
     rw (p.1, p.2) (record {
       formats = λ honest. refl;
       answers = refl;
+      scanned = inl refl;
       bus = λ is. absurd (memory_not_bus is);
       memory = λ is. refl;
       reads = tt;
@@ -42,6 +43,7 @@ returns-in_err-body g c =
     rw (p.1, p.2) (record {
       formats = λ honest. refl;
       answers = refl;
+      scanned = inl refl;
       bus = λ is. absurd (memory_not_bus is);
       memory = λ is. refl;
       reads = tt;
@@ -60,6 +62,7 @@ returns-in_err-spare g c =
     rw (p.1, p.2) (record {
       formats = λ honest. refl;
       answers = refl;
+      scanned = inl refl;
       bus = λ is. absurd (memory_not_bus is);
       memory = λ is. refl;
       reads = tt;
@@ -78,20 +81,21 @@ pub returns-in_err-used : goal.returns-in_err-used
 returns-in_err-used g c =
     let p = err_from_is_err_and c.from_residual-in_err-used.result c.from_residual-in_err-used.ensures.1 in
     let made = c.in_err-used.ensures in
-    let reads = made.only_reads in
+    let seen = made.only_reads in
     rw (p.1, p.2, made.only) (record {
       formats = λ honest. tt;
       answers = tt;
+      scanned = inl seen.programs_are;
       bus = λ is. made.rose;
       memory = λ is. absurd (bus_not_memory is);
       reads = tt;
       most_reads = made.most_reads;
-      most_programs = unprogrammed _ _ _ reads.programs_are;
-      erases = reads.erases_are;
-      geometry = reads.geometry_is;
-      honest = reads.honest_is;
-      calm = reads.calm_is;
-      failed = reads.failed_is;
+      most_programs = unprogrammed _ _ _ seen.programs_are;
+      erases = seen.erases_are;
+      geometry = seen.geometry_is;
+      honest = seen.honest_is;
+      calm = seen.calm_is;
+      failed = seen.failed_is;
     })
 
 pub returns-in_err-require_good : goal.returns-in_err-require_good
@@ -110,6 +114,7 @@ returns-in_err-require_good g c =
           (subst (λ (n : ℕ). IsTooFewGood geometry n old (g.N.PageSource.view.flash c.survey.new.source) (good_count table) need) c.need_at-need.ensures
           (subst (λ (f : Flash). IsTooFewGood geometry need old f (good_count table) need) (sym (made.same h)) (few_at_once geometry need old table (ap unworn left ∙ made.table h) few.0)));
       answers = (rw (← c.need_at-need.ensures) few.0, c.need_at-need.ensures, inl reads.programs_are);
+      scanned = inl reads.programs_are;
       bus = λ is. absurd (few_not_bus _ _ is);
       memory = λ is. absurd (few_not_memory _ _ is);
       reads = tt;
@@ -138,6 +143,7 @@ returns-in-Some g c =
           subst (λ (n : ℕ). IsNotFresh geometry n old (g.N.PageSource.view.flash c.survey.new.source) row) c.need_at-need.ensures
           (subst (λ (f : Flash). IsNotFresh geometry need old f row) (sym (made.same h)) (used_at geometry need old (unworn c.deref.result.now) row (ap unworn left ∙ made.table h) c.in_ok-require_good.ensures.ok used));
       answers = (subst (λ found. IfSome found (λ row. row < row_count geometry)) c.in-Some.is made.row, reads.programs_are);
+      scanned = inl reads.programs_are;
       bus = λ is. absurd (fresh_not_bus _ is);
       memory = λ is. absurd (fresh_not_memory _ is);
       reads = tt;
@@ -176,6 +182,10 @@ returns g c =
           subst (λ (n : ℕ). Formats geometry n old new c.write_tables.result) c.need_at-need.ensures
           (subst (λ (f : Flash). Formats geometry need f new c.write_tables.result) same (writes_formats geometry need mid new c.write_tables.result writes));
       answers = subst (λ (n : ℕ). Answers geometry n (programs c.args.nand.now) (programs c.write_tables.new.nand) c.write_tables.result) c.need_at-need.ensures (writes_answers geometry need _ _ _ c.write_tables.result reads.programs_are wrote.answers);
+      scanned = inr (subst (λ (n : ℕ). IsScanned geometry n (g.N.PageSource.view.honest c.args.nand.now) old (g.N.PageSource.view.reads c.args.nand.now) (g.N.PageSource.view.reads c.write_tables.new.nand)) c.need_at-need.ensures
+          (scanned_before geometry need (g.N.PageSource.view.honest c.args.nand.now) old (unworn c.deref.result.now) _ _ _ made.reads wrote.only_writes.reads_were
+          (λ h. subst (λ (found : Option ℕ). IsFirst (is_used geometry old.image) 0 (row_count geometry) found) c.in-None.is (made.first h))
+          (λ h. ap unworn (c.deref.ensures.value ∙ with_items_is c.in_ok-classes.classes c.survey.new.classes (c.survey.auto.classes ∙ c.deref_mut.ensures.len)) ∙ made.table h) c.in_ok-require_good.ensures.ok));
       bus = λ is. risen_over _ _ _ reads.failed_is (wrote.rose is);
       memory = λ is. absurd (not_for_memory geometry need _ _ c.write_tables.result is wrote.answers);
       reads = ok_read c.write_tables.result _ _ _ _ made.reads wrote.only_writes.reads_were;
