@@ -1,20 +1,22 @@
 -- What is told of a die, and what is not.
-use Rattle.std.proofs.Common.{◌≡◌, ◌≢◌, ◌⊎◌, inl, inr, ℕ, zero, suc, ◌+◌, ◌<◌, ◌≤◌, ◌/◌, ◌%◌, Bool, true, false, List, [], ◌∷◌, get_or, slice_get, Option, Some, None, refl, sym, ap, ◌∙◌, subst, arith}
-use Rattle.std.specs.Prelude.{filter}
+use Rattle.std.proofs.Common.{◌≡◌, ◌≢◌, ◌⊎◌, inl, inr, ℕ, zero, suc, ◌+◌, ◌<◌, ◌≤◌, ◌/◌, ◌%◌, Bool, true, false, List, [], ◌∷◌, get_or, slice_get, length, Option, Some, None, refl, sym, ap, ◌∙◌, subst, arith}
+use Rattle.std.specs.Prelude.{filter, slice_set}
 use Rattle.std.specs.List.{range_with_len}
-use Rattle.std.proofs.lemmas.Bool.{cond-true, cond-false, eqb-true, false_from_ne_true, not-false}
+use Rattle.std.proofs.lemmas.Bool.{cases_eq, cases_lt, cond-true, cond-false, eqb-true, false_from_ne_true, not-false}
+use Rattle.std.proofs.lemmas.List.{get_or-set_same, get_or-set_other, get_or_past, length-set}
 use Rattle.page_layout.specs.declared.geometry.Geometry.{Geometry}
 use Rattle.page_layout.specs.declared.record.Record.{Record}
 use Rattle.page_layout.specs.declared.record.Key.{Key}
 use Rattle.page_layout.specs.declared.record.Key.TheVariants.{Sector, Translation}
 use Rattle.page_layout.specs.Geometry.{entries}
-use Rattle.page_layout.specs.Page.{Image, body_at}
+use Rattle.page_layout.specs.Page.{Image, Page, body_at}
+use Rattle.page_layout.specs.Sound.{record_of}
 use Rattle.page_layout.specs.Key.{key_of}
 use Rattle.page_layout.specs.Newest.{IsNewest, newest, sequence_at}
 use Rattle.page_layout.specs.OneArray.{AreBelow}
 use Rattle.page_layout.specs.Array.{marks, HasOneArray}
 use Rattle.page_layout.specs.Change.{IsUnsoundAt, Keeps, Writes}
-use Rattle.page_layout.proofs.ArrayLemmas.{body_same, mark-same}
+use Rattle.page_layout.proofs.ArrayLemmas.{body_same, mark-same, marks-set, slice_get-set_other}
 use Rattle.page_layout.proofs.KeyLemmas.{cases_key}
 use Rattle.page_layout.proofs.NewestLemmas.{Forgets, newest-record, newest-is, newest_forgets, sequence_at-key}
 use Rattle.translation_pages.specs.TranslationPage.{entry_at}
@@ -23,7 +25,7 @@ use Rattle.image_check.specs.Stale.{is_stale, same_row, stale_sectors}
 use Rattle.image_laws.specs.Power.{LosesPower, IsPageSince}
 use Rattle.image_laws.proofs.PowerLemmas.{since, stored_stays}
 use Rattle.lost_sectors.specs.Lost.{IsLost, is_lost, lost_sectors, newest_sequence}
-use Rattle.lost_sectors.specs.Laws.{Damages, DamageLaw, IsSince, KeepsSince, KeepsAfterLossLaw, NamesLaw, NamesOlder, NoneToldLaw, PageStays, SameLaw, StandsAsIn, StepLaw, UnsoundLaw}
+use Rattle.lost_sectors.specs.Laws.{Damages, DamageLaw, IsSince, KeepsSince, KeepsAfterLossLaw, NamesLaw, NamesOlder, NoneToldLaw, OneMoreDamageLaw, PageStays, SameLaw, StandsAsIn, StepLaw, UndamagedLaw, UnsoundLaw}
 use Rattle.lost_sectors.proofs.LostLemmas.{lost, newest_sequence_at, newest_sequence_is, newest_sequence_none, none_is, same_of}
 
 -- ---- a key stays, or is since
@@ -240,6 +242,32 @@ forgets old new damage = record {
   at = λ q. elim (damage.rows q) [
     | inl same ↦ inl (mark-same new old q same)
     | inr gone ↦ inr gone
+  ];
+}
+
+-- ---- damage, one page after another
+
+pub undamaged : UndamagedLaw
+undamaged image = record { size = refl; rows = λ q. inl refl }
+
+-- the row itself, and any other one
+left_unsound : (image : Image) (row : ℕ) (left : Page) → record_of left ≡ None → IsUnsoundAt (slice_set image row left) row
+left_unsound image row left none =
+    let now : marks (slice_set image row left) ≡ slice_set (marks image) row None = marks-set image row left ∙ ap (λ m. slice_set (marks image) row m) none in
+    ap (λ ms. get_or ms row None) now ∙ (elim (cases_lt row (length (marks image))) [
+      | inl l ↦ get_or-set_same (marks image) row None None l
+      | inr le ↦ get_or_past (slice_set (marks image) row None) row None (omega (arith, le, length-set (marks image) row None))
+    ])
+
+pub one_more_damage : OneMoreDamageLaw
+one_more_damage old new row left damage none = record {
+  size = length-set new row left ∙ damage.size;
+  rows = λ q. elim (cases_eq q row) [
+    | inl same ↦ inr (subst (λ k. IsUnsoundAt (slice_set new row left) k) (sym same) (left_unsound new row left none))
+    | inr other ↦ elim (damage.rows q) [
+      | inl same ↦ inl (slice_get-set_other new row q left other ∙ same)
+      | inr gone ↦ inr (ap (λ ms. get_or ms q None) (marks-set new row left) ∙ (get_or-set_other (marks new) row q (record_of left) None other ∙ gone))
+    ]
   ];
 }
 

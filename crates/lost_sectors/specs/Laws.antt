@@ -1,11 +1,12 @@
 -- What is told of a die, and what is not. The mark is the sequence that was next when all was flushed: no entry was stale then.
-use Rattle.std.specs.Prelude.{◌≡◌, ◌↔◌, ◌⊎◌, ℕ, ◌/◌, ◌<◌, ◌≤◌, true, false, List, [], length, slice_get, Some}
+use Rattle.std.specs.Prelude.{◌≡◌, ◌↔◌, ◌⊎◌, ℕ, ◌/◌, ◌<◌, ◌≤◌, true, false, List, [], length, slice_get, slice_set, Some, None}
 use Rattle.page_layout.specs.declared.geometry.Geometry.{Geometry}
 use Rattle.page_layout.specs.declared.record.Record.{Record}
 use Rattle.page_layout.specs.declared.record.Key.{Key}
 use Rattle.page_layout.specs.declared.record.Key.TheVariants.{Sector, Translation}
 use Rattle.page_layout.specs.Geometry.{entries}
-use Rattle.page_layout.specs.Page.{Image, body_at}
+use Rattle.page_layout.specs.Page.{Image, Page, body_at}
+use Rattle.page_layout.specs.Sound.{record_of}
 use Rattle.page_layout.specs.Key.{key_of}
 use Rattle.page_layout.specs.Newest.{newest}
 use Rattle.page_layout.specs.OneArray.{AreBelow}
@@ -60,6 +61,14 @@ NoneToldLaw = (g : Geometry) (mark : ℕ) (flushed new : Image) → stale_sector
 pub record Damages (old new : Image) : Type 0 where
   pub size : length new ≡ length old
   pub rows : (row : ℕ) → (slice_get new row ≡ slice_get old row) ⊎ IsUnsoundAt new row
+
+-- SO IT IS OF A DIE THAT NOTHING HIT
+abbrev pub UndamagedLaw : Type 0
+UndamagedLaw = (image : Image) → Damages image image
+
+-- AND AFTER ANY PAGE MORE IS LEFT WITHOUT A SOUND RECORD, as many as there are
+abbrev pub OneMoreDamageLaw : Type 0
+OneMoreDamageLaw = (old new : Image) (row : ℕ) (left : Page) → Damages old new → record_of left ≡ None → Damages old (slice_set new row left)
 
 -- a sector's page that its translation page names is older than that
 pub record NamesOlder (g : Geometry) (image : Image) (n : ℕ) : Type 0 where

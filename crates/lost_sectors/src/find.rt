@@ -1,5 +1,5 @@
 //! The sectors of a store that have lost a page.
-ghost use Rattle.std.specs.Prelude.{◌≡◌, ◌≢◌, ◌<◌, ◌≤◌, ◌+◌, ◌-◌, ◌*◌, ℕ, min, true, false, length, IfOk, OnOk, OnErr, IsErrOf, Some};
+ghost use Rattle.std.specs.Prelude.{◌≡◌, ◌≢◌, ◌⊎◌, ◌<◌, ◌≤◌, ◌+◌, ◌-◌, ◌*◌, ℕ, min, true, false, length, IfOk, OnOk, OnErr, IsErrOf, Some};
 ghost use Rattle.page_layout.specs.declared.record.Key.{Key};
 ghost use Rattle.page_layout.specs.Array.{marks};
 ghost use Rattle.page_layout.specs.Counter.{HasRisen};
@@ -249,8 +249,8 @@ fn list_pages<S: Store>(
 
 /// Lists the sectors of a store that have lost a page, beside those that are listed already: its translation page, of a sequence below `mark`, names a row in which the sector's newest
 /// page does not stand, and that one is older than the translation page, or there is none. The certificate is that of the store's pages, and `lost` says of each sector whether it is listed.
-/// **Of an honest store just these are added.** Each newest translation page is loaded once, and of each sector whose newest page stands elsewhere that page, and no other. With the
-/// certificate of another geometry, or a list of another length, nothing is done.
+/// **Of an honest store just these are added.** Each newest translation page is loaded once, and of one below `mark` the newest page of each sector for which it names another
+/// row, and no other. With the certificate of another geometry, or a list of another length, nothing is done.
 ///
 /// # Errors
 ///
@@ -269,6 +269,8 @@ pub fn find_lost<S: Store>(
     ensures looks { OnlyLooks S.held S.honest store.old store.new }
     ensures settled { OnOk result (S.failed store.new ≡ S.failed store.old) }
     ensures rose { IsErrOf result LostFault.Store → HasRisen (S.failed store.old) (S.failed store.new) }
+    ensures untouched { (certificate.now.sizes ≢ sizes_of (S.held store.old).geometry) ⊎ (length lost.old ≢ (S.held store.old).geometry.sectors) →
+        (store.new ≡ store.old) × (lost.new ≡ lost.old) }
     ensures unasked { IsErrOf result LostFault.OutOfMemory → (store.new ≡ store.old) × (lost.new ≡ lost.old) }
 {
     let geometry = store.geometry();

@@ -1,5 +1,5 @@
 use Rattle.lost_sectors.proofs.LostLemmas.{lost}
-use Rattle.lost_sectors.proofs.LawLemmas.{damage, names, unsound}
+use Rattle.lost_sectors.proofs.LawLemmas.{damage, names, one_more_damage, undamaged, unsound}
 use Rattle.lost_sectors.proofs.laws.told_laws.Goals as goal
 
 pub returns-clause-lost : goal.returns-clause-lost
@@ -13,3 +13,9 @@ returns-clause-damage c = damage
 
 pub returns-clause-names : goal.returns-clause-names
 returns-clause-names c = names
+
+pub returns-clause-undamaged : goal.returns-clause-undamaged
+returns-clause-undamaged c = undamaged
+
+pub returns-clause-more : goal.returns-clause-more
+returns-clause-more c = one_more_damage
