@@ -20,8 +20,8 @@ use Rattle.onfi_cycles.specs.Cycles.{page_of}
 use Rattle.nand_die.specs.declared.fault.Mark.{Mark}
 use Rattle.nand_die.specs.declared.change.NextPage.{NextPage}
 use Rattle.nand_die.specs.NextPages.{next_page_of}
-use Rattle.nand_die.specs.Made.{IsMisnamed, AreNames, IsFirstMisnamed, is_named, first_next_page, first_next_pages, barred_next_page, marked_row, with_mark}
-use Rattle.nand_die.specs.Made.{new_page, new_image}
+use Rattle.nand_die.specs.Made.{IsMisnamed, AreNames, IsFirstMisnamed, is_named, first_next_page, first_next_pages, barred_next_page, with_barred, all_barred, marked_row, with_mark}
+use Rattle.nand_die.specs.Made.{IsRefusedName, NamedAll, NamedUpTo, new_page, new_image}
 use Rattle.nand_die.proofs.PagesLemmas.{page_written, page_read, part_length, blank_image}
 
 -- ---- lists made from a function of their places
@@ -210,4 +210,59 @@ named_stop g next names k block n next_pages named lt is e why = record {
     ];
   };
   first = λ before other lt_k bad. named.right before other lt_k bad;
+}
+
+-- ---- names, of any next pages
+
+barred_more : (ts : List NextState) (names : List ℕ) (block : ℕ) → all_barred ts (names ++ block ∷ []) ≡ with_barred (all_barred ts names) block
+barred_more ts [] block = refl
+barred_more ts (name ∷ names) block = barred_more (with_barred ts name) names block
+
+-- the first k names were taken: none of them is refused, and these are the next pages
+pub record Barred (old : List NextState) (names : List ℕ) (k : ℕ) (new : List NextState) : Type 0 where
+  pub left : new ≡ all_barred old (take k names)
+  pub right : (at other : ℕ) → at < k → ¬ IsRefusedName old names at other
+
+pub barred_none : (old : List NextState) (names : List ℕ) → Barred old names 0 old
+barred_none old names = record { left = refl; right = λ at other lt. absurd (omega (arith, lt)) }
+
+pub barred_then : (old : List NextState) (names : List ℕ) (k block n : ℕ) (now new : List NextState) → Barred old names k now → k < length names → block ≡ get_or names k block → n ≡ length old
+    → block < n → (get_or now block no_next_page).barred ≡ false → new ≡ with_barred now block → Barred old names (k + 1) new
+barred_then old names k block n now new before lt is long within free so =
+    let more : take (k + 1) names ≡ take k names ++ block ∷ [] = take_more names k block lt ∙ ap (λ b. take k names ++ b ∷ []) (sym is) in
+    record {
+      left = so ∙ (ap (λ ts. with_barred ts block) before.left ∙ (sym (barred_more old (take k names) block) ∙ ap (all_barred old) (sym more)));
+      right = λ at other within_k bad. elim (cases_lt at k) [
+        | inl earlier ↦ before.right at other earlier bad
+        | inr here ↦
+            let at_k : at ≡ k = omega (arith, within_k, here) in
+            let same : block ≡ other = is ∙ same_Some (get_or names k block) other (sym (slice_get-get_or names k block lt) ∙ (ap (slice_get names) (sym at_k) ∙ bad.here)) in
+            elim bad.wrong [
+              | inl past ↦ absurd (omega (arith, past, same, long, within))
+              | inr barred ↦ both_ways (get_or now block no_next_page).barred free
+                  (ap (λ ts. (get_or ts block no_next_page).barred) before.left ∙ (ap (λ j. (get_or (all_barred old (take j names)) block no_next_page).barred) (sym at_k)
+                  ∙ (ap (λ b. (get_or (all_barred old (take at names)) b no_next_page).barred) same ∙ barred)))
+            ]
+      ];
+    }
+
+pub barred_all : (old : List NextState) (names : List ℕ) (k : ℕ) (new : List NextState) → Barred old names k new → length names ≤ k → take k names ≡ names → NamedAll old new names
+barred_all old names k new taken le whole = record {
+  none = λ at other bad. taken.right at other (omega (arith, le, slice_get_within names at other bad.here)) bad;
+  left = taken.left ∙ ap (all_barred old) whole;
+}
+
+pub barred_stop : (old : List NextState) (names : List ℕ) (k block n : ℕ) (now left : List NextState) → Barred old names k now → k < length names → block ≡ get_or names k block → n ≡ length old
+    → (n ≤ block) ⊎ ((get_or now block no_next_page).barred ≡ true) → left ≡ now → NamedUpTo old left names block
+barred_stop old names k block n now left taken lt is long why same = record {
+  at = k;
+  refused = record {
+    here = slice_get-get_or names k block lt ∙ ap Some (sym is);
+    wrong = elim why [
+      | inl past ↦ inl (omega (arith, past, long))
+      | inr barred ↦ inr (ap (λ ts. (get_or ts block no_next_page).barred) (sym taken.left) ∙ barred)
+    ];
+  };
+  first = taken.right;
+  left = same ∙ taken.left;
 }

@@ -1,5 +1,5 @@
 -- Dies as they are made: with factory marks, or of an image and a list of bad blocks.
-use Rattle.std.specs.Prelude.{◌≡◌, ◌≢◌, ◌⊎◌, ℕ, ◌+◌, ◌-◌, ◌*◌, ◌<◌, ◌≤◌, ◌==◌, Bool, true, false, List, length, map, slice_get, slice_set, get_or}
+use Rattle.std.specs.Prelude.{◌≡◌, ◌≢◌, ◌⊎◌, ℕ, ◌+◌, ◌-◌, ◌*◌, ◌<◌, ◌≤◌, ◌==◌, Bool, true, false, List, [], ◌∷◌, length, map, slice_get, slice_set, get_or}
 use Rattle.std.specs.Prelude.{take, Contains, Some, if◌then◌else◌}
 use Rattle.std.specs.List.{range_with_len, list_any}
 use Rattle.page_layout.specs.declared.geometry.Geometry.{Geometry}
@@ -9,7 +9,7 @@ use Rattle.page_layout.specs.Raw.{raw_image}
 use Rattle.page_layout.specs.Sound.{is_erased_page}
 use Rattle.page_layout.specs.Block.{block_pages, past_last}
 use Rattle.page_layout.specs.Change.{erased_page}
-use Rattle.page_layout.specs.Flash.{Flash, NextState, no_page}
+use Rattle.page_layout.specs.Flash.{Flash, NextState, no_page, no_next_page}
 use Rattle.nand_die.specs.declared.fault.Mark.{Mark}
 use Rattle.nand_die.specs.declared.fault.DieFault.{DieFault}
 use Rattle.nand_die.specs.declared.fault.DieFault.TheVariants.{WrongLength, BadMark, OutOfMemory, SoundFaultPage}
@@ -55,6 +55,34 @@ barred_next_page t = record { next = t.next; barred = true; programs = t.program
 -- these are the next pages, and the blocks of the list are bad
 abbrev pub first_next_pages : Geometry → (ℕ → ℕ) → List ℕ → List NextState
 first_next_pages g next names = map (λ block. first_next_page (next block) (is_named names block)) (range_with_len 0 g.blocks)
+
+-- ---- blocks named bad, of any next pages
+
+-- the next pages once one more block is bad
+abbrev pub with_barred : List NextState → ℕ → List NextState
+with_barred next_pages block = slice_set next_pages block (barred_next_page (get_or next_pages block no_next_page))
+
+-- the next pages once the blocks of the list were named, one after another
+abbrev pub all_barred : List NextState → List ℕ → List NextState
+all_barred next_pages [] = next_pages
+all_barred next_pages (block ∷ names) = all_barred (with_barred next_pages block) names
+
+-- the block of this place in the list lies past the last, or is bad once those before it were named
+pub record IsRefusedName (next_pages : List NextState) (names : List ℕ) (at block : ℕ) : Type 0 where
+  pub here : slice_get names at ≡ Some block
+  pub wrong : (length next_pages ≤ block) ⊎ ((get_or (all_barred next_pages (take at names)) block no_next_page).barred ≡ true)
+
+-- each block of the list was named bad, and nothing else changed
+pub record NamedAll (old new : List NextState) (names : List ℕ) : Type 0 where
+  pub none : (at block : ℕ) → ¬ IsRefusedName old names at block
+  pub left : new ≡ all_barred old names
+
+-- the block of one place was refused, the first that is: those before it were named bad, and nothing else changed
+pub record NamedUpTo (old new : List NextState) (names : List ℕ) (block : ℕ) : Type 0 where
+  pub at : ℕ
+  pub refused : IsRefusedName old names at block
+  pub first : (before other : ℕ) → before < at → ¬ IsRefusedName old names before other
+  pub left : new ≡ all_barred old (take at names)
 
 -- ---- a new die
 

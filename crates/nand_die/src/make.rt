@@ -4,7 +4,7 @@ ghost use Rattle.page_layout.specs.Geometry.{row_count, page_bytes};
 ghost use Rattle.page_layout.specs.Raw.{raw_image};
 ghost use Rattle.page_layout.specs.Flash.{no_next_page};
 ghost use Rattle.nand_die.specs.NextPages.{next_page_of};
-ghost use Rattle.nand_die.specs.Made.{AreNames, IsFirstMisnamed, NamesFirst, RefusesMarks, RefusesImage, first_next_page, first_next_pages, barred_next_page, marked_blocks, new_image, next_in};
+ghost use Rattle.nand_die.specs.Made.{AreNames, IsFirstMisnamed, NamesFirst, NamedAll, NamedUpTo, RefusesMarks, RefusesImage, first_next_page, first_next_pages, barred_next_page, marked_blocks, new_image, next_in};
 
 use crate::array::{mark_page, page_slice};
 use crate::change::NextPage;
@@ -91,6 +91,7 @@ fn bar(next_pages: &mut [NextPage], block: u32) -> bool
     ensures named { result ≡ true → (block < length next_pages.old) × ((get_or (map next_page_of next_pages.old) block no_next_page).barred ≡ false)
         × (map next_page_of next_pages.new ≡ slice_set (map next_page_of next_pages.old) block (barred_next_page (get_or (map next_page_of next_pages.old) block no_next_page))) }
     ensures misnamed { result ≡ false → (length next_pages.old ≤ block) ⊎ ((get_or (map next_page_of next_pages.old) block no_next_page).barred ≡ true) }
+    ensures same { result ≡ false → next_pages.new ≡ next_pages.old }
 {
     if block as usize >= next_pages.len() {
         return false;
@@ -103,13 +104,15 @@ fn bar(next_pages: &mut [NextPage], block: u32) -> bool
     true
 }
 
-/// Names blocks bad.
+/// Names blocks bad, of any next pages, and changes nothing else.
 ///
 /// # Errors
 ///
-/// The first block that lies past the die or was named before. Those before it are named bad then.
+/// The first block that lies past the die or is bad already. Those before it are named bad then.
 pub fn bar_all(next_pages: &mut [NextPage], geometry: &Geometry, bad: &[u32]) -> Result<(), u32>
     requires blocks { length next_pages.old ≡ geometry.now.blocks }
+    ensures all { OnOk result (NamedAll (map next_page_of next_pages.old) (map next_page_of next_pages.new) bad.now) }
+    ensures stops { IfErr result (NamedUpTo (map next_page_of next_pages.old) (map next_page_of next_pages.new) bad.now) }
     ensures next_pages { OnOk result ((next : ℕ → ℕ) → map next_page_of next_pages.old ≡ first_next_pages geometry.now next [] → map next_page_of next_pages.new ≡ first_next_pages geometry.now next bad.now) }
     ensures named { OnOk result ((next : ℕ → ℕ) → map next_page_of next_pages.old ≡ first_next_pages geometry.now next [] → AreNames geometry.now bad.now) }
     ensures misnamed { IfErr result (λ block. (next : ℕ → ℕ) → map next_page_of next_pages.old ≡ first_next_pages geometry.now next [] → IsFirstMisnamed geometry.now bad.now block) }
