@@ -1,4 +1,5 @@
 mod CallLemmas
 mod EndLemmas
 mod LineLemmas
+mod LinkLemmas
 mod RestLemmas

@@ -1,4 +1,5 @@
 pub mod CallWords
 pub mod Ends
 pub mod Lines
+pub mod Links
 pub mod RestWords

@@ -1,10 +1,11 @@
-//! Laws on a stream of requests: what is said where it ends or fails; on a line of which a part was written; and on the calls and rests of a disk for requests of NBD. They
+//! Laws on a stream of requests: what is said where it ends or fails; on a line of which a part was written; on the frames of a bus over two streams; and on the calls and rests of a disk for requests of NBD. They
 //! stand in no crate that others rest on, so that a new one has nothing proved again.
 #![tactic(auto)]
 
 ghost use Rattle.frame_laws.specs.CallWords.{DiskAskedLaw, CallWordLaw};
 ghost use Rattle.frame_laws.specs.Ends.{AtEndLaw, NoHeaderLaw, FailedInRequestLaw};
 ghost use Rattle.frame_laws.specs.Lines.{PartLaw, SentLineLaw};
+ghost use Rattle.frame_laws.specs.Links.{ExchangeLaw};
 ghost use Rattle.frame_laws.specs.RestWords.{RestWordLaw};
 
 use nbd_stream::Disk;
@@ -21,6 +22,12 @@ pub fn end_laws()
 pub fn line_laws()
     ensures part { PartLaw }
     ensures sent { SentLineLaw }
+{}
+
+/// Of a reader and a writer that tell their bytes: a frame and its answer went whole, and nothing was counted; or one was cut short, which is answered 6,
+/// and just one failure more was counted. (This project.)
+pub fn exchange_laws()
+    ensures { ExchangeLaw }
 {}
 
 /// A rest that is told of a disk between two requests of NBD came after a change, and is what the disk itself says of it; and where none is told the

@@ -6,7 +6,7 @@ use Rattle.onfi_cycles.specs.Cycles.{Cycle}
 use Rattle.onfi_cycles.specs.Sent as chain
 use Rattle.onfi_cycles.specs.Spelling.{done}
 use Rattle.stream_bus.specs.Behind.{Behind}
-use Rattle.stream_bus.specs.Carried.{Hands, SentAsFrame}
+use Rattle.stream_bus.specs.Carried.{CalledBehind, Hands, SentAsFrame}
 use Rattle.stream_bus.specs.declared.near.Near.{Near}
 
 -- what was asked of one thing was asked of what is behind it
@@ -24,9 +24,9 @@ handed called old new cycle answer out its = subst (λ a. called old.bus cycle a
 
 -- the frames of a bus are those of its link
 pub framed : {L : Type 0} (called : L → List ℕ → List ℕ → ℕ → List ℕ → L → Type 0) (old new : Behind L) (cycles : List Cycle) (out : List ℕ)
-    → chain.Sent (λ (o : Behind L) cycle answer out (n : Behind L). SentAsFrame called o.link cycle answer out n.link) old cycles out new → chain.Sent (SentAsFrame called) old.link cycles out new.link
+    → chain.Sent (CalledBehind called) old cycles out new → chain.Sent (SentAsFrame called) old.link cycles out new.link
 framed {L} called old new cycles out sent =
-    chain_of (λ (b : Behind L). b.link) (λ (o : Behind L) cycle answer out (n : Behind L). SentAsFrame called o.link cycle answer out n.link) (SentAsFrame called) (λ old new cycle answer out one. one) old new cycles out sent
+    chain_of (λ (b : Behind L). b.link) (CalledBehind called) (SentAsFrame called) (λ old new cycle answer out one. one.sent) old new cycles out sent
 
 -- those of a link to a bus at hand are the bus's cycles
 pub all_handed : {B : Type 0} (called : B → Cycle → Result (Unit {0}) BusFault → List ℕ → B → Type 0) (old new : Near B) (cycles : List Cycle) (out : List ℕ)

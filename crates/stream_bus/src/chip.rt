@@ -38,7 +38,7 @@ impl<L: ChipLink> ChipBus for StreamBus<L> {
 
     ghost keeps = { λ b. L.keeps b.link };
 
-    ghost steady = { λ old new cycle answer out one. L.steady old.link new.link cycle answer out one };
+    ghost steady = { λ old new cycle answer out one. L.steady old.link new.link cycle answer out one.sent };
 
     ghost read = { λ old new row put kept within sized sent. L.read old.link new.link row put kept within sized (framed L.called old new _ _ sent) };
 
