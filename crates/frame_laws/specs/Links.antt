@@ -1,7 +1,8 @@
 -- What is said of an exchange of a frame of a bus over a reader and a writer that tell their bytes.
-use Rattle.std.specs.Prelude.{◌≡◌, ◌≢◌, ◌≤◌, ◌⊎◌, ℕ, List, ◌∷◌, ◌++◌, length, Option, Some}
+use Rattle.std.specs.Prelude.{◌≡◌, ◌≢◌, ◌≤◌, ◌⊎◌, ℕ, List, [], ◌∷◌, ◌++◌, length, Option, Some}
 use Rattle.page_layout.specs.Counter.{counted}
-use Rattle.stream_bus.specs.Streamed.{Streamed}
+use Rattle.nbd_stream.specs.Streams.{EndsBy}
+use Rattle.stream_bus.specs.Streamed.{StreamWords, Streamed}
 
 -- all of the frame was written, and just its answer was read: a status, and behind a 0 the bytes that came out
 pub record GoesWhole (written left : List ℕ) (written' left' : Option (List ℕ)) (frame out : List ℕ) (status : ℕ) : Type 0 where
@@ -23,9 +24,13 @@ pub record GoesShort (written left : List ℕ) (written' left' : Option (List �
   pub read : left ≡ part ++ rest
   pub less : length part ≤ length out
 
--- AN EXCHANGE WENT WHOLE, and the count is as it was; or it was cut short, which is answered 6, and just one more is counted
-abbrev pub ExchangeLaw : Type 0
-ExchangeLaw = (written left head bytes out : List ℕ) (written' left' : Option (List ℕ)) (failed failed' status : ℕ)
-    → Streamed (Some written) written' (Some left) left' failed failed' head bytes status out
-    → (GoesWhole written left written' left' (head ++ bytes) out status × (failed' ≡ failed))
-    ⊎ (GoesShort written left written' left' (head ++ bytes) out × (status ≡ 6) × (failed' ≡ counted failed))
+-- why: the writer's or the reader's last call failed, or the reader has ended
+abbrev pub HasBroken : {W R : Type 0} → StreamWords W R → W → R → Type 0
+HasBroken t writer reader = EndsBy t.write_fails writer ⊎ EndsBy t.read_fails reader ⊎ (t.left reader ≡ Some [])
+
+-- AN EXCHANGE WENT WHOLE, its frame handed on, and the count is as it was; or it was cut short for a cause, which is answered 6, and just one more is counted
+abbrev pub ExchangeLaw : {W R : Type 0} → StreamWords W R → Type 0
+ExchangeLaw {W} {R} t = (writer writer' : W) (reader reader' : R) (written left head bytes out : List ℕ) (failed failed' status : ℕ)
+    → t.written writer ≡ Some written → t.left reader ≡ Some left → Streamed t writer writer' reader reader' failed failed' head bytes status out
+    → (GoesWhole written left (t.written writer') (t.left reader') (head ++ bytes) out status × EndsBy t.hands writer' × (failed' ≡ failed))
+    ⊎ (GoesShort written left (t.written writer') (t.left reader') (head ++ bytes) out × HasBroken t writer' reader' × (status ≡ 6) × (failed' ≡ counted failed))

@@ -8,7 +8,7 @@ ghost use Rattle.frame_laws.specs.Lines.{PartLaw, SentLineLaw};
 ghost use Rattle.frame_laws.specs.Links.{ExchangeLaw};
 ghost use Rattle.frame_laws.specs.RestWords.{RestWordLaw};
 
-use nbd_stream::Disk;
+use nbd_stream::{Disk, Incoming, Outgoing};
 
 /// A stream that ends at the end of a request or inside one has ended; a bad frame is twelve bytes that are no header; and a read that failed
 /// came inside a request. (This project.)
@@ -24,10 +24,10 @@ pub fn line_laws()
     ensures sent { SentLineLaw }
 {}
 
-/// Of a reader and a writer that tell their bytes: a frame and its answer went whole, and nothing was counted; or one was cut short, which is answered 6,
-/// and just one failure more was counted. (This project.)
-pub fn exchange_laws()
-    ensures { ExchangeLaw }
+/// Of a reader and a writer that tell their bytes: a frame and its answer went whole, and nothing was counted; or one was cut short: a call of them failed, or
+/// the reader ended; that is answered 6, and just one failure more was counted. (This project.)
+pub fn exchange_laws<R: Incoming, W: Outgoing>()
+    ensures { ExchangeLaw (record { written = W.contents; left = R.remaining; write_fails = W.fails; read_fails = R.fails; hands = W.hands }) }
 {}
 
 /// A rest that is told of a disk between two requests of NBD came after a change, and is what the disk itself says of it; and where none is told the
