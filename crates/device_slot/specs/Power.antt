@@ -1,9 +1,11 @@
 -- WHY POWER BROUGHT NO DEVICE, and the die that comes back.
-use Rattle.std.specs.Prelude.{◌≡◌, ◌≢◌, ◌↔◌, ◌<◌, ◌≤◌, ℕ, max, true}
+use Rattle.std.specs.Prelude.{◌≡◌, ◌≢◌, ◌↔◌, ◌<◌, ◌≤◌, ◌+◌, ◌*◌, ℕ, max, true}
 use Rattle.page_layout.specs.View.{View}
 use Rattle.page_layout.specs.declared.geometry.Geometry.{Geometry}
+use Rattle.page_layout.specs.Geometry.{row_count, translation_pages}
 use Rattle.page_layout.specs.Array.{array_of}
 use Rattle.page_layout.specs.Counter.{HasRisen}
+use Rattle.page_layout.specs.OnlyReads.{OnlyReads}
 use Rattle.page_layout.specs.Page.{Image}
 use Rattle.certificate.specs.Claim.{Claim}
 use Rattle.image_check.specs.Agrees.{Agrees, IsAsked}
@@ -27,6 +29,15 @@ unpowered_nand (Start nand) = nand
 unpowered_nand (Flush fault nand) = nand
 
 -- ---- after one look at the pages
+
+-- a look reads each page at most once, and the newest translation pages twice
+abbrev pub look_reads : Geometry → ℕ
+look_reads g = row_count g + translation_pages g
+
+-- AT MOST SO MANY LOOKS AT A DIE: it was asked for reads alone
+pub record HasLooked {N : Type 0} (view : View N) (g : Geometry) (many : ℕ) (old new : N) : Type 0 where
+  pub only_reads : OnlyReads view old new
+  pub most_reads : view.reads new ≤ view.reads old + many * look_reads g
 
 -- a certificate agrees with the pages, for a cache of so many entries
 pub record HasCertificate (g : Geometry) (capacity : ℕ) (image : Image) : Type 0 where

@@ -1,13 +1,14 @@
 //! Power comes and goes: from a die to a device, and back.
-ghost use Rattle.std.specs.Prelude.{◌≡◌, ◌≢◌, ◌<◌, ◌≤◌, ℕ, true, Err, IfOk, IfErr, IfSome, IfNone, OnOk};
+ghost use Rattle.std.specs.Prelude.{◌≡◌, ◌≢◌, ◌<◌, ◌≤◌, ◌+◌, ℕ, true, Err, IfOk, IfErr, IfSome, IfNone, OnOk};
 ghost use Rattle.page_layout.specs.Array.{array_of};
+ghost use Rattle.page_layout.specs.Geometry.{row_count};
 ghost use Rattle.page_layout.specs.OnlyReads.{OnlyReads};
 ghost use Rattle.certificate.specs.Claim.{sizes_of};
 ghost use Rattle.image_check.specs.Stale.{stale_count};
 ghost use Rattle.ftl_device.specs.Calls.{array_in};
 ghost use Rattle.ftl_device.specs.Device.{IsDevice, IsAcceptedFor};
 ghost use Rattle.device_slot.specs.Begun.{IsDeviceBegun, IsDeviceKept};
-ghost use Rattle.device_slot.specs.Power.{unpowered_nand, HoldsSame, IsBrought, IsDieHandedBack, IsTooStale, IsCertificateUnaccepted, IsUnbrought, ArePagesUnmounted, IsUnsettled, IsUnsettledWith, StopsFlush, WantsCache};
+ghost use Rattle.device_slot.specs.Power.{look_reads, unpowered_nand, HasLooked, HoldsSame, IsBrought, IsDieHandedBack, IsTooStale, IsCertificateUnaccepted, IsUnbrought, ArePagesUnmounted, IsUnsettled, IsUnsettledWith, StopsFlush, WantsCache};
 
 use certificate::Certificate;
 use ftl_device::{Device, DeviceFault, StartFault};
@@ -93,6 +94,8 @@ pub fn start_mounted<N: Nand>(
     ensures reads { IfOk result (λ d. OnlyReads N.view nand d.engine.nand) }
     ensures fault { IfErr result (ArePagesUnmounted N.view nand geometry.now capacity) }
     ensures given { IfErr result (λ fault. OnlyReads N.view nand (unpowered_nand fault)) }
+    ensures most_reads { IfOk result (λ d. N.view.reads d.engine.nand ≤ N.view.reads nand + look_reads geometry.now) }
+    ensures most_given { IfErr result (λ fault. N.view.reads (unpowered_nand fault) ≤ N.view.reads nand + look_reads geometry.now) }
 {
     let (certificate, stale) = match mount_counted(alloc, &mut nand, geometry, capacity) {
         Ok(Mounted { certificate, stale }) => (certificate, stale),
@@ -131,6 +134,8 @@ pub fn start_checked<N: Nand>(
     ensures reads { IfOk result (λ d. OnlyReads N.view nand d.engine.nand) }
     ensures fault { IfErr result (IsCertificateUnaccepted N.view nand geometry.now capacity certificate.now) }
     ensures given { IfErr result (λ fault. OnlyReads N.view nand (unpowered_nand fault)) }
+    ensures most_reads { IfOk result (λ d. N.view.reads d.engine.nand ≤ N.view.reads nand + row_count geometry.now) }
+    ensures most_given { IfErr result (λ fault. N.view.reads (unpowered_nand fault) ≤ N.view.reads nand + row_count geometry.now) }
 {
     let accepted = match check(alloc, &mut nand, geometry, capacity, certificate) {
         Ok(accepted) => accepted,
@@ -219,8 +224,10 @@ fn look<N: Nand>(
     requires most { entries ≤ 65536 }
     ensures brings { IfOk result (IsBrought N.view nand geometry.now entries) }
     ensures pages { IfOk result (λ d. N.view.honest nand ≡ true → N.view.flash d.engine.nand ≡ N.view.flash nand) }
+    ensures looked { IfOk result (λ d. HasLooked N.view geometry.now 1 nand d.engine.nand) }
     ensures fault { IfErr result (ArePagesUnmounted N.view nand geometry.now entries) }
     ensures given { IfErr result (λ fault. IsDieHandedBack N.view nand (unpowered_nand fault)) }
+    ensures looked_given { IfErr result (λ fault. HasLooked N.view geometry.now 1 nand (unpowered_nand fault)) }
 {
     match start_mounted(alloc, nand, geometry, entries) {
         Ok(device) => Ok(device),
