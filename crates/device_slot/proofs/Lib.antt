@@ -1,3 +1,4 @@
 pub mod CallLemmas
 pub mod MostLemmas
 pub mod PowerLemmas
+pub mod StartedLemmas

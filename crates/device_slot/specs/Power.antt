@@ -1,5 +1,5 @@
 -- WHY POWER BROUGHT NO DEVICE, and the die that comes back.
-use Rattle.std.specs.Prelude.{◌≡◌, ◌≢◌, ◌↔◌, ◌<◌, ◌≤◌, ◌+◌, ◌*◌, ℕ, max, true}
+use Rattle.std.specs.Prelude.{◌≡◌, ◌≢◌, ◌↔◌, ◌<◌, ◌≤◌, ◌+◌, ◌*◌, ℕ, max, true, Result, Ok, Err, ◌⊎◌}
 use Rattle.page_layout.specs.View.{View}
 use Rattle.page_layout.specs.declared.geometry.Geometry.{Geometry}
 use Rattle.page_layout.specs.Geometry.{row_count, translation_pages}
@@ -7,6 +7,7 @@ use Rattle.page_layout.specs.Array.{array_of}
 use Rattle.page_layout.specs.Counter.{HasRisen}
 use Rattle.page_layout.specs.OnlyReads.{OnlyReads}
 use Rattle.page_layout.specs.Page.{Image}
+use Rattle.promises.specs.Step as step
 use Rattle.certificate.specs.Claim.{Claim}
 use Rattle.image_check.specs.Agrees.{Agrees, IsAsked}
 use Rattle.image_check.specs.Mountable.{IsMountable}
@@ -18,7 +19,8 @@ use Rattle.mount.specs.Mounted.{IsOfMounting, Refuses}
 use Rattle.ftl_device.specs.declared.device.Device.{Device}
 use Rattle.ftl_device.specs.Calls.{array_in}
 use Rattle.ftl_device.specs.declared.fault.DeviceFault.{DeviceFault}
-use Rattle.ftl_device.specs.declared.fault.DeviceFault.TheVariants.{BusFault, Damaged}
+use Rattle.ftl_device.specs.declared.fault.DeviceFault.TheVariants.{BusFault, Damaged, OutOfMemory, OutOfRange, ReadOnly, SequenceSpent}
+use Rattle.ftl_device.specs.Changes.{Upkeeps}
 use Rattle.device_slot.specs.Begun.{IsDeviceBegun}
 use Rattle.device_slot.specs.declared.power.PowerFault.{PowerFault}
 use Rattle.device_slot.specs.declared.power.PowerFault.TheVariants.{Refused, Start, Flush}
@@ -167,3 +169,52 @@ pub record IsBrought {N : Type 0} (view : View N) (nand : N) (g : Geometry) (cap
   pub entries : view.honest nand ≡ true → d.engine.mapping.capacity ≡ entries_for g capacity (view.flash d.engine.nand).image
   pub array : view.honest nand ≡ true → array_in view.flash d ≡ array_of g (view.flash nand).image
   pub back : IsDieHandedBack view nand d.engine.nand
+
+-- ---- how it came to it
+
+-- the answers with which a flush leaves the device going: one that takes no change any more has nothing to flush
+abbrev pub EndsFlush : Result (Unit {0}) DeviceFault → Type 0
+EndsFlush (Ok done) = Unit {0}
+EndsFlush (Err OutOfRange) = ⊥
+EndsFlush (Err (ReadOnly good wanted failed)) = Unit {0}
+EndsFlush (Err SequenceSpent) = Unit {0}
+EndsFlush (Err OutOfMemory) = ⊥
+EndsFlush (Err Damaged) = ⊥
+EndsFlush (Err BusFault) = ⊥
+
+-- A DEVICE WITH SO MANY ENTRIES WAS BEGUN over a die, by at most so many looks, and asked for one flush, which left it going: its die comes back
+pub record FlushesLarger {N : Type 0} (view : View N) (g : Geometry) (many entries : ℕ) (nand given : N) : Type 0 where
+  pub larger : Device N
+  pub begun : IsDeviceBegun view larger
+  pub sized : larger.engine.geometry ≡ g
+  pub entries_are : larger.engine.mapping.capacity ≡ entries
+  pub looked : HasLooked view g many nand larger.engine.nand
+  pub pages : view.honest nand ≡ true → view.flash larger.engine.nand ≡ view.flash nand
+  pub answer : Result (Unit {0}) DeviceFault
+  pub ends : EndsFlush answer
+  pub left : Device N
+  pub upkeeps : Upkeeps view step.Flush larger answer left
+  pub given_is : given ≡ left.engine.nand
+
+-- A START WITHOUT A FLUSH: one look, with the cache that was asked for; an honest die is as it was
+pub record IsStartedAtOnce {N : Type 0} (view : View N) (nand : N) (g : Geometry) (capacity : ℕ) (d : Device N) : Type 0 where
+  pub cache_is : d.engine.mapping.capacity ≡ capacity
+  pub looked : HasLooked view g 1 nand d.engine.nand
+  pub pages : view.honest nand ≡ true → view.flash d.engine.nand ≡ view.flash nand
+
+-- A START WITH ONE: of an honest die more sectors were stale than the cache has entries, and a device with as many flushed; it began over what came of that,
+-- by at most two looks more. Of an honest die that was flushed to its end it has the cache that was asked for.
+pub record IsStartedFlushed {N : Type 0} (view : View N) (nand : N) (g : Geometry) (capacity many : ℕ) (d : Device N) : Type 0 where
+  pub stale : ℕ
+  pub more : capacity < stale
+  pub most : stale ≤ 65536
+  pub wanted : view.honest nand ≡ true → IsTooStale g capacity (view.flash nand).image stale
+  pub given : N
+  pub flushes : FlushesLarger view g many stale nand given
+  pub looked : HasLooked view g 2 given d.engine.nand
+  pub pages : view.honest given ≡ true → view.flash d.engine.nand ≡ view.flash given
+  pub again : view.honest nand ≡ true → flushes.answer ≡ Ok tt → d.engine.mapping.capacity ≡ capacity
+
+-- HOW A START CAME TO ITS DEVICE: the one or the other
+abbrev pub IsStarted : {N : Type 0} → View N → N → Geometry → (capacity : ℕ) → Device N → Type 0
+IsStarted view nand g capacity d = IsStartedAtOnce view nand g capacity d ⊎ IsStartedFlushed view nand g capacity 2 d

@@ -8,7 +8,7 @@ ghost use Rattle.image_check.specs.Stale.{stale_count};
 ghost use Rattle.ftl_device.specs.Calls.{array_in};
 ghost use Rattle.ftl_device.specs.Device.{IsDevice, IsAcceptedFor};
 ghost use Rattle.device_slot.specs.Begun.{IsDeviceBegun, IsDeviceKept};
-ghost use Rattle.device_slot.specs.Power.{look_reads, unpowered_nand, HasLooked, HoldsSame, IsBrought, IsDieHandedBack, IsTooStale, IsCertificateUnaccepted, IsUnbrought, ArePagesUnmounted, IsUnsettled, IsUnsettledWith, StopsFlush, WantsCache};
+ghost use Rattle.device_slot.specs.Power.{look_reads, unpowered_nand, EndsFlush, FlushesLarger, HasLooked, HoldsSame, IsStarted, IsStartedFlushed, IsBrought, IsDieHandedBack, IsTooStale, IsCertificateUnaccepted, IsUnbrought, ArePagesUnmounted, IsUnsettled, IsUnsettledWith, StopsFlush, WantsCache};
 
 use certificate::Certificate;
 use ftl_device::{Device, DeviceFault, StartFault};
@@ -162,6 +162,7 @@ fn settled(flushed: Result<(), DeviceFault>) -> Result<(), DeviceFault>
     requires within { flushed ≢ Err DeviceFault.OutOfRange }
     requires memory { flushed ≢ Err DeviceFault.OutOfMemory }
     ensures ok { OnOk result (flushed ≢ Err DeviceFault.BusFault) }
+    ensures ends { OnOk result (EndsFlush flushed) }
     ensures err { IfErr result (λ fault. flushed ≡ Err fault) }
     ensures stops { IfErr result StopsFlush }
 {
@@ -183,6 +184,7 @@ fn settle<N: Nand>(
     requires most { stale ≤ 65536 }
     ensures back { IfOk result (IsDieHandedBack N.view nand) }
     ensures array { IfOk result (HoldsSame N.view geometry.now nand) }
+    ensures flushes { IfOk result (FlushesLarger N.view geometry.now 1 stale nand) }
     ensures fault { IfErr result (IsUnsettledWith N.view nand geometry.now stale) }
     ensures given { IfErr result (λ fault. IsDieHandedBack N.view nand (unpowered_nand fault)) }
 {
@@ -224,6 +226,7 @@ fn look<N: Nand>(
     requires most { entries ≤ 65536 }
     ensures brings { IfOk result (IsBrought N.view nand geometry.now entries) }
     ensures pages { IfOk result (λ d. N.view.honest nand ≡ true → N.view.flash d.engine.nand ≡ N.view.flash nand) }
+    ensures capacity { IfOk result (λ d. d.engine.mapping.capacity ≡ entries) }
     ensures looked { IfOk result (λ d. HasLooked N.view geometry.now 1 nand d.engine.nand) }
     ensures fault { IfErr result (ArePagesUnmounted N.view nand geometry.now entries) }
     ensures given { IfErr result (λ fault. IsDieHandedBack N.view nand (unpowered_nand fault)) }
@@ -246,6 +249,8 @@ fn start_either<N: Nand>(
     requires least { 1 ≤ capacity }
     requires most { capacity ≤ 65536 }
     ensures brings { IfOk result (IsBrought N.view nand geometry.now capacity) }
+    ensures looked { IfOk result (λ d. HasLooked N.view geometry.now 2 nand d.engine.nand) }
+    ensures pages { IfOk result (λ d. N.view.honest nand ≡ true → N.view.flash d.engine.nand ≡ N.view.flash nand) }
     ensures fault { IfErr result (IsUnbrought N.view nand geometry.now capacity) }
     ensures given { IfErr result (λ fault. IsDieHandedBack N.view nand (unpowered_nand fault)) }
 {
@@ -273,6 +278,7 @@ fn start_settled<N: Nand>(
     requires most { stale ≤ 65536 }
     requires wanted { N.view.honest nand ≡ true → IsTooStale geometry.now capacity (N.view.flash nand).image stale }
     ensures brings { IfOk result (IsBrought N.view nand geometry.now capacity) }
+    ensures started { IfOk result (IsStartedFlushed N.view nand geometry.now capacity 1) }
     ensures fault { IfErr result (IsUnsettled N.view nand geometry.now capacity) }
     ensures given { IfErr result (λ fault. IsDieHandedBack N.view nand (unpowered_nand fault)) }
 {
@@ -303,8 +309,11 @@ pub fn start<N: Nand>(
     requires least { 1 ≤ capacity }
     requires most { capacity ≤ 65536 }
     ensures brings { IfOk result (IsBrought N.view nand geometry.now capacity) }
+    // By one look, or after one flush.
+    ensures started { IfOk result (IsStarted N.view nand geometry.now capacity) }
     // Where the cache has room for what is stale, nothing is written.
     ensures still { IfOk result (λ d. N.view.honest nand ≡ true → stale_count geometry.now (N.view.flash nand).image ≤ capacity → N.view.flash d.engine.nand ≡ N.view.flash nand) }
+    ensures looked_given { IfErr result (λ fault. N.view.honest nand ≡ true → stale_count geometry.now (N.view.flash nand).image ≤ capacity → HasLooked N.view geometry.now 1 nand (unpowered_nand fault)) }
     ensures fault { IfErr result (IsUnsettled N.view nand geometry.now capacity) }
     ensures given { IfErr result (λ fault. IsDieHandedBack N.view nand (unpowered_nand fault)) }
 {

@@ -1,5 +1,6 @@
 use Rattle.std.proofs.lemmas.Result.{err_from_is_err_and}
 use Rattle.device_slot.proofs.PowerLemmas.{brought, mounted_begun, unsettled_at, flushed_same, flushed_back, flushed_bus, flushed_rose, err_is}
+use Rattle.device_slot.proofs.StartedLemmas.{looked_once}
 use Rattle.device_slot.proofs.power.settle.Goals as goal
 
 pub returns-in_err-device-clause-fault : goal.returns-in_err-device-clause-fault
@@ -16,6 +17,7 @@ returns-in-Err g c =
     record {
       back = tt;
       array = tt;
+      flushes = tt;
       fault = record {
         only = c.in-Err.ensures.stops;
         bus = λ h. flushed_bus s.view c.args.nand c.args.geometry.now c.args.stale c.in_ok-device.device c.flush.new.self c.flush.result its then.geometry then.device then.upkeeps
@@ -36,3 +38,21 @@ returns-in-Ok-clause-array g c =
     let then = c.flush.ensures in
     flushed_same s.view c.args.nand c.args.geometry.now c.args.stale c.in_ok-device.device c.flush.new.self c.flush.result its then.geometry then.device then.upkeeps
     c.stop.result c.stop.ensures.nand c.in-Ok.ensures.ok
+
+pub returns-in-Ok-clause-flushes : goal.returns-in-Ok-clause-flushes
+returns-in-Ok-clause-flushes g c =
+    let s = g.N.PageSource in
+    let first = c.in_ok-device.ensures in
+    record {
+      larger = c.in_ok-device.device;
+      begun = first.begun;
+      sized = first.geometry;
+      entries_are = first.capacity;
+      looked = looked_once s.view c.args.geometry.now c.args.nand c.in_ok-device.device.engine.nand first.reads first.most_reads;
+      pages = first.pages;
+      answer = c.flush.result;
+      ends = c.in-Ok.ensures.ends;
+      left = c.flush.new.self;
+      upkeeps = c.flush.ensures.upkeeps;
+      given_is = c.stop.ensures.nand;
+    }

@@ -1,6 +1,7 @@
 use Rattle.std.proofs.Common.{refl}
 use Rattle.std.proofs.lemmas.Result.{err_from_is_err_and}
 use Rattle.device_slot.proofs.PowerLemmas.{if_brought, if_unsettled, if_back_on, back_same, stale_more, unsettled_with}
+use Rattle.device_slot.proofs.StartedLemmas.{if_started_flushed}
 use Rattle.device_slot.proofs.power.start_settled.Goals as goal
 
 pub returns-clause-brings : goal.returns-clause-brings
@@ -25,3 +26,9 @@ returns-in_err-nand-clause-fault g c =
     let p = err_from_is_err_and c.from_residual.result c.from_residual.ensures.1 in
     rw (p.1, p.2) (unsettled_with s.view c.args.nand c.args.nand c.args.geometry.now c.args.capacity c.args.stale c.requires.more (back_same s.view c.args.nand) (λ h. refl) c.requires.wanted
     c.in_err-nand.field-0.0 c.in_err-nand.ensures.fault)
+
+pub returns-clause-started : goal.returns-clause-started
+returns-clause-started g c =
+    let s = g.N.PageSource in
+    if_started_flushed s.view c.args.nand c.in_ok-nand.nand c.args.geometry.now c.args.capacity c.args.stale c.requires.more c.requires.most c.requires.wanted c.in_ok-nand.ensures.flushes
+    c.start_either.result c.in_ok-nand.ensures.back c.start_either.ensures.brings c.start_either.ensures.looked c.start_either.ensures.pages
