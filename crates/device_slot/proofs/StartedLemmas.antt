@@ -16,7 +16,7 @@ use Rattle.ftl_device.specs.Calls.{stop_of}
 use Rattle.ftl_device.specs.Changes.{Upkeeps}
 use Rattle.device_slot.specs.declared.power.PowerFault.{PowerFault}
 use Rattle.device_slot.specs.Begun.{IsDeviceBegun}
-use Rattle.device_slot.specs.Power.{look_reads, unpowered_nand, entries_for, ArePagesUnmounted, EndsFlush, FlushesLarger, HasLooked, IsBrought, IsDieHandedBack, IsStarted, IsStartedFlushed, IsTooStale, WantsCache}
+use Rattle.device_slot.specs.Power.{look_reads, unpowered_nand, entries_for, ArePagesUnmounted, EndsFlush, FlushesLarger, HasLooked, IsBrought, IsDieHandedBack, IsStarted, IsStartedFlushed, IsTried, IsTooStale, WantsCache}
 use Rattle.device_slot.proofs.PowerLemmas.{wanted_more}
 
 -- one look
@@ -128,3 +128,64 @@ pub if_few_given : {N : Type 0} (view : View N) (nand : N) (g : Geometry) (capac
     → IfErr r (λ last. view.honest nand ≡ true → stale_count g (view.flash nand).image ≤ capacity → HasLooked view g 1 nand (unpowered_nand last))
 if_few_given view nand g capacity n fault un wants (Ok d) = tt
 if_few_given view nand g capacity n fault un wants (Err last) = λ h few. absurd (wanted_more view nand g capacity fault n un wants h few)
+
+-- ---- a start that failed
+
+-- no look
+looked_none : {N : Type 0} (view : View N) (g : Geometry) (die : N) → HasLooked view g 2 die die
+looked_none view g die = record {
+  only_reads = record { geometry_is = refl; honest_is = refl; calm_is = refl; programs_are = refl; erases_are = refl; failed_is = omega arith };
+  most_reads = omega arith;
+}
+
+-- one is no more than two
+looked_twice : {N : Type 0} (view : View N) (g : Geometry) (old new : N) → HasLooked view g 1 old new → HasLooked view g 2 old new
+looked_twice view g old new looked = record { only_reads = looked.only_reads; most_reads = omega (arith, looked.most_reads) }
+
+-- of a device that failed its flush
+pub tried_flush : {N : Type 0} (view : View N) (g : Geometry) (nand given : N) (larger left : Device N) (answer : Result (Unit {0}) DeviceFault) → IsDeviceBegun view larger
+    → HasLooked view g 1 nand larger.engine.nand → Upkeeps view step.Flush larger answer left → given ≡ left.engine.nand → IsTried view g 1 nand given
+tried_flush view g nand given larger left answer begun looked upkeeps is = inr (record {
+  larger = larger;
+  begun = begun;
+  looked = looked;
+  answer = answer;
+  left = left;
+  upkeeps = upkeeps;
+  looked_after = subst (λ n. HasLooked view g 2 left.engine.nand n) (sym is) (looked_none view g left.engine.nand);
+})
+
+-- of a die that was not mounted again
+pub if_tried_flushed : {N : Type 0} (view : View N) (g : Geometry) (nand given : N) (stale : ℕ) → FlushesLarger view g 1 stale nand given → (r : Result (Device N) (PowerFault N))
+    → IfErr r (λ fault. HasLooked view g 2 given (unpowered_nand fault)) → IfErr r (λ fault. IsTried view g 1 nand (unpowered_nand fault))
+if_tried_flushed view g nand given stale flushes (Ok d) looked = tt
+if_tried_flushed view g nand given stale flushes (Err fault) looked = inr (record {
+  larger = flushes.larger;
+  begun = flushes.begun;
+  looked = flushes.looked;
+  answer = flushes.answer;
+  left = flushes.left;
+  upkeeps = flushes.upkeeps;
+  looked_after = subst (λ n. HasLooked view g 2 n (unpowered_nand fault)) flushes.given_is looked;
+})
+
+-- of one for which no larger cache is tried
+pub tried_once : {N : Type 0} (view : View N) (g : Geometry) (nand given : N) → HasLooked view g 1 nand given → IsTried view g 2 nand given
+tried_once view g nand given looked = inl (looked_twice view g nand given looked)
+
+tried_then : {N : Type 0} (view : View N) (g : Geometry) (nand mid given : N) → HasLooked view g 1 nand mid → IsTried view g 1 mid given → IsTried view g 2 nand given
+tried_then view g nand mid given first (inl looked) = inl (looked_then view g nand mid given first looked)
+tried_then view g nand mid given first (inr its) = inr (record {
+  larger = its.larger;
+  begun = its.begun;
+  looked = looked_then view g nand mid its.larger.engine.nand first its.looked;
+  answer = its.answer;
+  left = its.left;
+  upkeeps = its.upkeeps;
+  looked_after = its.looked_after;
+})
+
+pub if_tried_then : {N : Type 0} (view : View N) (g : Geometry) (nand mid : N) → HasLooked view g 1 nand mid → (r : Result (Device N) (PowerFault N))
+    → IfErr r (λ fault. IsTried view g 1 mid (unpowered_nand fault)) → IfErr r (λ fault. IsTried view g 2 nand (unpowered_nand fault))
+if_tried_then view g nand mid first (Ok d) its = tt
+if_tried_then view g nand mid first (Err fault) its = tried_then view g nand mid (unpowered_nand fault) first its

@@ -1,6 +1,8 @@
+use Rattle.std.proofs.Common.{inl}
 use Rattle.std.proofs.lemmas.Result.{err_from_is_err_and}
+use Rattle.device_slot.specs.Power.{unpowered_nand}
 use Rattle.device_slot.proofs.PowerLemmas.{brought, mounted_begun, unsettled_at, flushed_same, flushed_back, flushed_bus, flushed_rose, err_is}
-use Rattle.device_slot.proofs.StartedLemmas.{looked_once}
+use Rattle.device_slot.proofs.StartedLemmas.{looked_once, tried_flush}
 use Rattle.device_slot.proofs.power.settle.Goals as goal
 
 pub returns-in_err-device-clause-fault : goal.returns-in_err-device-clause-fault
@@ -28,6 +30,8 @@ returns-in-Err g c =
       };
       given = flushed_back s.view c.args.nand c.args.geometry.now c.args.stale c.in_ok-device.device c.flush.new.self c.flush.result its then.geometry then.device then.upkeeps
           c.stop-in-Err.result c.stop-in-Err.ensures.nand c.stop-in-Err.ensures.geometry c.requires.same_geometry;
+      tried = tried_flush s.view c.args.geometry.now c.args.nand c.stop-in-Err.result c.in_ok-device.device c.flush.new.self c.flush.result first.begun
+          (looked_once s.view c.args.geometry.now c.args.nand c.in_ok-device.device.engine.nand first.reads first.most_reads) then.upkeeps c.stop-in-Err.ensures.nand;
     }
 
 pub returns-in-Ok-clause-array : goal.returns-in-Ok-clause-array
@@ -56,3 +60,9 @@ returns-in-Ok-clause-flushes g c =
       upkeeps = c.flush.ensures.upkeeps;
       given_is = c.stop.ensures.nand;
     }
+
+pub returns-in_err-device-clause-tried : goal.returns-in_err-device-clause-tried
+returns-in_err-device-clause-tried g c =
+    let p = err_from_is_err_and c.from_residual.result c.from_residual.ensures.1 in
+    let first = c.in_err-device.ensures in
+    rw (p.1, p.2) (inl (looked_once g.N.PageSource.view c.args.geometry.now c.args.nand (unpowered_nand c.in_err-device.field-0.0) first.given first.most_given))

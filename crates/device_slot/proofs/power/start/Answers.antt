@@ -1,5 +1,6 @@
+use Rattle.device_slot.specs.Power.{unpowered_nand}
 use Rattle.device_slot.proofs.PowerLemmas.{if_brought, if_unsettled_there, if_back_on, mid_back, mid_flash, mid_same, mid_still, unbrought, unsettled_of}
-use Rattle.device_slot.proofs.StartedLemmas.{at_once, if_few_given, if_started_then, mid_looked}
+use Rattle.device_slot.proofs.StartedLemmas.{at_once, if_few_given, if_started_then, if_tried_then, mid_looked, tried_once}
 use Rattle.device_slot.proofs.power.start.Goals as goal
 
 pub returns-in-Some-clause-brings : goal.returns-in-Some-clause-brings
@@ -55,3 +56,14 @@ returns-in-Some-clause-looked_given g c =
 pub returns-in-Ok-clause-started : goal.returns-in-Ok-clause-started
 returns-in-Ok-clause-started g c =
     at_once g.N.PageSource.view c.args.nand c.args.geometry.now c.args.capacity c.in-Ok.device c.in-Ok.ensures.capacity c.in-Ok.ensures.looked c.in-Ok.ensures.pages
+
+pub returns-in-Some-clause-tried : goal.returns-in-Some-clause-tried
+returns-in-Some-clause-tried g c =
+    let s = g.N.PageSource in
+    if_tried_then s.view c.args.geometry.now c.args.nand c.into_nand.result
+    (mid_looked s.view c.args.nand c.into_nand.result c.args.geometry.now c.in-Err.fault c.into_nand.ensures c.in-Err.ensures.looked_given)
+    c.start_settled.result c.start_settled.ensures.tried
+
+pub returns-in-None-clause-tried : goal.returns-in-None-clause-tried
+returns-in-None-clause-tried g c =
+    tried_once g.N.PageSource.view c.args.geometry.now c.args.nand (unpowered_nand c.in-Err.fault) c.in-Err.ensures.looked_given

@@ -1,7 +1,7 @@
 use Rattle.std.proofs.Common.{refl}
 use Rattle.std.proofs.lemmas.Result.{err_from_is_err_and}
 use Rattle.device_slot.proofs.PowerLemmas.{if_brought, if_unsettled, if_back_on, back_same, stale_more, unsettled_with}
-use Rattle.device_slot.proofs.StartedLemmas.{if_started_flushed}
+use Rattle.device_slot.proofs.StartedLemmas.{if_started_flushed, if_tried_flushed}
 use Rattle.device_slot.proofs.power.start_settled.Goals as goal
 
 pub returns-clause-brings : goal.returns-clause-brings
@@ -32,3 +32,12 @@ returns-clause-started g c =
     let s = g.N.PageSource in
     if_started_flushed s.view c.args.nand c.in_ok-nand.nand c.args.geometry.now c.args.capacity c.args.stale c.requires.more c.requires.most c.requires.wanted c.in_ok-nand.ensures.flushes
     c.start_either.result c.in_ok-nand.ensures.back c.start_either.ensures.brings c.start_either.ensures.looked c.start_either.ensures.pages
+
+pub returns-clause-tried : goal.returns-clause-tried
+returns-clause-tried g c =
+    if_tried_flushed g.N.PageSource.view c.args.geometry.now c.args.nand c.in_ok-nand.nand c.args.stale c.in_ok-nand.ensures.flushes c.start_either.result c.start_either.ensures.looked_given
+
+pub returns-in_err-nand-clause-tried : goal.returns-in_err-nand-clause-tried
+returns-in_err-nand-clause-tried g c =
+    let p = err_from_is_err_and c.from_residual.result c.from_residual.ensures.1 in
+    rw (p.1, p.2) c.in_err-nand.ensures.tried
