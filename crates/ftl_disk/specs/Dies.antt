@@ -1,10 +1,11 @@
 -- WHAT A CALL OF A DISK COMES TO OVER ANY DIE, and by which number.
-use Rattle.std.specs.Prelude.{◌≡◌, ◌≢◌, ◌⊎◌, ℕ, true, List, length, Some, None, Result, Ok, Err}
+use Rattle.std.specs.Prelude.{◌≡◌, ◌≢◌, ◌⊎◌, ◌≤◌, ◌+◌, ℕ, true, List, length, Some, None, Result, Ok, Err}
 use Rattle.page_layout.specs.View.{View}
 use Rattle.page_layout.specs.declared.geometry.Geometry.{Geometry}
-use Rattle.page_layout.specs.Geometry.{need}
+use Rattle.page_layout.specs.Geometry.{need, row_count}
 use Rattle.page_layout.specs.Array.{array_of}
 use Rattle.page_layout.specs.Counter.{HasRisen}
+use Rattle.page_layout.specs.OnlyReads.{OnlyReads}
 use Rattle.certificate.specs.Claim.{Claim}
 use Rattle.certificate.specs.Spelling as spelling
 use Rattle.image_check.specs.Agrees.{IsAsked}
@@ -18,7 +19,7 @@ use Rattle.ftl_device.specs.declared.device.Device.{Device}
 use Rattle.ftl_device.specs.Calls.{array_in}
 use Rattle.device_slot.specs.declared.power.PowerFault.{PowerFault}
 use Rattle.device_slot.specs.Begun.{IsDeviceBegun}
-use Rattle.device_slot.specs.Power.{IsBrought, IsCertificateUnaccepted, IsUnsettled}
+use Rattle.device_slot.specs.Power.{unpowered_nand, IsBrought, IsCertificateUnaccepted, IsStarted, IsTried, IsUnsettled}
 use Rattle.device_slot.specs.Slot.{SlotState}
 use Rattle.ftl_disk.specs.Measures.{certificate_length}
 use Rattle.ftl_disk.specs.Numbers.{of_formatting, of_power, of_refusal}
@@ -41,22 +42,29 @@ abbrev pub IsPutInSlot : {N : Type 0} → Result (Device N) (PowerFault N) → (
 IsPutInSlot (Ok device) was number is = (number ≡ 0) × (is ≡ record { device = Some device; shortage = None })
 IsPutInSlot (Err fault) was number is = (number ≡ of_power fault) × (is ≡ was)
 
--- A DEVICE STANDS IN THE SLOT, which power brought over the die
+-- A DEVICE STANDS IN THE SLOT, which power brought over the die: by one look, or after one flush
 pub record IsPutBy {N : Type 0} (view : View N) (g : Geometry) (cache : ℕ) (die : N) (slot : SlotState N) : Type 0 where
   pub device : Device N
   pub stands : slot ≡ record { device = Some device; shortage = None }
   pub brings : IsBrought view die g cache device
+  pub started : IsStarted view die g cache device
 
 -- NO DEVICE WAS BROUGHT: the number is that of why
 pub record IsUnstartedBy {N : Type 0} (view : View N) (g : Geometry) (cache : ℕ) (die : N) (number : ℕ) : Type 0 where
   pub fault : PowerFault N
   pub number_is : number ≡ of_power fault
   pub unsettled : IsUnsettled view die g cache fault
+  pub tried : IsTried view g 2 die (unpowered_nand fault)
 
 -- A START over a die: the one or the other, and then the slot is as it was
 abbrev pub StartsBy : {N : Type 0} → View N → Geometry → (cache : ℕ) → N → SlotState N → (number : ℕ) → SlotState N → Type 0
 StartsBy view g cache die was number is =
     ((number ≡ 0) × IsPutBy view g cache die is) ⊎ ((is ≡ was) × IsUnstartedBy view g cache die number)
+
+-- a look by a certificate: the die was asked for reads alone, each page at most once
+pub record HasChecked {N : Type 0} (view : View N) (g : Geometry) (old new : N) : Type 0 where
+  pub only_reads : OnlyReads view old new
+  pub most_reads : view.reads new ≤ view.reads old + row_count g
 
 -- A DEVICE WAS BROUGHT BY A CERTIFICATE: of an honest die it holds the array that the image holds, and nothing was written
 pub record IsBroughtBy {N : Type 0} (view : View N) (die : N) (g : Geometry) (cache : ℕ) (d : Device N) : Type 0 where
@@ -65,6 +73,7 @@ pub record IsBroughtBy {N : Type 0} (view : View N) (die : N) (g : Geometry) (ca
   pub cache_is : d.engine.mapping.capacity ≡ cache
   pub array : view.honest die ≡ true → array_in view.flash d ≡ array_of g (view.flash die).image
   pub pages : view.honest die ≡ true → view.flash d.engine.nand ≡ view.flash die
+  pub checked : HasChecked view g die d.engine.nand
 
 pub record IsPutByClaim {N : Type 0} (view : View N) (g : Geometry) (cache : ℕ) (die : N) (slot : SlotState N) : Type 0 where
   pub device : Device N
@@ -76,6 +85,7 @@ pub record IsUncheckedBy {N : Type 0} (view : View N) (g : Geometry) (cache : �
   pub fault : PowerFault N
   pub number_is : number ≡ of_power fault
   pub unaccepted : IsCertificateUnaccepted view die g cache c fault
+  pub checked : HasChecked view g die (unpowered_nand fault)
 
 abbrev pub StartsByClaim : {N : Type 0} → View N → Geometry → (cache : ℕ) → Claim → N → SlotState N → (number : ℕ) → SlotState N → Type 0
 StartsByClaim view g cache c die was number is =
