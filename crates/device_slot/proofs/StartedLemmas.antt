@@ -16,7 +16,7 @@ use Rattle.ftl_device.specs.Calls.{stop_of}
 use Rattle.ftl_device.specs.Changes.{Upkeeps}
 use Rattle.device_slot.specs.declared.power.PowerFault.{PowerFault}
 use Rattle.device_slot.specs.Begun.{IsDeviceBegun}
-use Rattle.device_slot.specs.Power.{look_reads, unpowered_nand, entries_for, ArePagesUnmounted, EndsFlush, FlushesLarger, HasLooked, IsBrought, IsDieHandedBack, IsStarted, IsStartedFlushed, IsTried, IsTooStale, WantsCache}
+use Rattle.device_slot.specs.Power.{look_reads, unpowered_nand, entries_for, ArePagesUnmounted, EndsFlush, FlushesLarger, HasLooked, IsBrought, IsDieHandedBack, IsStarted, IsStartedFlushed, HasTriedStart, IsTooStale, WantsCache}
 use Rattle.device_slot.proofs.PowerLemmas.{wanted_more}
 
 -- one look
@@ -144,7 +144,7 @@ looked_twice view g old new looked = record { only_reads = looked.only_reads; mo
 
 -- of a device that failed its flush
 pub tried_flush : {N : Type 0} (view : View N) (g : Geometry) (nand given : N) (larger left : Device N) (answer : Result (Unit {0}) DeviceFault) → IsDeviceBegun view larger
-    → HasLooked view g 1 nand larger.engine.nand → Upkeeps view step.Flush larger answer left → given ≡ left.engine.nand → IsTried view g 1 nand given
+    → HasLooked view g 1 nand larger.engine.nand → Upkeeps view step.Flush larger answer left → given ≡ left.engine.nand → HasTriedStart view g 1 nand given
 tried_flush view g nand given larger left answer begun looked upkeeps is = inr (record {
   larger = larger;
   begun = begun;
@@ -157,7 +157,7 @@ tried_flush view g nand given larger left answer begun looked upkeeps is = inr (
 
 -- of a die that was not mounted again
 pub if_tried_flushed : {N : Type 0} (view : View N) (g : Geometry) (nand given : N) (stale : ℕ) → FlushesLarger view g 1 stale nand given → (r : Result (Device N) (PowerFault N))
-    → IfErr r (λ fault. HasLooked view g 2 given (unpowered_nand fault)) → IfErr r (λ fault. IsTried view g 1 nand (unpowered_nand fault))
+    → IfErr r (λ fault. HasLooked view g 2 given (unpowered_nand fault)) → IfErr r (λ fault. HasTriedStart view g 1 nand (unpowered_nand fault))
 if_tried_flushed view g nand given stale flushes (Ok d) looked = tt
 if_tried_flushed view g nand given stale flushes (Err fault) looked = inr (record {
   larger = flushes.larger;
@@ -170,10 +170,10 @@ if_tried_flushed view g nand given stale flushes (Err fault) looked = inr (recor
 })
 
 -- of one for which no larger cache is tried
-pub tried_once : {N : Type 0} (view : View N) (g : Geometry) (nand given : N) → HasLooked view g 1 nand given → IsTried view g 2 nand given
+pub tried_once : {N : Type 0} (view : View N) (g : Geometry) (nand given : N) → HasLooked view g 1 nand given → HasTriedStart view g 2 nand given
 tried_once view g nand given looked = inl (looked_twice view g nand given looked)
 
-tried_then : {N : Type 0} (view : View N) (g : Geometry) (nand mid given : N) → HasLooked view g 1 nand mid → IsTried view g 1 mid given → IsTried view g 2 nand given
+tried_then : {N : Type 0} (view : View N) (g : Geometry) (nand mid given : N) → HasLooked view g 1 nand mid → HasTriedStart view g 1 mid given → HasTriedStart view g 2 nand given
 tried_then view g nand mid given first (inl looked) = inl (looked_then view g nand mid given first looked)
 tried_then view g nand mid given first (inr its) = inr (record {
   larger = its.larger;
@@ -186,6 +186,6 @@ tried_then view g nand mid given first (inr its) = inr (record {
 })
 
 pub if_tried_then : {N : Type 0} (view : View N) (g : Geometry) (nand mid : N) → HasLooked view g 1 nand mid → (r : Result (Device N) (PowerFault N))
-    → IfErr r (λ fault. IsTried view g 1 mid (unpowered_nand fault)) → IfErr r (λ fault. IsTried view g 2 nand (unpowered_nand fault))
+    → IfErr r (λ fault. HasTriedStart view g 1 mid (unpowered_nand fault)) → IfErr r (λ fault. HasTriedStart view g 2 nand (unpowered_nand fault))
 if_tried_then view g nand mid first (Ok d) its = tt
 if_tried_then view g nand mid first (Err fault) its = tried_then view g nand mid (unpowered_nand fault) first its

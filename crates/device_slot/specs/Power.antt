@@ -220,7 +220,7 @@ abbrev pub IsStarted : {N : Type 0} → View N → N → Geometry → (capacity 
 IsStarted view nand g capacity d = IsStartedAtOnce view nand g capacity d ⊎ IsStartedFlushed view nand g capacity 2 d
 
 -- A START THAT FAILED: a larger device was begun by at most so many looks, and asked for one flush, whatever it answered; and by at most two looks more the die came back
-pub record IsTriedFlushed {N : Type 0} (view : View N) (g : Geometry) (many : ℕ) (nand given : N) : Type 0 where
+pub record HasTriedFlush {N : Type 0} (view : View N) (g : Geometry) (many : ℕ) (nand given : N) : Type 0 where
   pub larger : Device N
   pub begun : IsDeviceBegun view larger
   pub looked : HasLooked view g many nand larger.engine.nand
@@ -230,5 +230,5 @@ pub record IsTriedFlushed {N : Type 0} (view : View N) (g : Geometry) (many : �
   pub looked_after : HasLooked view g 2 left.engine.nand given
 
 -- or it was looked at, and no more
-abbrev pub IsTried : {N : Type 0} → View N → Geometry → (many : ℕ) → (nand given : N) → Type 0
-IsTried view g many nand given = HasLooked view g many nand given ⊎ IsTriedFlushed view g many nand given
+abbrev pub HasTriedStart : {N : Type 0} → View N → Geometry → (many : ℕ) → (nand given : N) → Type 0
+HasTriedStart view g many nand given = HasLooked view g many nand given ⊎ HasTriedFlush view g many nand given

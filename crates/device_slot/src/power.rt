@@ -8,7 +8,7 @@ ghost use Rattle.image_check.specs.Stale.{stale_count};
 ghost use Rattle.ftl_device.specs.Calls.{array_in};
 ghost use Rattle.ftl_device.specs.Device.{IsDevice, IsAcceptedFor};
 ghost use Rattle.device_slot.specs.Begun.{IsDeviceBegun, IsDeviceKept};
-ghost use Rattle.device_slot.specs.Power.{look_reads, unpowered_nand, EndsFlush, FlushesLarger, HasLooked, HoldsSame, IsStarted, IsStartedFlushed, IsTried, IsBrought, IsDieHandedBack, IsTooStale, IsCertificateUnaccepted, IsUnbrought, ArePagesUnmounted, IsUnsettled, IsUnsettledWith, StopsFlush, WantsCache};
+ghost use Rattle.device_slot.specs.Power.{look_reads, unpowered_nand, EndsFlush, FlushesLarger, HasLooked, HoldsSame, IsStarted, IsStartedFlushed, HasTriedStart, IsBrought, IsDieHandedBack, IsTooStale, IsCertificateUnaccepted, IsUnbrought, ArePagesUnmounted, IsUnsettled, IsUnsettledWith, StopsFlush, WantsCache};
 
 use certificate::Certificate;
 use ftl_device::{Device, DeviceFault, StartFault};
@@ -187,7 +187,7 @@ fn settle<N: Nand>(
     ensures flushes { IfOk result (FlushesLarger N.view geometry.now 1 stale nand) }
     ensures fault { IfErr result (IsUnsettledWith N.view nand geometry.now stale) }
     ensures given { IfErr result (λ fault. IsDieHandedBack N.view nand (unpowered_nand fault)) }
-    ensures tried { IfErr result (λ fault. IsTried N.view geometry.now 1 nand (unpowered_nand fault)) }
+    ensures tried { IfErr result (λ fault. HasTriedStart N.view geometry.now 1 nand (unpowered_nand fault)) }
 {
     let mut device = start_mounted(alloc, nand, geometry, stale)?;
     match settled(device.flush()) {
@@ -283,7 +283,7 @@ fn start_settled<N: Nand>(
     ensures started { IfOk result (IsStartedFlushed N.view nand geometry.now capacity 1) }
     ensures fault { IfErr result (IsUnsettled N.view nand geometry.now capacity) }
     ensures given { IfErr result (λ fault. IsDieHandedBack N.view nand (unpowered_nand fault)) }
-    ensures tried { IfErr result (λ fault. IsTried N.view geometry.now 1 nand (unpowered_nand fault)) }
+    ensures tried { IfErr result (λ fault. HasTriedStart N.view geometry.now 1 nand (unpowered_nand fault)) }
 {
     let nand = settle(alloc, nand, geometry, stale)?;
     start_either(alloc, nand, geometry, capacity)
@@ -292,7 +292,7 @@ fn start_settled<N: Nand>(
 /// Starts a device over what a die holds, with a cache of `capacity` entries, 1 to 65536: **of a die that is honest the device holds the array that the image
 /// held.** A stop may have left more stale sectors than the cache has room for: then a device with as many entries as it wants, up to 65536,
 /// flushes first, and the die is mounted again. One that takes no change any more keeps the larger cache. Where nothing had to be flushed the die
-/// is asked for reads alone.
+/// is asked for reads alone. Whatever the die is, it is looked at once; or twice, then there is one flush, and it is looked at twice more at most.
 ///
 /// # Errors
 ///
@@ -319,7 +319,7 @@ pub fn start<N: Nand>(
     ensures looked_given { IfErr result (λ fault. N.view.honest nand ≡ true → stale_count geometry.now (N.view.flash nand).image ≤ capacity → HasLooked N.view geometry.now 1 nand (unpowered_nand fault)) }
     ensures fault { IfErr result (IsUnsettled N.view nand geometry.now capacity) }
     ensures given { IfErr result (λ fault. IsDieHandedBack N.view nand (unpowered_nand fault)) }
-    ensures tried { IfErr result (λ fault. IsTried N.view geometry.now 2 nand (unpowered_nand fault)) }
+    ensures tried { IfErr result (λ fault. HasTriedStart N.view geometry.now 2 nand (unpowered_nand fault)) }
 {
     let fault = match look(alloc, nand, geometry, capacity) {
         Ok(device) => return Ok(device),

@@ -14,7 +14,7 @@ use Rattle.ftl_device.specs.declared.device.Device.{Device}
 use Rattle.ftl_device.specs.Calls.{array_in}
 use Rattle.device_slot.specs.declared.power.PowerFault.{PowerFault}
 use Rattle.device_slot.specs.Begun.{IsDeviceBegun, IsDeviceKept}
-use Rattle.device_slot.specs.Power.{unpowered_nand, IsBrought, IsCertificateUnaccepted, IsStarted, IsTried, IsUnsettled}
+use Rattle.device_slot.specs.Power.{unpowered_nand, IsBrought, IsCertificateUnaccepted, IsStarted, HasTriedStart, IsUnsettled}
 use Rattle.device_slot.specs.Slot.{SlotState}
 use Rattle.ftl_disk.specs.declared.descriptors.Descriptors.{Descriptors}
 use Rattle.ftl_disk.specs.declared.plan.Plan.{Plan}
@@ -62,7 +62,7 @@ filled view g cache die given out bytes number its same other = elim (cases_eq (
 
 module _ {N : Type 0} (view : View N) (g : Geometry) (cache : ℕ) (die : N) (was : SlotState N) (number : ℕ) (is : SlotState N) where
   pub starts : (r : Result (Device N) (PowerFault N)) → IfOk r (IsBrought view die g cache) → IfOk r (IsStarted view die g cache) → IfErr r (IsUnsettled view die g cache)
-      → IfErr r (λ fault. IsTried view g 2 die (unpowered_nand fault)) → IsPutInSlot r was number is → StartsBy view g cache die was number is
+      → IfErr r (λ fault. HasTriedStart view g 2 die (unpowered_nand fault)) → IsPutInSlot r was number is → StartsBy view g cache die was number is
   starts (Ok device) brings started fault tried put = inl (put.0, record { device = device; stands = put.1; brings = brings; started = started })
   starts (Err why) brings started fault tried put = inr (put.1, record { fault = why; number_is = put.0; unsettled = fault; tried = tried })
 

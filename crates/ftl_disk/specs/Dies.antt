@@ -19,7 +19,7 @@ use Rattle.ftl_device.specs.declared.device.Device.{Device}
 use Rattle.ftl_device.specs.Calls.{array_in}
 use Rattle.device_slot.specs.declared.power.PowerFault.{PowerFault}
 use Rattle.device_slot.specs.Begun.{IsDeviceBegun}
-use Rattle.device_slot.specs.Power.{unpowered_nand, IsBrought, IsCertificateUnaccepted, IsStarted, IsTried, IsUnsettled}
+use Rattle.device_slot.specs.Power.{unpowered_nand, IsBrought, IsCertificateUnaccepted, IsStarted, HasTriedStart, IsUnsettled}
 use Rattle.device_slot.specs.Slot.{SlotState}
 use Rattle.ftl_disk.specs.Measures.{certificate_length}
 use Rattle.ftl_disk.specs.Numbers.{of_formatting, of_power, of_refusal}
@@ -54,7 +54,7 @@ pub record IsUnstartedBy {N : Type 0} (view : View N) (g : Geometry) (cache : �
   pub fault : PowerFault N
   pub number_is : number ≡ of_power fault
   pub unsettled : IsUnsettled view die g cache fault
-  pub tried : IsTried view g 2 die (unpowered_nand fault)
+  pub tried : HasTriedStart view g 2 die (unpowered_nand fault)
 
 -- A START over a die: the one or the other, and then the slot is as it was
 abbrev pub StartsBy : {N : Type 0} → View N → Geometry → (cache : ℕ) → N → SlotState N → (number : ℕ) → SlotState N → Type 0
@@ -62,7 +62,7 @@ StartsBy view g cache die was number is =
     ((number ≡ 0) × IsPutBy view g cache die is) ⊎ ((is ≡ was) × IsUnstartedBy view g cache die number)
 
 -- a look by a certificate: the die was asked for reads alone, each page at most once
-pub record HasChecked {N : Type 0} (view : View N) (g : Geometry) (old new : N) : Type 0 where
+pub record IsReadOnce {N : Type 0} (view : View N) (g : Geometry) (old new : N) : Type 0 where
   pub only_reads : OnlyReads view old new
   pub most_reads : view.reads new ≤ view.reads old + row_count g
 
@@ -73,7 +73,7 @@ pub record IsBroughtBy {N : Type 0} (view : View N) (die : N) (g : Geometry) (ca
   pub cache_is : d.engine.mapping.capacity ≡ cache
   pub array : view.honest die ≡ true → array_in view.flash d ≡ array_of g (view.flash die).image
   pub pages : view.honest die ≡ true → view.flash d.engine.nand ≡ view.flash die
-  pub checked : HasChecked view g die d.engine.nand
+  pub checked : IsReadOnce view g die d.engine.nand
 
 pub record IsPutByClaim {N : Type 0} (view : View N) (g : Geometry) (cache : ℕ) (die : N) (slot : SlotState N) : Type 0 where
   pub device : Device N
@@ -85,7 +85,7 @@ pub record IsUncheckedBy {N : Type 0} (view : View N) (g : Geometry) (cache : �
   pub fault : PowerFault N
   pub number_is : number ≡ of_power fault
   pub unaccepted : IsCertificateUnaccepted view die g cache c fault
-  pub checked : HasChecked view g die (unpowered_nand fault)
+  pub checked : IsReadOnce view g die (unpowered_nand fault)
 
 abbrev pub StartsByClaim : {N : Type 0} → View N → Geometry → (cache : ℕ) → Claim → N → SlotState N → (number : ℕ) → SlotState N → Type 0
 StartsByClaim view g cache c die was number is =
