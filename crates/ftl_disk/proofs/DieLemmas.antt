@@ -14,7 +14,7 @@ use Rattle.ftl_device.specs.declared.device.Device.{Device}
 use Rattle.ftl_device.specs.Calls.{array_in}
 use Rattle.device_slot.specs.declared.power.PowerFault.{PowerFault}
 use Rattle.device_slot.specs.Begun.{IsDeviceBegun, IsDeviceKept}
-use Rattle.device_slot.specs.Power.{unpowered_nand, IsBrought, IsCertificateUnaccepted, IsStarted, HasTriedStart, IsUnsettled}
+use Rattle.device_slot.specs.Power.{IsBrought, IsCertificateUnaccepted, IsStarted, IsUnsettled}
 use Rattle.device_slot.specs.Slot.{SlotState}
 use Rattle.ftl_disk.specs.declared.descriptors.Descriptors.{Descriptors}
 use Rattle.ftl_disk.specs.declared.plan.Plan.{Plan}
@@ -62,16 +62,15 @@ filled view g cache die given out bytes number its same other = elim (cases_eq (
 
 module _ {N : Type 0} (view : View N) (g : Geometry) (cache : ℕ) (die : N) (was : SlotState N) (number : ℕ) (is : SlotState N) where
   pub starts : (r : Result (Device N) (PowerFault N)) → IfOk r (IsBrought view die g cache) → IfOk r (IsStarted view die g cache) → IfErr r (IsUnsettled view die g cache)
-      → IfErr r (λ fault. HasTriedStart view g 2 die (unpowered_nand fault)) → IsPutInSlot r was number is → StartsBy view g cache die was number is
-  starts (Ok device) brings started fault tried put = inl (put.0, record { device = device; stands = put.1; brings = brings; started = started })
-  starts (Err why) brings started fault tried put = inr (put.1, record { fault = why; number_is = put.0; unsettled = fault; tried = tried })
+      → IsPutInSlot r was number is → StartsBy view g cache die was number is
+  starts (Ok device) brings started fault put = inl (put.0, record { device = device; stands = put.1; brings = brings; started = started })
+  starts (Err why) brings started fault put = inr (put.1, record { fault = why; number_is = put.0; unsettled = fault })
 
   pub starts_by : (c : Claim) (r : Result (Device N) (PowerFault N)) → IfOk r (IsDeviceBegun view) → IfOk r (λ d. d.engine.geometry ≡ g) → IfOk r (λ d. d.engine.mapping.capacity ≡ cache)
       → IfOk r (λ d. view.honest die ≡ true → array_in view.flash d ≡ array_of g (view.flash die).image) → IfOk r (λ d. view.honest die ≡ true → view.flash d.engine.nand ≡ view.flash die)
       → IfOk r (λ d. OnlyReads view die d.engine.nand) → IfOk r (λ d. view.reads d.engine.nand ≤ view.reads die + row_count g) → IfErr r (IsCertificateUnaccepted view die g cache c)
-      → IfErr r (λ fault. OnlyReads view die (unpowered_nand fault)) → IfErr r (λ fault. view.reads (unpowered_nand fault) ≤ view.reads die + row_count g)
       → IsPutInSlot r was number is → StartsByClaim view g cache c die was number is
-  starts_by c (Ok device) begun sized capacity array pages reads most fault given most_given put =
+  starts_by c (Ok device) begun sized capacity array pages reads most fault put =
       inl (put.0, record { device = device; stands = put.1; brings = record { begun = begun; sized = sized; cache_is = capacity; array = array; pages = pages; checked = record { only_reads = reads; most_reads = most } } })
-  starts_by c (Err why) begun sized capacity array pages reads most fault given most_given put =
-      inr (put.1, record { fault = why; number_is = put.0; unaccepted = fault; checked = record { only_reads = given; most_reads = most_given } })
+  starts_by c (Err why) begun sized capacity array pages reads most fault put =
+      inr (put.1, record { fault = why; number_is = put.0; unaccepted = fault })

@@ -19,7 +19,7 @@ use Rattle.ftl_device.specs.declared.device.Device.{Device}
 use Rattle.ftl_device.specs.Calls.{array_in}
 use Rattle.device_slot.specs.declared.power.PowerFault.{PowerFault}
 use Rattle.device_slot.specs.Begun.{IsDeviceBegun}
-use Rattle.device_slot.specs.Power.{unpowered_nand, IsBrought, IsCertificateUnaccepted, IsStarted, HasTriedStart, IsUnsettled}
+use Rattle.device_slot.specs.Power.{IsBrought, IsCertificateUnaccepted, IsStarted, IsUnsettled}
 use Rattle.device_slot.specs.Slot.{SlotState}
 use Rattle.ftl_disk.specs.Measures.{certificate_length}
 use Rattle.ftl_disk.specs.Numbers.{of_formatting, of_power, of_refusal}
@@ -54,7 +54,6 @@ pub record IsUnstartedBy {N : Type 0} (view : View N) (g : Geometry) (cache : �
   pub fault : PowerFault N
   pub number_is : number ≡ of_power fault
   pub unsettled : IsUnsettled view die g cache fault
-  pub tried : HasTriedStart view g 2 die (unpowered_nand fault)
 
 -- A START over a die: the one or the other, and then the slot is as it was
 abbrev pub StartsBy : {N : Type 0} → View N → Geometry → (cache : ℕ) → N → SlotState N → (number : ℕ) → SlotState N → Type 0
@@ -85,7 +84,6 @@ pub record IsUncheckedBy {N : Type 0} (view : View N) (g : Geometry) (cache : �
   pub fault : PowerFault N
   pub number_is : number ≡ of_power fault
   pub unaccepted : IsCertificateUnaccepted view die g cache c fault
-  pub checked : IsReadOnce view g die (unpowered_nand fault)
 
 abbrev pub StartsByClaim : {N : Type 0} → View N → Geometry → (cache : ℕ) → Claim → N → SlotState N → (number : ℕ) → SlotState N → Type 0
 StartsByClaim view g cache c die was number is =
