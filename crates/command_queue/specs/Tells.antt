@@ -1,18 +1,23 @@
 -- What a device was told: one call, and a chain of them.
 use Rattle.std.specs.Prelude.{◌≡◌, ◌≢◌, ℕ, ◌+◌, ◌<◌, ◌≤◌, Bool, true, false, List, [], ◌∷◌, ◌++◌, is_some}
-use Rattle.std.specs.Prelude.{None, Some, Result, Ok, Err, IfErr, OnOk}
+use Rattle.std.specs.Prelude.{None, Some, IsSome, Result, Ok, Err, IfErr, OnOk}
 use Rattle.std.specs.Option.{ForSome}
+use Rattle.std.specs.Map.{keys_of}
 use Rattle.page_layout.specs.View.{View}
 use Rattle.page_layout.specs.Counter.{HasRisen}
+use Rattle.page_layout.specs.DieCalls.{AsksOnly}
 use Rattle.page_layout.specs.Flash.{Flash, Operation}
+use Rattle.page_layout.specs.OnlyReads.{OnlyReads}
+use Rattle.page_layout.specs.Recording.{EndsAt}
 use Rattle.page_layout.specs.Version.{AddsNoOld}
-use Rattle.mapping_cache.specs.Mapping.{HasLimitsOf}
+use Rattle.mapping_cache.specs.Mapping.{HasLimitsOf, known}
 use Rattle.allocation.specs.State.{free_count}
+use Rattle.image_check.specs.Mountable.{IsMountable}
 use Rattle.promises.specs.Step as step
 use Rattle.promises.specs.Step.{ArrayStep}
 use Rattle.promises.specs.Log.{programs_in, bad_of}
 use Rattle.promises.specs.Run.{DeviceView}
-use Rattle.collection.specs.Safe.{ram, image_in}
+use Rattle.collection.specs.Safe.{ram, image_in, page_in_buffer}
 use Rattle.collection.specs.Collect.{HasAiling, HasNoneAiling}
 use Rattle.collection.specs.declared.engine.room.Reserve.TheVariants as reserve
 use Rattle.collection.specs.Room.{wanted}
@@ -20,13 +25,15 @@ use Rattle.collection.specs.Stops.{room_of}
 use Rattle.collection.specs.Log.{Went}
 use Rattle.ftl_device.specs.declared.device.Device.{Device}
 use Rattle.ftl_device.specs.declared.fault.DeviceFault.{DeviceFault}
-use Rattle.ftl_device.specs.declared.fault.DeviceFault.TheVariants.{OutOfMemory, BusFault}
+use Rattle.ftl_device.specs.declared.fault.DeviceFault.TheVariants.{OutOfRange, OutOfMemory, BusFault}
 use Rattle.ftl_device.specs.Device.{IsDevice}
 use Rattle.ftl_device.specs.Calls.{state_in, stop_of, IsWell, HasRescued, HasWorked, HasFallen, IsQuiet}
-use Rattle.ftl_device.specs.Changes.{RefusesUpkeep, ProgramsSector, LeavesUnpinned}
+use Rattle.ftl_device.specs.Changes.{Changes, Upkeeps, RefusesUpkeep, ProgramsSector, LeavesUnpinned}
 use Rattle.ftl_device.specs.Flush.{first_of, IsFlushedOut}
 use Rattle.ftl_device.specs.FlushSteps.{HasFlushed}
 use Rattle.ftl_device.specs.Counts.{is_bad_by, is_flush, IsShownByRefusal, IsLeftReadOnly}
+use Rattle.ftl_device.specs.Read.{LeavesRead, IsReadRefusal}
+use Rattle.ftl_device.specs.Renewed.{Finishes}
 use Rattle.ftl_device.specs.Stopped.{SurvivesStops}
 use Rattle.ftl_device.specs.Turn.{HasTurned}
 use Rattle.ftl_device.specs.Brings.{RescuesLowest}
@@ -96,11 +103,44 @@ Programs view (step.Trim sector) old result new = ProgramsSector view sector (st
 Programs view step.Flush old result new = OnOk result (HasFlushed view old.engine new.engine)
 Programs view step.Turn old result new = Unit {0}
 
+-- WHAT THE CONTRACT OF A READ SAYS (`Device::read`), whatever the die does: when it is refused, and that it only reads. One that is done gives the data
+-- area of the sound page in the buffer, which is of the sector, or 00h bytes where there is no such row. Where the die is honest, what it holds mounts.
+pub record TakesRead {N : Type 0} (view : View N) (sector : ℕ) (old : Device N) (result : Result (Unit {0}) DeviceFault) (bytes : List ℕ) (new : Device N) : Type 0 where
+  pub past : stop_of old.engine.fault ≡ None → old.engine.geometry.sectors ≤ sector → (result ≡ Err OutOfRange) × (new ≡ old)
+  pub within : sector < old.engine.geometry.sectors → result ≢ Err OutOfRange
+  pub faults : IfErr result IsReadRefusal
+  pub memory : LeavesRead sector result (ram old.engine) (ram new.engine) (page_in_buffer new.engine.scratch) (page_in_buffer new.engine.page) bytes
+  pub read_only : new.read_only ≡ old.read_only
+  pub only_reads : OnlyReads view old.engine.nand new.engine.nand
+  pub asked : AsksOnly view.called old.engine.nand new.engine.nand
+  pub reads : view.reads new.engine.nand ≤ view.reads old.engine.nand + 2
+  pub hit : IsSome (known old.engine.mapping sector) → view.reads new.engine.nand ≤ view.reads old.engine.nand + 1
+  pub cut : view.honest old.engine.nand ≡ true → stop_of old.engine.fault ≡ None → result ≡ Err BusFault
+      → EndsAt [] (view.recorded old.engine.nand) (view.recorded new.engine.nand)
+  pub mountable : view.honest old.engine.nand ≡ true → IsWell view.flash old → result ≢ Err BusFault → room_of (ram old.engine) ≤ 65536
+      → IsMountable old.engine.geometry (room_of (ram old.engine)) (image_in view.flash new.engine)
+
+-- AND THAT OF A FLUSH (`Device::flush`): beside what an upkeep says, the cached sectors stay; where the die is honest, no table page of version 1 is left
+pub record TakesFlush {N : Type 0} (view : View N) (old : Device N) (result : Result (Unit {0}) DeviceFault) (new : Device N) : Type 0 where
+  pub upkeeps : Upkeeps view step.Flush old result new
+  pub keys : keys_of new.engine.mapping.cached ≡ keys_of old.engine.mapping.cached
+  pub renewed : view.honest old.engine.nand ≡ true → IsWell view.flash old
+      → OnOk result (Finishes old.engine.geometry (image_in view.flash old.engine) (image_in view.flash new.engine))
+
+-- WHAT THE CONTRACT OF EACH COMMAND SAYS, also over a die that lies: so no refusal is told of a command that was done, and no read that was refused is told as done
+abbrev pub FulfilsCall : {N : Type 0} → View N → step.Command → Device N → Result (Unit {0}) DeviceFault → List ℕ → Device N → Type 0
+FulfilsCall view (step.Read sector) old result bytes new = TakesRead view sector old result bytes new
+FulfilsCall view (step.Write sector body) old result bytes new = Changes view sector (step.Write sector body) old result new
+FulfilsCall view (step.Trim sector) old result bytes new = Changes view sector (step.Trim sector) old result new
+FulfilsCall view step.Flush old result bytes new = TakesFlush view old result new
+FulfilsCall view step.Turn old result bytes new = Upkeeps view step.Turn old result new
+
 -- ONE CALL, as a run needs it: what holds whatever the die does, and then what is true of an honest die that gave every outcome.
 pub record Tells {N : Type 0} (view : View N) (old : Device N) (x : Exchange) (new : Device N) : Type 0 where
   pub device : IsDevice view.flash new
   pub sized : new.engine.geometry ≡ old.engine.geometry
   pub limits : HasLimitsOf old.engine.mapping new.engine.mapping
+  pub cursor : new.cursor ≡ old.cursor
   pub honest_is : view.honest new.engine.nand ≡ view.honest old.engine.nand
   pub failed_is : view.failed old.engine.nand ≤ view.failed new.engine.nand
   -- a stopped device answers its fault, and the fault that stopped it is the one that it answered
@@ -112,6 +152,7 @@ pub record Tells {N : Type 0} (view : View N) (old : Device N) (x : Exchange) (n
   pub happened : view.honest old.engine.nand ≡ true → IsWell view.flash old → x.result ≢ Err BusFault → Happened view old x new
   pub turned : TakesIfTurn view x.command old x.result new
   pub programs : Programs view x.command old x.result new
+  pub fulfils : FulfilsCall view x.command old x.result x.bytes new
   -- only a turn begins a collection that goes on after it, unless the call was stopped short
   pub pins : is_turn x.command ≡ false → LeavesUnpinned old x.result new
 

@@ -12,7 +12,7 @@ ghost use Rattle.command_queue.specs.Commands.{promised_command, is_turn, told_c
 ghost use Rattle.command_queue.specs.Exchanges.{exchanges_of, AreKnown};
 ghost use Rattle.command_queue.specs.Commands.{KeepsBytes, HaveKept};
 ghost use Rattle.command_queue.specs.Exchanges.{StopsDevice, StaysStopped};
-ghost use Rattle.command_queue.specs.Tells.{Happened, Tells, TakesIfTurn, Programs};
+ghost use Rattle.command_queue.specs.Tells.{Happened, Tells, TakesIfTurn, Programs, FulfilsCall};
 ghost use Rattle.command_queue.specs.Asked.{MigratesOne};
 ghost use Rattle.command_queue.specs.Told.{WasTold, ToldFrom, Until, RunsFrom};
 
@@ -24,9 +24,9 @@ use std::alloc::Global;
 
 /// Tells the device one command: a read that is done gives its bytes, and no other command changes
 /// them. It does what `read`, `write`, `trim`, `flush` and `turn` do, and says of each what a list
-/// of commands needs. A read programs and erases nothing. Of a turn it says all that `turn` says: what is
-/// rescued from bad blocks, how far a collection goes, and when it rests; and of a write, a trim and a
-/// flush all that they say of what they program.
+/// of commands needs, and all that its own contract says, also over a die that lies: of a read that is done
+/// whence its bytes are, of a write, a trim and a flush what they program, of a turn what is rescued from
+/// bad blocks, how far a collection goes, and when it rests; and of each when it is refused, and with what.
 ///
 /// # Errors
 ///
@@ -41,6 +41,7 @@ pub fn tell<N: Nand>(
     ensures device { IsDevice N.view.flash device.new }
     ensures geometry { device.new.engine.geometry ≡ device.old.engine.geometry }
     ensures limits { HasLimitsOf device.old.engine.mapping device.new.engine.mapping }
+    ensures cursor { device.new.cursor ≡ device.old.cursor }
     ensures honest { N.view.honest device.new.engine.nand ≡ N.view.honest device.old.engine.nand }
     ensures calm { N.view.calm device.new.engine.nand ≡ N.view.calm device.old.engine.nand }
     ensures room { HasDataArea device.old.engine.geometry command.entry bytes.new }
@@ -57,6 +58,7 @@ pub fn tell<N: Nand>(
         Happened N.view device.old (record { command = promised_command command.entry; result = result; bytes = bytes.new }) device.new }
     ensures turned { TakesIfTurn N.view (promised_command command.entry) device.old result device.new }
     ensures programs { Programs N.view (promised_command command.entry) device.old result device.new }
+    ensures fulfils { FulfilsCall N.view (promised_command command.entry) device.old result bytes.new device.new }
     ensures pins { is_turn (promised_command command.entry) ≡ false → LeavesUnpinned device.old result device.new }
 {
     match command {

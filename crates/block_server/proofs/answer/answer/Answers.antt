@@ -23,6 +23,7 @@ returns-clause-answers g c =
       device = its.device;
       sized = its.geometry;
       limits = its.limits;
+      cursor = its.cursor;
       honest_is = its.honest;
       failed_is = its.failed;
       stopped = its.stopped;
@@ -33,6 +34,7 @@ returns-clause-answers g c =
       happened = its.happened;
       turned = its.turned;
       programs = its.programs;
+      fulfils = its.fulfils;
       pins = its.pins;
     } in
     let status : c.status_for.result ≡ reply_status (reply_to_command asked c.tell-done.new.bytes c.tell-done.result) = c.status_for.ensures c.args.header c.args.body.now c.tell-done.new.bytes in

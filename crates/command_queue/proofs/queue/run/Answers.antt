@@ -25,6 +25,7 @@ loop-call-preserved g c =
       device = its.device;
       sized = its.geometry;
       limits = its.limits;
+      cursor = its.cursor;
       honest_is = its.honest;
       failed_is = its.failed;
       stopped = its.stopped;
@@ -35,6 +36,7 @@ loop-call-preserved g c =
       happened = its.happened;
       turned = its.turned;
       programs = its.programs;
+      fulfils = its.fulfils;
       pins = its.pins;
     } in
     record {

@@ -89,6 +89,42 @@ returns-in-Flush-clause-programs g c = rw c.in-Flush.is c.flush.ensures.programs
 pub returns-in-Turn-clause-programs : goal.returns-in-Turn-clause-programs
 returns-in-Turn-clause-programs g c = rw c.in-Turn.is tt
 
+-- ---- what its own contract says
+
+pub returns-in-Read-clause-fulfils : goal.returns-in-Read-clause-fulfils
+returns-in-Read-clause-fulfils g c =
+    let its = c.read.ensures in
+    rw c.in-Read.is (record {
+      past = its.past;
+      within = its.within;
+      faults = its.faults;
+      memory = its.memory;
+      read_only = its.read_only;
+      only_reads = its.only_reads;
+      asked = its.asked;
+      reads = its.reads;
+      hit = its.hit;
+      cut = its.cut;
+      mountable = its.mountable;
+    })
+
+pub returns-in-Write-clause-fulfils : goal.returns-in-Write-clause-fulfils
+returns-in-Write-clause-fulfils g c = rw c.in-Write.is c.write.ensures.changes
+
+pub returns-in-Trim-clause-fulfils : goal.returns-in-Trim-clause-fulfils
+returns-in-Trim-clause-fulfils g c = rw c.in-Trim.is c.trim.ensures.changes
+
+pub returns-in-Flush-clause-fulfils : goal.returns-in-Flush-clause-fulfils
+returns-in-Flush-clause-fulfils g c =
+    rw c.in-Flush.is (record {
+      upkeeps = c.flush.ensures.upkeeps;
+      keys = c.flush.ensures.keys;
+      renewed = c.flush.ensures.renewed;
+    })
+
+pub returns-in-Turn-clause-fulfils : goal.returns-in-Turn-clause-fulfils
+returns-in-Turn-clause-fulfils g c = rw c.in-Turn.is c.turn.ensures.upkeeps
+
 -- ---- only a turn pins a block
 
 pub returns-in-Read-clause-pins : goal.returns-in-Read-clause-pins
