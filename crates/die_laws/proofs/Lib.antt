@@ -1,2 +1,4 @@
 mod DieLemmas
+mod NameLemmas
 mod RecordLemmas
+mod RefusalLemmas

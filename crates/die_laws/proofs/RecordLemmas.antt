@@ -9,4 +9,4 @@ agreeing own behind behind' op (inl none) (inr on) = inl (on ∙ ap (noted (op �
 agreeing own behind behind' op (inr same) (inr on) = inr (on ∙ ap (noted (op ∷ [])) same)
 
 pub untouched_law : UntouchedLaw
-untouched_law s = refl
+untouched_law s = (refl, refl, refl)

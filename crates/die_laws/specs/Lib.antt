@@ -1,3 +1,5 @@
 pub mod Buses
+pub mod Names
 pub mod Records
+pub mod Refusals
 pub mod Stops

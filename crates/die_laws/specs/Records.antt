@@ -16,6 +16,6 @@ TellsSame own behind = (behind ≡ None) ⊎ (behind ≡ Some own)
 abbrev pub AgreeingLaw : Type 0
 AgreeingLaw = (own : Recording) (behind behind' : Option Recording) (op : Operation) → TellsSame own behind → RecordsOrEnds behind (op ∷ []) behind' → TellsSame (gained op own) behind'
 
--- the record of a die to which nothing was done yet tells of it
+-- THE RECORD OF A DIE TO WHICH NOTHING WAS DONE YET tells of it. There is nothing in its log, and nothing is at hand.
 abbrev pub UntouchedLaw : Type 0
-UntouchedLaw = (s : Flash) → IsRecordOf s (Some (untouched s))
+UntouchedLaw = (s : Flash) → IsRecordOf s (Some (untouched s)) × ((untouched s).log ≡ []) × ((untouched s).at_hand ≡ [])
