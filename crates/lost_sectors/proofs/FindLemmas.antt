@@ -23,7 +23,7 @@ use Rattle.translation_pages.specs.TranslationPage.{entry_at}
 use Rattle.translation_pages.specs.Entry.{entry_in, entry_of}
 use Rattle.file_die.specs.Store.{page_in}
 use Rattle.image_check.proofs.StaleLemmas.{end_of, pages_reach, place_of_sector, start_of}
-use Rattle.lost_sectors.specs.Lost.{Adds, DropsNone, is_listed_in, is_lost, is_lost_by, is_older, is_told, names_other, newest_sequence}
+use Rattle.lost_sectors.specs.Lost.{Adds, AddsUpTo, DropsNone, is_listed_in, is_lost, is_lost_by, is_older, is_told, names_other, newest_sequence}
 use Rattle.lost_sectors.proofs.LostLemmas.{newest_sequence_is, newest_sequence_none, none_is, same_of}
 
 -- ---- the page of a row
@@ -219,6 +219,39 @@ pages_all p g t old new all adds =
     let same : t * entries g ≡ translation_pages g * entries g = ap (λ k. k * entries g) all in
     let end : min (t * entries g) g.sectors ≡ g.sectors = omega (arith, reach, same) in
     subst (λ b. Adds p 0 b old new) end adds
+
+-- ---- as far as it came
+
+pub up_to : (p : ℕ → Bool) (first k end : ℕ) (old new : List Bool) → first ≤ k → k ≤ end → Adds p first k old new → AddsUpTo p first end old new
+up_to p first k end old new low high adds = record { reached = k; least = low; most = high; adds = adds }
+
+pub up_to_start : (p : ℕ → Bool) (first end : ℕ) (xs : List Bool) → first ≤ end → AddsUpTo p first end xs xs
+up_to_start p first end xs le = record { reached = first; least = omega arith; most = le; adds = adds_start p first xs }
+
+pub page_bounds : (g : Geometry) (t : ℕ) → min (t * entries g) g.sectors ≤ min ((t + 1) * entries g) g.sectors
+page_bounds g t = omega (arith, next_times t (entries g))
+
+pub told_up_to : (g : Geometry) (image : Image) (mark t first end sequence : ℕ) (body : List ℕ) (old new : List Bool) → t < translation_pages g → first ≡ t * entries g → end ≡ min g.sectors (first + entries g)
+    → newest_sequence image (Translation t) ≡ Some sequence → sequence < mark → ((i : ℕ) → entry_at body i ≡ entry_in image i (newest (marks image) (Translation t)))
+    → AddsUpTo (λ n. is_told image sequence (entry_at body (n - first)) n) first end old new → AddsUpTo (is_lost g image mark) (min (t * entries g) g.sectors) (min ((t + 1) * entries g) g.sectors) old new
+told_up_to g image mark t first end sequence body old new below at is found early each up =
+    let start : min (t * entries g) g.sectors ≡ t * entries g = first_of g t below in
+    let last : min ((t + 1) * entries g) g.sectors ≡ min g.sectors (t * entries g + entries g) = last_of g t in
+    record {
+      reached = up.reached;
+      least = omega (arith, start, at, up.least);
+      most = omega (arith, last, at, is, up.most);
+      adds = subst (λ a. Adds (is_lost g image mark) a up.reached old new) (at ∙ sym start) (adds_page g image mark t first up.reached sequence body old new at (omega (arith, is, up.most)) found early each up.adds);
+    }
+
+pub pages_up_to : (p : ℕ → Bool) (g : Geometry) (t : ℕ) (old mid new : List Bool) → Adds p 0 (min (t * entries g) g.sectors) old mid
+    → AddsUpTo p (min (t * entries g) g.sectors) (min ((t + 1) * entries g) g.sectors) mid new → AddsUpTo p 0 g.sectors old new
+pages_up_to p g t old mid new one up = record {
+  reached = up.reached;
+  least = omega arith;
+  most = omega (arith, up.most);
+  adds = adds_then p 0 (min (t * entries g) g.sectors) up.reached old mid new (omega arith) up.least one up.adds;
+}
 
 -- ---- answers of calls
 

@@ -76,6 +76,13 @@ pub record Adds (passes : ℕ → Bool) (first end : ℕ) (old new : List Bool) 
   pub inside : (n : ℕ) → first ≤ n → n < end → is_listed_in new n ≡ (is_listed_in old n || passes n)
   pub outside : (n : ℕ) → (n < first) ⊎ (end ≤ n) → is_listed_in new n ≡ is_listed_in old n
 
+-- so it is as far as it came, and past that nothing has changed
+pub record AddsUpTo (passes : ℕ → Bool) (first end : ℕ) (old new : List Bool) : Type 0 where
+  pub reached : ℕ
+  pub least : first ≤ reached
+  pub most : reached ≤ end
+  pub adds : Adds passes first reached old new
+
 -- none is taken off it
 pub record DropsNone (old new : List Bool) : Type 0 where
   pub size : length new ≡ length old

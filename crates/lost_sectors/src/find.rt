@@ -13,7 +13,7 @@ ghost use Rattle.translation_pages.specs.TranslationPage.{entry_at};
 ghost use Rattle.file_die.specs.Store.{page_in};
 ghost use Rattle.file_die.specs.Open.{OnlyLooks};
 ghost use Rattle.image_check.specs.Agrees.{Agrees, IsCertificateOf};
-ghost use Rattle.lost_sectors.specs.Lost.{Adds, DropsNone, is_lost, is_older, is_told, names_other, newest_sequence};
+ghost use Rattle.lost_sectors.specs.Lost.{Adds, AddsUpTo, DropsNone, is_lost, is_older, is_told, names_other, newest_sequence};
 
 use crate::fault::LostFault;
 use certificate::Certificate;
@@ -154,6 +154,8 @@ fn list_told<S: Store>(
     requires sectors { length lost.old ≡ geometry.now.sectors }
     ensures adds { OnOk result (S.honest store.old ≡ true → (capacity : ℕ) → Agrees geometry.now capacity (S.held store.old).pages certificate.now →
         Adds (λ n. is_told (S.held store.old).pages sequence (entry_at body.now (n - first)) n) first end lost.old lost.new) }
+    ensures only { S.honest store.old ≡ true → (capacity : ℕ) → Agrees geometry.now capacity (S.held store.old).pages certificate.now →
+        AddsUpTo (λ n. is_told (S.held store.old).pages sequence (entry_at body.now (n - first)) n) first end lost.old lost.new }
     ensures kept { DropsNone lost.old lost.new }
     ensures looks { OnlyLooks S.held S.honest store.old store.new }
     ensures settled { OnOk result (S.failed store.new ≡ S.failed store.old) }
@@ -189,6 +191,8 @@ fn list_page<S: Store>(
     requires sectors { length lost.old ≡ geometry.now.sectors }
     ensures adds { OnOk result (S.honest store.old ≡ true → (capacity : ℕ) → Agrees geometry.now capacity (S.held store.old).pages certificate.now →
         Adds (is_lost geometry.now (S.held store.old).pages mark) (min (t * entries geometry.now) geometry.now.sectors) (min ((t + 1) * entries geometry.now) geometry.now.sectors) lost.old lost.new) }
+    ensures only { S.honest store.old ≡ true → (capacity : ℕ) → Agrees geometry.now capacity (S.held store.old).pages certificate.now →
+        AddsUpTo (is_lost geometry.now (S.held store.old).pages mark) (min (t * entries geometry.now) geometry.now.sectors) (min ((t + 1) * entries geometry.now) geometry.now.sectors) lost.old lost.new }
     ensures kept { DropsNone lost.old lost.new }
     ensures looks { OnlyLooks S.held S.honest store.old store.new }
     ensures settled { OnOk result (S.failed store.new ≡ S.failed store.old) }
@@ -236,6 +240,8 @@ fn list_pages<S: Store>(
     requires sectors { length lost.old ≡ geometry.now.sectors }
     ensures adds { OnOk result (S.honest store.old ≡ true → (capacity : ℕ) → Agrees geometry.now capacity (S.held store.old).pages certificate.now →
         Adds (is_lost geometry.now (S.held store.old).pages mark) 0 geometry.now.sectors lost.old lost.new) }
+    ensures only { S.honest store.old ≡ true → (capacity : ℕ) → Agrees geometry.now capacity (S.held store.old).pages certificate.now →
+        AddsUpTo (is_lost geometry.now (S.held store.old).pages mark) 0 geometry.now.sectors lost.old lost.new }
     ensures kept { DropsNone lost.old lost.new }
     ensures looks { OnlyLooks S.held S.honest store.old store.new }
     ensures settled { OnOk result (S.failed store.new ≡ S.failed store.old) }
@@ -254,8 +260,8 @@ fn list_pages<S: Store>(
 ///
 /// # Errors
 ///
-/// `OutOfMemory` where a growth was refused: the store was not asked. `Store` where it failed to load a page. None is taken off the list, and the store's pages are as they were. (This
-/// project's.)
+/// `OutOfMemory` where a growth was refused: the store was not asked. `Store` where it failed to load a page: the lost sectors below some sector are on the list, and none else was added.
+/// None is taken off the list, and the store's pages are as they were. (This project's.)
 pub fn find_lost<S: Store>(
     alloc: Global,
     store: &mut S,
@@ -265,6 +271,8 @@ pub fn find_lost<S: Store>(
 ) -> Result<(), LostFault>
     ensures adds { OnOk result (S.honest store.old ≡ true → (capacity : ℕ) → Agrees (S.held store.old).geometry capacity (S.held store.old).pages certificate.now →
         length lost.old ≡ (S.held store.old).geometry.sectors → Adds (is_lost (S.held store.old).geometry (S.held store.old).pages mark) 0 (S.held store.old).geometry.sectors lost.old lost.new) }
+    ensures only { S.honest store.old ≡ true → (capacity : ℕ) → Agrees (S.held store.old).geometry capacity (S.held store.old).pages certificate.now →
+        length lost.old ≡ (S.held store.old).geometry.sectors → AddsUpTo (is_lost (S.held store.old).geometry (S.held store.old).pages mark) 0 (S.held store.old).geometry.sectors lost.old lost.new }
     ensures kept { DropsNone lost.old lost.new }
     ensures looks { OnlyLooks S.held S.honest store.old store.new }
     ensures settled { OnOk result (S.failed store.new ≡ S.failed store.old) }

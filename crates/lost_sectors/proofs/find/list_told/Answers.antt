@@ -3,7 +3,7 @@ use Rattle.translation_pages.specs.TranslationPage.{entry_at}
 use Rattle.file_die.specs.Store.{Held}
 use Rattle.image_check.specs.Agrees.{Agrees}
 use Rattle.lost_sectors.specs.Lost.{Adds, DropsNone, is_told}
-use Rattle.lost_sectors.proofs.FindLemmas.{adds_set, adds_skip, drops_set}
+use Rattle.lost_sectors.proofs.FindLemmas.{adds_set, adds_skip, drops_set, up_to}
 use Rattle.lost_sectors.proofs.find.list_told.Goals.{then-branch, else-branch}
 use Rattle.lost_sectors.proofs.find.list_told.Goals as goal
 
@@ -39,3 +39,13 @@ returns-clause-adds g c h capacity agrees =
     let p : ℕ → Bool = λ n. is_told (g.S.Store.held c.args.store.now).pages c.args.sequence (entry_at c.args.body.now (n - c.args.first)) n in
     let all : c.loop-sector.sector ≡ c.args.end = omega (arith, c.loop-sector-test.false, c.loop-sector.auto.sector-end c.requires.order) in
     subst (λ n. Adds p c.args.first n c.args.lost.now c.loop-sector.lost) all (c.loop-sector.invariant.adds h capacity agrees)
+
+pub returns-in_err-is_told-clause-only : goal.returns-in_err-is_told-clause-only
+returns-in_err-is_told-clause-only g c h capacity agrees =
+    let p : ℕ → Bool = λ n. is_told (g.S.Store.held c.args.store.now).pages c.args.sequence (entry_at c.args.body.now (n - c.args.first)) n in
+    up_to p c.args.first c.loop-sector.sector c.args.end c.args.lost.now c.loop-sector.lost c.loop-sector.auto.sector (omega (arith, c.loop-sector-test.true)) (c.loop-sector.invariant.adds h capacity agrees)
+
+pub returns-clause-only : goal.returns-clause-only
+returns-clause-only g c h capacity agrees =
+    let p : ℕ → Bool = λ n. is_told (g.S.Store.held c.args.store.now).pages c.args.sequence (entry_at c.args.body.now (n - c.args.first)) n in
+    up_to p c.args.first c.loop-sector.sector c.args.end c.args.lost.now c.loop-sector.lost c.loop-sector.auto.sector (c.loop-sector.auto.sector-end c.requires.order) (c.loop-sector.invariant.adds h capacity agrees)
