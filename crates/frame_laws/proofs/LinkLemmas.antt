@@ -2,7 +2,7 @@
 use Rattle.std.proofs.Common.{◌≡◌, ◌≢◌, ◌≤◌, ◌<◌, ◌⊎◌, ℕ, List, [], ◌∷◌, ◌++◌, length, Option, None, Some, refl, sym, ap, subst, ◌∙◌, append-nil, arith, inl, inr}
 use Rattle.std.specs.Io.KnownBytes.{Appends, Consumes, IsAtEnd}
 use Rattle.std.proofs.lemmas.Bool.{cases_eq}
-use Rattle.stream_bus.specs.Streamed.{HasRunOut, IsUnanswered, IsUnsent, ReadsAnswer, StreamWords, WasCut}
+use Rattle.stream_bus.specs.Streamed.{HasReadStopped, IsUnanswered, IsFrameUnsent, ReadsAnswer, StreamWords, WasCut}
 use Rattle.frame_laws.specs.Links.{ExchangeLaw, GoesShort, GoesWhole, HasBroken}
 
 appended : (written bytes : List ℕ) (before after : Option (List ℕ)) → before ≡ Some written → Appends before after bytes → after ≡ Some (written ++ bytes)
@@ -31,7 +31,7 @@ no_more (Some bytes) rest is ended = ap Some ended
 
 module _ {W R : Type 0} (t : StreamWords W R) (writer writer' : W) (reader reader' : R) (written left frame out : List ℕ) where
   -- a call of the writer failed
-  unsent : t.written writer ≡ Some written → t.left reader ≡ Some left → IsUnsent t.written t.write_fails writer writer' frame → reader' ≡ reader
+  unsent : t.written writer ≡ Some written → t.left reader ≡ Some left → IsFrameUnsent t.written t.write_fails writer writer' frame → reader' ≡ reader
       → GoesShort written left (t.written writer') (t.left reader') frame out × HasBroken t writer' reader'
   unsent wrote unread its same = (
     record {

@@ -6,7 +6,7 @@ use Rattle.std.proofs.KnownBytes.{Appends-trans, Consumes-trans}
 use Rattle.request_stream.specs.Frames.{SendsBytes}
 use Rattle.request_stream.proofs.Writing.{front_more}
 use Rattle.request_stream.specs.declared.reply.ServeFault.{ServeFault}
-use Rattle.stream_bus.specs.Streamed.{Carried, HasRunOut, IsOut, IsUnsent, ReadsInto, ReadsLess, ReadsPart, StreamWords}
+use Rattle.stream_bus.specs.Streamed.{Carried, HasReadStopped, IsFrameOut, IsFrameUnsent, ReadsInto, ReadsLess, ReadsPart, StreamWords}
 
 -- behind a status 0
 pub part_behind : (a b c : Option (List ℕ)) (status size : ℕ) → status ≡ 0 → Consumes a b (status ∷ []) → ReadsLess b c size → ReadsPart a c size
@@ -19,7 +19,7 @@ part_behind a b c status size is read less = record {
 -- a frame that was written, and then handed on or not
 pub handed_then : {W : Type 0} (written : W → Option (List ℕ)) (hands fails : W → W → Type 0) (old mid new : W) (frame : List ℕ) (r : Result (Unit {0}) ServeFault)
     → Appends (written old) (written mid) frame → SendsBytes (written mid) (written new) [] r → OnErr r (fails mid new) → OnOk r (hands mid new)
-    → MatchResult r (λ _. IsOut written hands old new frame) (λ _. IsUnsent written fails old new frame)
+    → MatchResult r (λ _. IsFrameOut written hands old new frame) (λ _. IsFrameUnsent written fails old new frame)
 handed_then written hands fails old mid new frame (Ok done) first second failed handed = record {
   sent = subst (Appends (written old) (written new)) (append-nil frame) (Appends-trans (written old) (written mid) (written new) frame [] first second);
   handed = (mid, handed);
@@ -30,7 +30,7 @@ handed_then written hands fails old mid new frame (Err fault) first second faile
 }
 
 -- a frame that went out, and what was read
-pub carried_then : {W R : Type 0} (t : StreamWords W R) (writer writer' : W) (reader reader' : R) (frame out : List ℕ) (r : Result ℕ ServeFault) → IsOut t.written t.hands writer writer' frame
-    → ReadsInto (t.left reader) (t.left reader') out r → OnErr r (HasRunOut t.left t.read_fails reader') → Carried t writer writer' reader reader' frame out r
+pub carried_then : {W R : Type 0} (t : StreamWords W R) (writer writer' : W) (reader reader' : R) (frame out : List ℕ) (r : Result ℕ ServeFault) → IsFrameOut t.written t.hands writer writer' frame
+    → ReadsInto (t.left reader) (t.left reader') out r → OnErr r (HasReadStopped t.left t.read_fails reader') → Carried t writer writer' reader reader' frame out r
 carried_then t writer writer' reader reader' frame out (Ok status) went its cause = record { went = went; answered = its }
 carried_then t writer writer' reader reader' frame out (Err fault) went its cause = inr (record { went = went; part = its; cause = cause })
