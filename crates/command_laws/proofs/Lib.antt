@@ -2,3 +2,5 @@ mod CommandLemmas
 mod RescueLemmas
 mod MigrationLemmas
 mod QueueLemmas
+mod AskedLemmas
+mod RefusalLemmas

@@ -5,3 +5,4 @@ pub mod Rescues
 pub mod Migrations
 pub mod Records
 pub mod Queued
+pub mod Refusals

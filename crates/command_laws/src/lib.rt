@@ -10,6 +10,7 @@ ghost use Rattle.command_laws.specs.Images.{HeldCertificateLaw, OtherGeometryLaw
 ghost use Rattle.commands.specs.Serve.{driver_view};
 ghost use Rattle.command_laws.specs.Migrations.{CallsCountedLaw, MigratedLaw, FirstBringsLowestLaw, NumberLaw, SettledLaw, EndsShortLaw, MigrateDoneLaw, MigrateStopsLaw};
 ghost use Rattle.command_laws.specs.Lines.{ToldLaw, WholeLineLaw, UnprintedLaw, FailedStoreLaw, StoresInOrderLaw, UnstoredLaw};
+ghost use Rattle.command_laws.specs.Refusals.{CapacityLaw, InputKeptLaw, RowPastDieLaw, SectorPastLastLaw, StopToldLaw, TooFewGoodLaw, UnreadFileLaw};
 
 use commands::FileStore;
 
@@ -79,4 +80,20 @@ pub fn queue_laws()
 /// The driver of the die that the program serves tells a record of what it did, at each moment. (This project.)
 pub fn record_laws()
     ensures served { ServedTellsLaw }
+{}
+
+/// What a refusal says of what the command was given: the row or the sector that was asked for is past the last, the good blocks are too few, the
+/// capacity is 0 or above 65536, the file may not be read; and what stopped a server is what it tells. (This project.)
+pub fn refusal_laws<F: FileStore>()
+    ensures row { RowPastDieLaw F.gives }
+    ensures sector { SectorPastLastLaw F.gives }
+    ensures good { TooFewGoodLaw F.gives }
+    ensures capacity { CapacityLaw F.gives }
+    ensures unread { UnreadFileLaw F.gives }
+    ensures stopped { StopToldLaw F.gives }
+{}
+
+/// A run leaves standard input as it was, unless it is one of `serve`. (This project.)
+pub fn input_laws<F: FileStore>()
+    ensures kept { InputKeptLaw F.gives }
 {}
