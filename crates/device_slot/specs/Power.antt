@@ -37,7 +37,7 @@ abbrev pub look_reads : Geometry → ℕ
 look_reads g = row_count g + translation_pages g
 
 -- AT MOST SO MANY LOOKS AT A DIE: it was asked for reads alone
-pub record HasLooked {N : Type 0} (view : View N) (g : Geometry) (many : ℕ) (old new : N) : Type 0 where
+pub record LooksAtMost {N : Type 0} (view : View N) (g : Geometry) (many : ℕ) (old new : N) : Type 0 where
   pub only_reads : OnlyReads view old new
   pub most_reads : view.reads new ≤ view.reads old + many * look_reads g
 
@@ -188,7 +188,7 @@ pub record FlushesLarger {N : Type 0} (view : View N) (g : Geometry) (many entri
   pub begun : IsDeviceBegun view larger
   pub sized : larger.engine.geometry ≡ g
   pub entries_are : larger.engine.mapping.capacity ≡ entries
-  pub looked : HasLooked view g many nand larger.engine.nand
+  pub looked : LooksAtMost view g many nand larger.engine.nand
   pub pages : view.honest nand ≡ true → view.flash larger.engine.nand ≡ view.flash nand
   pub answer : Result (Unit {0}) DeviceFault
   pub ends : EndsFlush answer
@@ -199,7 +199,7 @@ pub record FlushesLarger {N : Type 0} (view : View N) (g : Geometry) (many entri
 -- A START WITHOUT A FLUSH: one look, with the cache that was asked for; an honest die is as it was
 pub record IsStartedAtOnce {N : Type 0} (view : View N) (nand : N) (g : Geometry) (capacity : ℕ) (d : Device N) : Type 0 where
   pub cache_is : d.engine.mapping.capacity ≡ capacity
-  pub looked : HasLooked view g 1 nand d.engine.nand
+  pub looked : LooksAtMost view g 1 nand d.engine.nand
   pub pages : view.honest nand ≡ true → view.flash d.engine.nand ≡ view.flash nand
 
 -- A START WITH ONE: of an honest die more sectors were stale than the cache has entries, and a device with as many flushed; it began over what came of that,
@@ -211,7 +211,7 @@ pub record IsStartedFlushed {N : Type 0} (view : View N) (nand : N) (g : Geometr
   pub wanted : view.honest nand ≡ true → IsTooStale g capacity (view.flash nand).image stale
   pub given : N
   pub flushes : FlushesLarger view g many stale nand given
-  pub looked : HasLooked view g 2 given d.engine.nand
+  pub looked : LooksAtMost view g 2 given d.engine.nand
   pub pages : view.honest given ≡ true → view.flash d.engine.nand ≡ view.flash given
   pub again : view.honest nand ≡ true → flushes.answer ≡ Ok tt → d.engine.mapping.capacity ≡ capacity
 
@@ -223,12 +223,12 @@ IsStarted view nand g capacity d = IsStartedAtOnce view nand g capacity d ⊎ Is
 pub record HasTriedFlush {N : Type 0} (view : View N) (g : Geometry) (many : ℕ) (nand given : N) : Type 0 where
   pub larger : Device N
   pub begun : IsDeviceBegun view larger
-  pub looked : HasLooked view g many nand larger.engine.nand
+  pub looked : LooksAtMost view g many nand larger.engine.nand
   pub answer : Result (Unit {0}) DeviceFault
   pub left : Device N
   pub upkeeps : Upkeeps view step.Flush larger answer left
-  pub looked_after : HasLooked view g 2 left.engine.nand given
+  pub looked_after : LooksAtMost view g 2 left.engine.nand given
 
 -- or it was looked at, and no more
 abbrev pub HasTriedStart : {N : Type 0} → View N → Geometry → (many : ℕ) → (nand given : N) → Type 0
-HasTriedStart view g many nand given = HasLooked view g many nand given ⊎ HasTriedFlush view g many nand given
+HasTriedStart view g many nand given = LooksAtMost view g many nand given ⊎ HasTriedFlush view g many nand given

@@ -8,7 +8,7 @@ ghost use Rattle.image_check.specs.Stale.{stale_count};
 ghost use Rattle.ftl_device.specs.Calls.{array_in};
 ghost use Rattle.ftl_device.specs.Device.{IsDevice, IsAcceptedFor};
 ghost use Rattle.device_slot.specs.Begun.{IsDeviceBegun, IsDeviceKept};
-ghost use Rattle.device_slot.specs.Power.{look_reads, unpowered_nand, EndsFlush, FlushesLarger, HasLooked, HoldsSame, IsStarted, IsStartedFlushed, HasTriedStart, IsBrought, IsDieHandedBack, IsTooStale, IsCertificateUnaccepted, IsUnbrought, ArePagesUnmounted, IsUnsettled, IsUnsettledWith, StopsFlush, WantsCache};
+ghost use Rattle.device_slot.specs.Power.{look_reads, unpowered_nand, EndsFlush, FlushesLarger, LooksAtMost, HoldsSame, IsStarted, IsStartedFlushed, HasTriedStart, IsBrought, IsDieHandedBack, IsTooStale, IsCertificateUnaccepted, IsUnbrought, ArePagesUnmounted, IsUnsettled, IsUnsettledWith, StopsFlush, WantsCache};
 
 use certificate::Certificate;
 use ftl_device::{Device, DeviceFault, StartFault};
@@ -228,10 +228,10 @@ fn look<N: Nand>(
     ensures brings { IfOk result (IsBrought N.view nand geometry.now entries) }
     ensures pages { IfOk result (λ d. N.view.honest nand ≡ true → N.view.flash d.engine.nand ≡ N.view.flash nand) }
     ensures capacity { IfOk result (λ d. d.engine.mapping.capacity ≡ entries) }
-    ensures looked { IfOk result (λ d. HasLooked N.view geometry.now 1 nand d.engine.nand) }
+    ensures looked { IfOk result (λ d. LooksAtMost N.view geometry.now 1 nand d.engine.nand) }
     ensures fault { IfErr result (ArePagesUnmounted N.view nand geometry.now entries) }
     ensures given { IfErr result (λ fault. IsDieHandedBack N.view nand (unpowered_nand fault)) }
-    ensures looked_given { IfErr result (λ fault. HasLooked N.view geometry.now 1 nand (unpowered_nand fault)) }
+    ensures looked_given { IfErr result (λ fault. LooksAtMost N.view geometry.now 1 nand (unpowered_nand fault)) }
 {
     match start_mounted(alloc, nand, geometry, entries) {
         Ok(device) => Ok(device),
@@ -250,11 +250,11 @@ fn start_either<N: Nand>(
     requires least { 1 ≤ capacity }
     requires most { capacity ≤ 65536 }
     ensures brings { IfOk result (IsBrought N.view nand geometry.now capacity) }
-    ensures looked { IfOk result (λ d. HasLooked N.view geometry.now 2 nand d.engine.nand) }
+    ensures looked { IfOk result (λ d. LooksAtMost N.view geometry.now 2 nand d.engine.nand) }
     ensures pages { IfOk result (λ d. N.view.honest nand ≡ true → N.view.flash d.engine.nand ≡ N.view.flash nand) }
     ensures fault { IfErr result (IsUnbrought N.view nand geometry.now capacity) }
     ensures given { IfErr result (λ fault. IsDieHandedBack N.view nand (unpowered_nand fault)) }
-    ensures looked_given { IfErr result (λ fault. HasLooked N.view geometry.now 2 nand (unpowered_nand fault)) }
+    ensures looked_given { IfErr result (λ fault. LooksAtMost N.view geometry.now 2 nand (unpowered_nand fault)) }
 {
     let fault = match look(alloc, nand, geometry, capacity) {
         Ok(device) => return Ok(device),
@@ -316,7 +316,7 @@ pub fn start<N: Nand>(
     ensures started { IfOk result (IsStarted N.view nand geometry.now capacity) }
     // Where the cache has room for what is stale, nothing is written.
     ensures still { IfOk result (λ d. N.view.honest nand ≡ true → stale_count geometry.now (N.view.flash nand).image ≤ capacity → N.view.flash d.engine.nand ≡ N.view.flash nand) }
-    ensures looked_given { IfErr result (λ fault. N.view.honest nand ≡ true → stale_count geometry.now (N.view.flash nand).image ≤ capacity → HasLooked N.view geometry.now 1 nand (unpowered_nand fault)) }
+    ensures looked_given { IfErr result (λ fault. N.view.honest nand ≡ true → stale_count geometry.now (N.view.flash nand).image ≤ capacity → LooksAtMost N.view geometry.now 1 nand (unpowered_nand fault)) }
     ensures fault { IfErr result (IsUnsettled N.view nand geometry.now capacity) }
     ensures given { IfErr result (λ fault. IsDieHandedBack N.view nand (unpowered_nand fault)) }
     ensures tried { IfErr result (λ fault. HasTriedStart N.view geometry.now 2 nand (unpowered_nand fault)) }
