@@ -1,6 +1,7 @@
 /* Something is wrong with the answer to each frame of a short script, in each way: the status, a byte, an answer that ends too early or does not come, a read
  * or a write that fails. The library answers one of its numbers, and nothing else happens. A read that is done shows bytes that were once
- * written to that sector, or zeros; and a start over a link that is well again answers a number too.
+ * written to that sector, or zeros; and a start over a link that is well again answers a number too. Where a byte of a page is turned in a
+ * disk that was started well, nothing is lost.
  *
  *     garbled [N]     each Nth frame alone */
 #include <stdio.h>
@@ -10,7 +11,7 @@
 #include "script.h"
 
 static const char *const names[WRONG_LAST] = {
-    "nothing", "power gone before", "power gone after", "status", "byte", "answer too short", "no answer", "read -1", "write 0"};
+    "nothing", "power gone before", "power gone after", "status", "byte", "byte of a page", "answer too short", "no answer", "read -1", "write 0"};
 
 static struct die die;
 static struct list before, list;
@@ -73,11 +74,58 @@ static int one(enum wrong wrong, unsigned long at, uint8_t byte)
     return frames >= at;
 }
 
-static void each_frame(enum wrong wrong, uint8_t byte)
+/* Each sector is read, and done, as the list has it; of one also as the refused call was to leave it. */
+static void read_all(ftl_disk *disk, uint32_t refused, uint32_t version)
+{
+    for (uint32_t sector = 0; sector < script_shape.sectors; sector++) {
+        if (sector == refused) {
+            WANT(FTL_DONE, ftl_read(disk, sector, list.seen, list.bytes));
+            list_fill(&list, sector, version);
+            if (memcmp(list.seen, list.data, list.bytes) == 0)
+                continue;
+        }
+        WANT(FTL_DONE, list_read(&list, disk, sector));
+    }
+}
+
+/* A byte of a page is turned once the disk has started. False: the script came to its end before the frame. */
+static int nothing_lost(enum wrong wrong, unsigned long at, uint8_t byte)
+{
+    size_t live = heap_live;
+    uint32_t sector, refused = UINT32_MAX, version = 0, next;
+    unsigned long frames;
+    ftl_disk *disk = NULL;
+
+    picture_put(&used, &die);
+    port_fresh(&die);
+    list = before;
+    WANT(FTL_DONE, ftl_open(&script_shape, PORT, PORT, &disk));
+    WANT(FTL_DONE, ftl_start(disk));
+    frames = port.done;
+    port_wrong(wrong, at, byte);
+    for (unsigned nth = 0; nth < SCRIPT_CALLS; nth++) {
+        next = list.next;
+        if (known(script_call(nth, &list, disk, &sector)) != FTL_DONE && refused == UINT32_MAX && sector != UINT32_MAX) {
+            refused = sector;
+            version = list.next > next ? next : 0;
+        }
+    }
+    frames = port.done - frames;
+    WANT(FTL_DONE, ftl_stop(disk));
+    port_fresh(&die);
+    WANT(FTL_DONE, ftl_start(disk));
+    read_all(disk, refused, version);
+    ftl_close(disk);
+    THAT(heap_live == live);
+    cases++;
+    return frames >= at;
+}
+
+static void each_frame(int (*life)(enum wrong, unsigned long, uint8_t), enum wrong wrong, uint8_t byte)
 {
     unsigned long at = 1;
 
-    while (one(wrong, at, byte))
+    while (life(wrong, at, byte))
         at += stride;
     printf("%s %02Xh at %lu frames\n", names[wrong], byte, at / stride);
 }
@@ -91,11 +139,13 @@ int main(int count, char **words)
     script_prepare(&die, &before);
     picture_take(&used, &die);
     for (size_t i = 0; i < sizeof statuses; i++)
-        each_frame(STATUS_IS, statuses[i]);
+        each_frame(one, STATUS_IS, statuses[i]);
     for (size_t i = 0; i < sizeof masks; i++)
-        each_frame(BYTE_TURNED, masks[i]);
+        each_frame(one, BYTE_TURNED, masks[i]);
+    for (size_t i = 0; i < sizeof masks; i++)
+        each_frame(nothing_lost, DATA_TURNED, masks[i]);
     for (int wrong = ANSWER_SHORT; wrong < WRONG_LAST; wrong++)
-        each_frame((enum wrong)wrong, 0);
+        each_frame(one, (enum wrong)wrong, 0);
     printf("%lu lives, %lu reads that were done, each of bytes that were written. Answers:", cases, reads);
     for (uint32_t i = 0; i < 256; i++)
         if (answers[i])

@@ -52,6 +52,8 @@ static void garble(void)
     }
     if (is_now(BYTE_TURNED))
         answer[port.done * 7919 % *left] ^= port.byte;
+    if (is_now(DATA_TURNED) && *left > 2)
+        answer[1 + port.done * 7919 % (*left - 1)] ^= port.byte;
     if (is_now(ANSWER_SHORT))
         *left -= 1;
     if (is_now(ANSWER_NONE))

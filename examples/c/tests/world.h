@@ -17,6 +17,7 @@ enum wrong {
     GONE_AFTER,    /* no power: the cycle is done, and its answer is lost */
     STATUS_IS,     /* the status is port.byte */
     BYTE_TURNED,   /* one byte of the answer is combined with port.byte */
+    DATA_TURNED,   /* the same, of the bytes that come out of a page; of other answers nothing is wrong */
     ANSWER_SHORT,  /* the answer ends one byte too early, and the link with it */
     ANSWER_NONE,   /* read answers 0 */
     READ_FAILS,    /* read answers -1 */
