@@ -1,6 +1,7 @@
 -- What was found of a store that was mounted is so of it as it was.
-use Rattle.std.proofs.Common.{◌≡◌, ◌∙◌, ℕ, Bool, true, List, ap, length, subst, sym}
+use Rattle.std.proofs.Common.{◌≡◌, ◌∙◌, inl, inr, ℕ, Bool, true, List, ap, length, refl, subst, sym}
 use Rattle.page_layout.specs.declared.geometry.Geometry.{Geometry}
+use Rattle.page_layout.specs.Counter.{HasRisen}
 use Rattle.page_layout.specs.Page.{Image}
 use Rattle.certificate.specs.Claim.{Claim}
 use Rattle.file_die.specs.Store.{Held}
@@ -8,6 +9,9 @@ use Rattle.image_check.specs.Agrees.{Agrees}
 use Rattle.mount.specs.Mounted.{IsMounted}
 use Rattle.disk_server.specs.Opened.{HasCome}
 use Rattle.lost_sectors.specs.Lost.{Adds, is_lost}
+use Rattle.lost_sectors.specs.declared.fault.LostFault.{LostFault}
+use Rattle.lost_sectors.specs.declared.fault.LostFault.TheVariants as lost
+use Rattle.disk_damage.specs.Found.{IsUnfound, unfound}
 
 pub adds_found : {S : Type 0} (held : S → Held) (honest : S → Bool) (store mounted : S) (certificate : Claim) (mark : ℕ) (old new : List Bool) → HasCome held honest store mounted
     → (honest store ≡ true → IsMounted (held store).geometry 65536 (held store).pages certificate)
@@ -21,3 +25,9 @@ adds_found held honest store mounted certificate mark old new back is adds h siz
     subst (λ (x : Image). Agrees (held mounted).geometry 65536 x certificate) (sym pages) (subst (λ (g : Geometry). Agrees g 65536 (held store).pages certificate) (sym geo) (is h).agrees) in
     subst (λ (x : Image). Adds (is_lost (held store).geometry x mark) 0 (held store).geometry.sectors old new) pages
     (subst (λ (g : Geometry). Adds (is_lost g (held mounted).pages mark) 0 g.sectors old new) geo (adds (back.as_honest ∙ h) 65536 agrees (size ∙ sym (ap (λ (g : Geometry). g.sectors) geo))))
+
+-- why they were not found: a growth was refused, or a load failed, which was counted
+pub unfound_so : {S : Type 0} (held : S → Held) (honest : S → Bool) (failed : S → ℕ) (store mounted given : S) (fault : LostFault) → HasCome held honest store mounted
+    → (fault ≡ lost.Store → HasRisen (failed mounted) (failed given)) → IsUnfound held honest failed store (unfound fault)
+unfound_so held honest failed store mounted given lost.OutOfMemory back rose = inl (given, tt)
+unfound_so held honest failed store mounted given lost.Store back rose = inr (refl, record { mounted = mounted; back = back; given = given; rose = rose refl })
