@@ -1,10 +1,9 @@
 -- The words of a command ask for one thing.
 use Rattle.std.proofs.Common.{◌≡◌, ◌≢◌, ℕ, suc, ◌+◌, ◌<◌, List, [], ◌∷◌, ◌++◌, length, get_or, Some, refl, sym, ◌∙◌, ap, subst, arith}
-use Rattle.std.proofs.Math.Bool.{Bool-set}
-use Rattle.std.proofs.Math.Bridge.{le_prop}
 use Rattle.page_layout.specs.declared.geometry.Geometry.{Geometry}
-use Rattle.page_layout.specs.Limits.{IsWithinLimits}
 use Rattle.page_layout.specs.Faults.{HasNumbers}
+use Rattle.certificate.specs.Claim.{sizes_of}
+use Rattle.ftl_device.proofs.GeometryLemmas.{same_geometry}
 use Rattle.program_words.specs.declared.numbers.GeometryNumbers.{GeometryNumbers}
 use Rattle.program_words.specs.Numbers.{SpellsGeometry, SpellsNumbers, StartsWithNumber, number_of}
 use Rattle.program_words.proofs.NumberLemmas.{no_comma}
@@ -14,30 +13,6 @@ use Rattle.command_words.specs.declared.words.FileWords.{FileWords}
 use Rattle.command_words.specs.declared.words.ImageWords.{ImageWords}
 
 -- ---- a geometry is its numbers
-
-record Sizes : Type 0 where
-  data_bytes : ℕ
-  spare_bytes : ℕ
-  pages : ℕ
-  blocks : ℕ
-  sectors : ℕ
-
-abbrev sizes_of : Geometry → Sizes
-sizes_of g = record { data_bytes = g.data_bytes; spare_bytes = g.spare_bytes; pages = g.pages; blocks = g.blocks; sectors = g.sectors }
-
-abbrev AreLimited : Sizes → Type 0
-AreLimited z = IsWithinLimits z.data_bytes z.spare_bytes z.pages z.blocks z.sectors
-
-limited_once : (z : Sizes) (l k : AreLimited z) → l ≡ k
-limited_once z l k =
-    let once : IsProp (AreLimited z) = hlevel (Bool-set, le_prop) in
-    once l k
-
-abbrev sized : (z : Sizes) → AreLimited z → Geometry
-sized z l = record { data_bytes = z.data_bytes; spare_bytes = z.spare_bytes; pages = z.pages; blocks = z.blocks; sectors = z.sectors; limits = l }
-
-by_sizes : (a b : Geometry) → sizes_of a ≡ sizes_of b → a ≡ b
-by_sizes a b e = subst (λ (w : Sizes). (k : AreLimited w) → a ≡ sized w k) e (λ k. ap (sized (sizes_of a)) (limited_once (sizes_of a) a.limits k)) b.limits
 
 abbrev list_of : GeometryNumbers → List ℕ
 list_of z = z.data_bytes ∷ z.spare_bytes ∷ z.pages ∷ z.blocks ∷ z.sectors ∷ []
@@ -97,7 +72,7 @@ one_list text (n ∷ k ∷ ns) (m ∷ l ∷ ms) long x y =
 
 one_geometry : (text : List ℕ) (a b : GeometryNumbers) (g h : Geometry) → SpellsGeometry text a → SpellsGeometry text b
     → HasNumbers a.data_bytes a.spare_bytes a.pages a.blocks a.sectors g → HasNumbers b.data_bytes b.spare_bytes b.pages b.blocks b.sectors h → g ≡ h
-one_geometry text a b g h x y is also = by_sizes g h (same_sizes a b g h (one_list text (list_of a) (list_of b) refl x y) is also)
+one_geometry text a b g h x y is also = same_geometry g h (same_sizes a b g h (one_list text (list_of a) (list_of b) refl x y) is also)
 
 -- ---- so of the words
 
