@@ -118,7 +118,7 @@ impl<B: ChipBus> ChipDriver<B> {
 }
 
 impl<B: ChipBus> NoisyNand for ChipDriver<B> {
-    ghost use Rattle.std.specs.Prelude.{◌≡◌, ◌<◌, ◌≤◌, ◌++◌, [], ◌∷◌, Some, true, length, take, IfOk, OnErr, OnOk};
+    ghost use Rattle.std.specs.Prelude.{◌≡◌, ◌<◌, ◌≤◌, [], ◌∷◌, Some, true, length, take, IfOk, OnErr, OnOk};
     ghost use Rattle.page_layout.specs.Counter.{HasRisen};
     ghost use Rattle.page_layout.specs.Flash.{Erase, IsWhole, Program, Steps, block_at, page_at};
     ghost use Rattle.page_layout.specs.Geometry.{row_count};
@@ -126,9 +126,7 @@ impl<B: ChipBus> NoisyNand for ChipDriver<B> {
     ghost use Rattle.page_layout.specs.Recording.{Records, EndsAt, EndsIn, asked_program, asked_erase};
     ghost use Rattle.onfi_cycles.specs.Driver.{seen};
     ghost use Rattle.onfi_cycles.specs.Outcomes.{is_passed};
-    ghost use Rattle.corrected_nand.specs.Told.{gained_by};
-    ghost use Rattle.onfi_cycles.specs.Sent.{SendsRead};
-    ghost use Rattle.onfi_cycles.specs.Spelling.{read_cycles};
+    ghost use Rattle.corrected_nand.specs.Driven.{ChipReads, ChipPrograms, ChipErases};
     ghost use Rattle.page_code.specs.Layout.{coded, outer_bytes};
 
     ghost flash = { λ c. seen c.geometry (B.chip c.driver.bus) };
@@ -139,8 +137,12 @@ impl<B: ChipBus> NoisyNand for ChipDriver<B> {
 
     ghost recorded = { λ c. Some c.told };
 
-    // The cycles of one read, and what they put out.
-    ghost asked = { λ old row answer put new. SendsRead B.called old.driver.bus (read_cycles row old.geometry.data_bytes (outer_bytes old.geometry)) (put.body ++ put.spare) answer new.driver.bus };
+    // Which cycles each call sends, and what it leaves.
+    ghost asked = { λ old row answer put new. ChipReads B.called row answer put old new };
+
+    ghost asked_to_program = { λ old row p answer new. ChipPrograms B.chip B.called row p answer old new };
+
+    ghost asked_to_erase = { λ old block answer new. ChipErases B.chip B.called block answer old new };
 
     fn read_page(
         &mut self,
@@ -172,9 +174,8 @@ impl<B: ChipBus> NoisyNand for ChipDriver<B> {
         ensures failed { self.old.driver.failures ≤ self.new.driver.failures }
         ensures rose { OnErr result (HasRisen self.old.driver.failures self.new.driver.failures) }
 
-        // Over any chip.
-        ensures told { self.new.told ≡ gained_by result (λ outcome. Program row (page body.now (take self.old.geometry.spare_bytes outer.now)) (is_passed outcome) (page_at (B.chip self.new.driver.bus) row))
-            (asked_program row (page body.now (take self.old.geometry.spare_bytes outer.now))) self.old.told }
+        // Over any chip: just the cycles of this program, and its answer by them; its record; each fault counted once.
+        ensures asked { ChipPrograms B.chip B.called row (page body.now outer.now) result self.old self.new }
     {
         let answer = self.driver.program(row, body, outer);
         self.history = DieHistory::of(&ProgrammedChip {
@@ -205,8 +206,8 @@ impl<B: ChipBus> NoisyNand for ChipDriver<B> {
         ensures failed { self.old.driver.failures ≤ self.new.driver.failures }
         ensures rose { OnErr result (HasRisen self.old.driver.failures self.new.driver.failures) }
 
-        // Over any chip.
-        ensures told { self.new.told ≡ gained_by result (λ outcome. Erase block (is_passed outcome) (block_at (seen self.old.geometry (B.chip self.new.driver.bus)) block)) (asked_erase self.old.geometry block) self.old.told }
+        // Over any chip: just the cycles of this erase, and its answer by them; its record; each fault counted once.
+        ensures asked { ChipErases B.chip B.called block result self.old self.new }
     {
         let answer = self.driver.erase(block);
         self.history = DieHistory::of(&ErasedChip {
