@@ -6,7 +6,7 @@ use Rattle.std.proofs.lemmas.List.{ext_get_or, get_or-replicate, length-replicat
 use Rattle.page_layout.specs.declared.geometry.Geometry.{Geometry}
 use Rattle.page_layout.specs.Geometry.{row_count}
 use Rattle.page_layout.specs.Page.{Page, page}
-use Rattle.page_layout.specs.Flash.{no_page}
+use Rattle.page_layout.specs.Flash.{no_page, with_block}
 use Rattle.onfi_cycles.specs.Cycles.{page_of}
 use Rattle.page_code.specs.Layout.{outer_bytes}
 use Rattle.file_die.specs.Bytes.{Bytes, piece}
@@ -57,6 +57,17 @@ pub puts_shown : {F : Type 0} → (held : F → Bytes) (old new : Rows F) (row :
 puts_shown held old new row bytes p done e is w =
     subst (λ (z : Geometry). Puts (held_in held (page_as_read old.geometry) old) row p done (held_in held (page_as_read z) new)) (sym e)
     (subst (λ (q : Page). Puts (held_in held (page_as_read old.geometry) old) row q done (held_in held (page_as_read old.geometry) new)) is w)
+
+-- a clear of a block is of erased pages with erased codes, as they stand
+pub clears_with_codes : {F : Type 0} → (held : F → Bytes) (old new : Rows F) (block : ℕ) → old.size ≡ coded_bytes old.geometry → new.geometry ≡ old.geometry → new.size ≡ old.size
+    → (held_in held (page_of old.geometry) new).pages ≡ with_block old.geometry.pages block (replicate old.geometry.pages (page_of old.geometry (replicate old.size 255))) (held_in held (page_of old.geometry) old).pages
+    → image_with_codes new.geometry (held new.file).bytes ≡ with_block old.geometry.pages block (replicate old.geometry.pages (erased_with_codes old.geometry)) (image_with_codes old.geometry (held old.file).bytes)
+clears_with_codes held old new block sized same size h =
+    let g : Geometry = old.geometry in
+    ap (λ (z : Geometry). image_with_codes z (held new.file).bytes) same
+    ∙ (ap (λ n. read_rows (page_of g) n (row_count g) (held new.file).bytes) (sym (size ∙ sized)) ∙ (ap (λ (z : Geometry). read_rows (page_of g) new.size (row_count z) (held new.file).bytes) (sym same)
+    ∙ (h ∙ (ap (λ p. with_block g.pages block (replicate g.pages p) (read_rows (page_of g) old.size (row_count g) (held old.file).bytes)) (blank_page g old.size sized)
+    ∙ ap (λ n. with_block g.pages block (replicate g.pages (erased_with_codes g)) (read_rows (page_of g) n (row_count g) (held old.file).bytes)) sized))))
 
 -- ---- erased pages
 

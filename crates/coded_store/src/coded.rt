@@ -2,12 +2,13 @@
 ghost use Rattle.std.specs.Prelude.{◌≡◌, ◌≢◌, ◌<◌, ◌≤◌, ◌^◌, ℕ, ◌*◌, ◌&&◌, ◌==◌, true, false, length, replicate, slice_set, None, OnErr, OnOk, OnSome, IfOk, IfErr, IfNone, is_ok};
 ghost use Rattle.page_layout.specs.Counter.{HasRisen};
 ghost use Rattle.page_layout.specs.Geometry.{row_count, page_bytes};
+ghost use Rattle.page_layout.specs.Flash.{with_block};
 ghost use Rattle.onfi_cycles.specs.Cycles.{page_of};
 ghost use Rattle.page_code.specs.Layout.{coded};
 ghost use Rattle.file_die.specs.Bytes.{HasRefused};
 ghost use Rattle.file_die.specs.Rows.{FailsSync, TellsEnd, TellsFull};
 ghost use Rattle.file_die.specs.Store.{Loads, Puts, Clears, Syncs, page_in};
-ghost use Rattle.coded_store.specs.Reading.{coded_bytes, page_as_read, wrong_with};
+ghost use Rattle.coded_store.specs.Reading.{coded_bytes, erased_with_codes, page_as_read, wrong_with};
 ghost use Rattle.coded_store.specs.Coded.{none_read, turned_of, mended_of, reading, standing_with_codes, is_reading_kept, ShowsRow};
 
 use crate::show::{coded_length, show, spell};
@@ -114,6 +115,7 @@ impl<F: ByteFile> CodedStore<F> {
     where
         F: Drop,
         ensures made { IfOk result (λ store. (store.rows.geometry ≡ geometry) × (store.rows.failures ≡ 0) × (store.rows.fault ≡ None) × (store.wrong ≡ none_read geometry)) }
+        ensures unfilled { IfOk result (λ store. store.rows.full ≡ false) }
         ensures honest { IfOk result (λ store. is_reading_kept F.held F.honest F.tells store ≡ (F.honest file && (F.tells file (coded_bytes geometry) (page_as_read geometry) && ((F.held file).failed_syncs == 0)))) }
         ensures bytes { IfOk result (λ store. F.honest file ≡ true → (F.held store.rows.file).bytes ≡ (F.held file).bytes) }
         ensures whole { IfOk result (λ store. F.honest file ≡ true → length (F.held file).bytes ≡ row_count geometry * coded_bytes geometry) }
@@ -241,6 +243,10 @@ impl<F: ByteFile> Store for CodedStore<F> {
         ensures failed { self.old.rows.failures ≤ self.new.rows.failures }
         ensures settled { OnOk result (self.new.rows.failures ≡ self.old.rows.failures) }
         ensures rose { OnErr result (HasRisen self.old.rows.failures self.new.rows.failures) }
+
+        // Its rows stand as erased pages, whose codes are erased too, and all others as they did. What was wrong as rows were last read stays.
+        ensures stands { OnOk result (F.honest self.old.rows.file ≡ true → standing_with_codes F.held self.new
+            ≡ with_block self.old.rows.geometry.pages block (replicate self.old.rows.geometry.pages (erased_with_codes self.old.rows.geometry)) (standing_with_codes F.held self.old)) }
         ensures untold { self.new.wrong ≡ self.old.wrong }
 
         // Whatever the file does: it is full just where the file's last answer was that.

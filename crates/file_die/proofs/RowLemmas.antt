@@ -336,6 +336,48 @@ erased_piece size count k lt =
     let s : suc k * size ≡ k * size + size = omega arith in
     ap (take size) (drop-replicate (k * size) (count * size) 255) ∙ take-replicate size (count * size - k * size) 255 (omega (arith, m, s))
 
+-- a block of which all bytes were made FFh: each of its rows reads as such bytes do, and every other one as it did
+pub rows_blank : (reads : List ℕ → Page) (g : Geometry) (size block at : ℕ) (given : List ℕ) (p : Page) (s t : Bytes) → length s.bytes ≡ row_count g * size → block < g.blocks → at ≡ block * g.pages * size → given ≡ replicate (g.pages * size) 255
+    → reads (replicate size 255) ≡ p → WritesAll s at given true t → read_rows reads size (row_count g) t.bytes ≡ with_block g.pages block (replicate g.pages p) (read_rows reads size (row_count g) s.bytes)
+rows_blank reads g size block at given p s t whole lt a e is w =
+    let n : ℕ = row_count g in
+    let pages : ℕ = g.pages in
+    let first : ℕ = block * pages in
+    let in_die : first + pages ≤ n = block_within g block lt in
+    let end : (first + pages) * size ≤ n * size = mul-le-mul_right size in_die in
+    let sum : (first + pages) * size ≡ first * size + pages * size = omega arith in
+    let count : length given ≡ pages * size = ap length e ∙ length-replicate (pages * size) 255 in
+    let start : at ≤ length s.bytes = omega (arith, end, sum, whole, a) in
+    let here : (k : ℕ) → k < pages → reads (piece size (first + k) (over at given s.bytes)) ≡ p = λ k small.
+    ap reads (row_wanted size first pages at k given s.bytes a count start small ∙ (ap (piece size k) e ∙ erased_piece size pages k small)) ∙ is in
+    let old : Image = read_rows reads size n s.bytes in
+    let new : Image = read_rows reads size n t.bytes in
+    let blank : List Page = replicate pages p in
+    let long : length blank ≡ pages = length-replicate pages p in
+    let fits : first + pages ≤ length old = omega (arith, rows_length reads size n s.bytes, in_die) in
+    let size_is : length new ≡ length (with_block pages block blank old) = rows_length reads size n t.bytes ∙ sym (length_block pages block blank old long fits ∙ rows_length reads size n s.bytes) in
+    let in_block : (k : ℕ) → k < pages → page_in new (first + k) ≡ get_or (with_block pages block blank old) (first + k) no_page = λ k small.
+    row_is reads size n (first + k) t.bytes (omega (arith, in_die, small))
+    ∙ (ap (λ z. reads (piece size (first + k) z)) (w.written refl) ∙ (here k small ∙ sym (with_block-inside pages block k blank old long fits small ∙ get_or-replicate pages k p no_page small))) in
+    ext_get_or no_page new (with_block pages block blank old) size_is (λ row small. elim (cases_lt row first) [
+      | inl before ↦ outer row (inl before)
+      | inr ge ↦ elim (cases_lt row (first + pages)) [
+        | inl lower ↦
+            let k : ℕ = row - first in
+            let is_k : row ≡ first + k = omega (arith, ge) in
+            ap (page_in new) is_k ∙ (in_block k (omega (arith, ge, lower)) ∙ ap (λ q. get_or (with_block pages block blank old) q no_page) (sym is_k))
+        | inr past ↦ outer row (inr past)
+      ]
+    ])
+  where
+    outer : (row : ℕ) → (row < block * g.pages) ⊎ (block * g.pages + g.pages ≤ row) → page_in (read_rows reads size (row_count g) t.bytes) row ≡ get_or (with_block g.pages block (replicate g.pages p) (read_rows reads size (row_count g) s.bytes)) row no_page
+    outer row out =
+        let in_die : block * g.pages + g.pages ≤ row_count g = block_within g block lt in
+        let end : (block * g.pages + g.pages) * size ≤ row_count g * size = mul-le-mul_right size in_die in
+        let start : at ≤ length s.bytes = omega (arith, end, whole, a) in
+        same_row reads size (row_count g) row t.bytes s.bytes (rows_stay size (block * g.pages) g.pages at row given true s t a (ap length e ∙ length-replicate (g.pages * size) 255) start out w)
+        ∙ sym (other_row g.pages block row (replicate g.pages p) (read_rows reads size (row_count g) s.bytes) (length-replicate g.pages p) (omega (arith, rows_length reads size (row_count g) s.bytes, in_die)) out)
+
 pub clears : (reads : List ℕ → Page) (g : Geometry) (size block at : ℕ) (given : List ℕ) (done : Bool) (s t : Bytes) → IsReading g size reads → IsOfRows g size s → block < g.blocks → at ≡ block * g.pages * size → given ≡ replicate (g.pages * size) 255
     → WritesAll s at given done t → (IsTold size reads s (over at given s.bytes) s → IsTold size reads s (over at given s.bytes) t) → Clears (rows_held reads g size s) block done (rows_held reads g size t)
 clears reads g size block at given done s t r is lt a e w tells =
@@ -355,27 +397,8 @@ clears reads g size block at given done s t r is lt a e w tells =
     ap reads (row_wanted size first pages at k given s.bytes a count start small ∙ (ap (piece size k) e ∙ erased_piece size pages k small)) ∙ r.erased in
     let others : (row : ℕ) → row / pages ≢ block → page_in (read_rows reads size n t.bytes) row ≡ page_in (read_rows reads size n s.bytes) row = λ row ne.
     same_row reads size n row t.bytes s.bytes (rows_stay size first pages at row given done s t a count start (outside pages block row some ne) w) in
-    let old : Image = read_rows reads size n s.bytes in
-    let new : Image = read_rows reads size n t.bytes in
-    let blank : List Page = replicate pages (erased_page g) in
-    let long : length blank ≡ pages = length-replicate pages (erased_page g) in
-    let fits : first + pages ≤ length old = omega (arith, rows_length reads size n s.bytes, in_die) in
     record {
-      cleared = λ d.
-          let size_is : length new ≡ length (with_block pages block blank old) = rows_length reads size n t.bytes ∙ sym (length_block pages block blank old long fits ∙ rows_length reads size n s.bytes) in
-          let in_block : (k : ℕ) → k < pages → page_in new (first + k) ≡ get_or (with_block pages block blank old) (first + k) no_page = λ k small.
-          row_is reads size n (first + k) t.bytes (omega (arith, in_die, small))
-          ∙ (ap (λ z. reads (piece size (first + k) z)) (w.written d) ∙ (here k small ∙ sym (with_block-inside pages block k blank old long fits small ∙ get_or-replicate pages k (erased_page g) no_page small))) in
-          ext_get_or no_page new (with_block pages block blank old) size_is (λ row small. elim (cases_lt row first) [
-            | inl before ↦ outer row (inl before)
-            | inr ge ↦ elim (cases_lt row (first + pages)) [
-              | inl lower ↦
-                  let k : ℕ = row - first in
-                  let is_k : row ≡ first + k = omega (arith, ge) in
-                  ap (page_in new) is_k ∙ (in_block k (omega (arith, ge, lower)) ∙ ap (λ q. get_or (with_block pages block blank old) q no_page) (sym is_k))
-              | inr past ↦ outer row (inr past)
-            ]
-          ]);
+      cleared = λ d. rows_blank reads g size block at given (erased_page g) s t is.whole lt a e r.erased (subst (λ (b : Bool). WritesAll s at given b t) d w);
       torn = λ d row of_block.
           let k = inside pages block row some of_block in
           let lt_row : row < n = omega (arith, k.1, k.2, in_die) in
@@ -384,15 +407,6 @@ clears reads g size block at given done s t r is lt a e w tells =
       lasts = lasts_rows reads g size s t told.lasts;
       whole = λ _. images_of reads g size t r after;
     }
-  where
-    outer : (row : ℕ) → (row < block * g.pages) ⊎ (block * g.pages + g.pages ≤ row)
-        → page_in (read_rows reads size (row_count g) t.bytes) row ≡ get_or (with_block g.pages block (replicate g.pages (erased_page g)) (read_rows reads size (row_count g) s.bytes)) row no_page
-    outer row out =
-        let in_die : block * g.pages + g.pages ≤ row_count g = block_within g block lt in
-        let end : (block * g.pages + g.pages) * size ≤ row_count g * size = mul-le-mul_right size in_die in
-        let start : at ≤ length s.bytes = omega (arith, end, is.whole, a) in
-        same_row reads size (row_count g) row t.bytes s.bytes (rows_stay size (block * g.pages) g.pages at row given done s t a (ap length e ∙ length-replicate (g.pages * size) 255) start out w)
-        ∙ sym (other_row g.pages block row (replicate g.pages (erased_page g)) (read_rows reads size (row_count g) s.bytes) (length-replicate g.pages (erased_page g)) (omega (arith, rows_length reads size (row_count g) s.bytes, in_die)) out)
 
 pub syncs : (reads : List ℕ → Page) (g : Geometry) (size : ℕ) (done : Bool) (s t : Bytes) → IsReading g size reads → IsOfRows g size s → s.failed_syncs ≡ 0 → SyncsBytes s done t → (IsTold size reads s s.bytes s → IsTold size reads s s.bytes t)
     → Syncs (rows_held reads g size s) done (rows_held reads g size t)

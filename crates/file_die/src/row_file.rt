@@ -1,6 +1,7 @@
 //! The rows of a die in a file of bytes.
-ghost use Rattle.std.specs.Prelude.{◌≡◌, ◌≢◌, ◌<◌, ◌≤◌, ◌==◌, ◌&&◌, ℕ, ◌*◌, ◌^◌, true, false, List, length, None, Some, OnOk, OnErr, OnSome, IfOk, IfErr, IfNone, is_ok, slice_set};
+ghost use Rattle.std.specs.Prelude.{◌≡◌, ◌≢◌, ◌<◌, ◌≤◌, ◌==◌, ◌&&◌, ℕ, ◌*◌, ◌^◌, true, false, List, length, replicate, None, Some, OnOk, OnErr, OnSome, IfOk, IfErr, IfNone, is_ok, slice_set};
 ghost use Rattle.page_layout.specs.Page.{Page};
+ghost use Rattle.page_layout.specs.Flash.{with_block};
 ghost use Rattle.page_layout.specs.Geometry.{row_count};
 ghost use Rattle.page_layout.specs.Counter.{counted, HasRisen};
 ghost use Rattle.file_die.specs.Bytes.{Gives, HasRefused, piece};
@@ -196,6 +197,8 @@ impl<F: ByteFile> RowFile<F> {
     /// `StoreFault` where the file failed: each of these rows reads as it did, as an erased page, or as one without a sound record.
     pub fn erase(&mut self, block: u32) -> Result<(), StoreFault>
         requires in_range { block < self.old.geometry.blocks }
+        ensures cleared { is_ok result ≡ true → F.honest self.old.file ≡ true → (reads : List ℕ → Page) →
+            (held_in F.held reads self.new).pages ≡ with_block self.old.geometry.pages block (replicate self.old.geometry.pages (reads (replicate self.old.size 255))) (held_in F.held reads self.old).pages }
         ensures clears { (reads : List ℕ → Page) → IsReading self.old.geometry self.old.size reads → is_kept F.held F.honest F.tells reads self.old ≡ true →
             Clears (held_in F.held reads self.old) block (is_ok result) (held_in F.held reads self.new) }
         ensures kept { (reads : List ℕ → Page) → is_kept F.held F.honest F.tells reads self.new ≡ is_kept F.held F.honest F.tells reads self.old }

@@ -1,10 +1,11 @@
 use Rattle.std.proofs.lemmas.Grind.{common_steps}
-use Rattle.std.proofs.Common.{◌≡◌, ◌∙◌, ◌*◌, ◌+◌, ◌<◌, ap, sym, subst, arith, ℕ, List, Bool, ◌≤◌, length}
+use Rattle.std.proofs.Common.{◌≡◌, ◌∙◌, ◌*◌, ◌+◌, ◌<◌, ap, refl, sym, subst, arith, ℕ, List, Bool, ◌≤◌, length}
 use Rattle.std.specs.Prelude.{slice_index}
 use Rattle.std.specs.Result.{is_ok}
+use Rattle.page_layout.specs.Page.{Page}
 use Rattle.file_die.specs.Store.{Held, Clears}
-use Rattle.file_die.specs.Rows.{held_in}
-use Rattle.file_die.proofs.RowLemmas.{counts_settled, full_told, room_settled, rows_held, clears, rows_of, kept_of, kept_settled, held_is, parts_written, block_within_rows, fits_blank}
+use Rattle.file_die.specs.Rows.{WritesAll, held_in}
+use Rattle.file_die.proofs.RowLemmas.{counts_settled, full_told, room_settled, rows_held, clears, rows_of, kept_of, kept_settled, held_is, parts_written, block_within_rows, rows_blank, fits_blank}
 use Rattle.file_die.proofs.row_file.RowFile.erase.Goals as goal
 
 pub invariant_of-self : goal.invariant_of-self
@@ -33,6 +34,11 @@ returns g c =
     let made = c.settle.ensures in
     let new = c.settle.new.self in
     rw (← c.self.view_is) (record {
+      cleared = λ d h reads.
+          let start : c.offset-start.result ≤ length s.bytes = omega (arith, l, c.self.invariant.whole h) in
+          let wrote = subst (λ (b : Bool). WritesAll s c.offset-start.result given b (held left)) (sym made.answer ∙ d) (c.write_all-answer.ensures.writes h start) in
+          ap (λ (z : Held). z.pages) (sym (held_is held reads new left i.geometry i.size made.file made.geometry made.size))
+          ∙ rows_blank reads i.geometry i.size c.args.block c.offset-start.result given _ s (held left) (c.self.invariant.whole h) lt at_is blank refl wrote;
       clears = λ reads r e.
           let kept = kept_of held g.F.ByteFile.honest g.F.ByteFile.tells reads _ e in
           let rows = rows_of held g.F.ByteFile.honest g.F.ByteFile.tells reads _ i.erased.items c.self.invariant e in
