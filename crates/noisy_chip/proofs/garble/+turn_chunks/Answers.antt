@@ -32,4 +32,4 @@ returns t c = λ e.
     let later : drop 3 codes ≡ codes_of (n - 1) (drop 256 body) = ap (drop 3) step ∙ drop_at (code_of (take 256 body)) (codes_of (n - 1) (drop 256 body)) 3 refl in
     let near = subst (λ z. AreNear (n - 1) z ys rest) its (c.turn_chunks.ensures (others ∙ (later ∙ ap (codes_of (n - 1)) (sym (its ∙ after_256 body s m))))) in
     subst (λ z. AreNear n body z (put_mid 3 (length (code ++ drop 3 codes) - 3) (code ++ drop 3 codes) rest)) (sym (tail_put s new (drop s body) ys size)) (subst (λ z. AreNear n body (new ++ ys) z) (sym (tail_put 3 code (drop 3 codes) rest three))
-    (more_near n s body new ys code rest none m size more three (c.turn_one.ensures first) near))
+    (more_near n s body new ys code rest none m size more three (c.turn_one.ensures.most first) near))
