@@ -2,15 +2,17 @@
 use Rattle.std.proofs.Common.{◌≡◌, ◌⊎◌, inl, inr, ◌<◌, ◌≤◌, ◌/◌, ℕ, Bool, true, false, List, length, get_or, Option, Some, None, IsSome, refl, sym, ap, ◌∙◌, subst, arith}
 use Rattle.std.proofs.lemmas.Bool.{both_ways, cases_Bool, cases_lt, cases_order}
 use Rattle.std.proofs.lemmas.List.{get_or_past}
-use Rattle.std.proofs.lemmas.Nat.{div_below}
+use Rattle.std.proofs.lemmas.Nat.{div-mul-add, div_below, mod-mul-add}
 use Rattle.page_layout.specs.declared.geometry.Geometry.{Geometry}
 use Rattle.page_layout.specs.declared.record.Record.{Record}
 use Rattle.page_layout.specs.Geometry.{row_count}
 use Rattle.page_layout.specs.Page.{Image}
 use Rattle.page_layout.specs.Array.{marks}
-use Rattle.crash_recovery.specs.Torn.{FindsCut, FindsCuts, FindsDead, HasSoundRun, IsBehind, IsCut, IsDead, IsDeadRow, IsFirstUnsound, IsTorn, NoneIsMarked, row_in}
+use Rattle.page_layout.proofs.GeometryLemmas.{row_within}
+use Rattle.crash_recovery.specs.Torn.{FindsCut, FindsCuts, FindsDead, HasSoundRun, IsBehind, IsCut, IsCutFrom, IsDead, IsDeadRow, IsFirstUnsound, IsTorn, NoneCut, NoneDead, NoneIsMarked, SomeCut, SomeDead, row_in}
 use Rattle.file_die.specs.Store.{Held, Syncs}
-use Rattle.crash_recovery.specs.Taken.{HasTaken, IsOf, LeavesErased, Recovers, RecoversSome, Takes, lasting}
+use Rattle.crash_recovery.specs.Taken.{HasTaken, IsOf, LeavesErased, Recovers, RecoversSome, Takes, WasCutBack, WasErasedAgain, lasting}
+use Rattle.crash_recovery.specs.Laws.{CutFirstLaw, LeftTornLaw, RecoveredLastsLaw, RecoveredTornLaw}
 use Rattle.crash_recovery.proofs.Rows.{page_below}
 use Rattle.crash_recovery.proofs.TakesLemmas.{has_taken, takes_more, takes_none, takes_sync, takes_then}
 
@@ -37,6 +39,13 @@ behind_cut g image mark cuts long finds row behind =
     let from : ℕ = get_or cuts (row / g.pages) 0 in
     let found : FindsCut g image mark (row / g.pages) from = finds.each (row / g.pages) (omega (arith, behind.0, long)) in
     record { page = from; from = found.cut (omega (arith, behind.1, page_below g row)); behind = behind.1 }
+
+pub is_cut_behind : (g : Geometry) (image : Image) (mark block page k : ℕ) → IsCutFrom g image mark block page → page ≤ k → k < g.pages → IsCut g image mark (row_in g block k)
+is_cut_behind g image mark block page k from le within = record {
+  page = page;
+  from = subst (λ b. IsCutFrom g image mark b page) (sym (div-mul-add block g.pages k within)) from;
+  behind = subst (λ n. page ≤ n) (sym (mod-mul-add block g.pages k within)) le;
+}
 
 pub cut_behind : (g : Geometry) (image : Image) (mark : ℕ) (cuts : List ℕ) → length cuts ≡ g.blocks → FindsCuts g image mark g.blocks cuts → (row : ℕ) → row < row_count g → IsCut g image mark row → IsBehind g cuts row
 cut_behind g image mark cuts long finds row within is_cut =
@@ -101,12 +110,21 @@ cut_ends g s m t u mark cuts passed is same passes long finds takes left kept sy
     (subst (λ (x : Geometry). LeavesErased (IsCut x s.pages mark) t) is all) syncs geometry
 
 pub cut_none : (g : Geometry) (s : Held) (mark : ℕ) (cuts passed : List ℕ) → g ≡ s.geometry → passed ≡ cuts → length cuts ≡ g.blocks → FindsCuts g s.pages mark g.blocks cuts
-    → ((k : ℕ) → k < length passed → g.pages ≤ get_or passed k 0) → (row : ℕ) → row < row_count s.geometry → ¬ IsCut s.geometry s.pages mark row
+    → ((k : ℕ) → k < length passed → g.pages ≤ get_or passed k 0) → NoneCut s.geometry s.pages mark
 cut_none g s mark cuts passed is passes long finds whole row within is_cut =
     let its : IsCut g s.pages mark row = subst (λ (x : Geometry). IsCut x s.pages mark row) (sym is) is_cut in
     let behind : IsBehind g cuts row = cut_behind g s.pages mark cuts long finds row (subst (λ x. row < row_count x) (sym is) within) its in
     let stays : (k : ℕ) → k < length cuts → g.pages ≤ get_or cuts k 0 = subst (λ cs. (k : ℕ) → k < length cs → g.pages ≤ get_or cs k 0) passes whole in
     omega (arith, behind.1, stays (row / g.pages) behind.0, page_below g row)
+
+pub cut_some : (g : Geometry) (s : Held) (mark : ℕ) (cuts passed : List ℕ) → g ≡ s.geometry → passed ≡ cuts → length cuts ≡ g.blocks → FindsCuts g s.pages mark g.blocks cuts
+    → ((k : ℕ) × (k < length passed) × (get_or passed k 0 < g.pages)) → SomeCut s.geometry s.pages mark
+cut_some g s mark cuts passed is passes long finds (k, lt, less) =
+    let block : k < g.blocks = omega (arith, lt, ap length passes, long) in
+    let from : ℕ = get_or cuts k 0 in
+    let page : from < g.pages = subst (λ cs. get_or cs k 0 < g.pages) passes less in
+    subst (λ (x : Geometry). SomeCut x s.pages mark) is
+    (row_in g k from, row_within g k from block page, is_cut_behind g s.pages mark k from from ((finds.each k block).cut page) (omega arith) page)
 
 -- ---- blocks that are erased again
 
@@ -148,24 +166,56 @@ dead_ends g s m n t u dead passed is same passes long finds syncs geometry takes
     (subst (λ (x : Geometry). LeavesErased (IsDeadRow x s.pages) t) is all) last after
 
 pub dead_none : (g : Geometry) (s : Held) (dead passed : List Bool) → g ≡ s.geometry → passed ≡ dead → length dead ≡ g.blocks → FindsDead g s.pages g.blocks dead → ((k : ℕ) → k < length passed → get_or passed k false ≡ false)
-    → (block : ℕ) → block < s.geometry.blocks → ¬ IsDead s.geometry s.pages block
+    → NoneDead s.geometry s.pages
 dead_none g s dead passed is passes long finds whole block within is_dead =
     let inside : block < g.blocks = subst (λ (x : Geometry). block < x.blocks) (sym is) within in
     let stays : (k : ℕ) → k < length dead → get_or dead k false ≡ false = subst (λ bs. (k : ℕ) → k < length bs → get_or bs k false ≡ false) passes whole in
     finds.not block inside (stays block (subst (λ n. block < n) (sym long) inside)) (subst (λ (x : Geometry). IsDead x s.pages block) (sym is) is_dead)
 
+pub dead_some : (g : Geometry) (s : Held) (dead passed : List Bool) → g ≡ s.geometry → passed ≡ dead → length dead ≡ g.blocks → FindsDead g s.pages g.blocks dead → ((k : ℕ) × (k < length passed) × (get_or passed k false ≡ true))
+    → SomeDead s.geometry s.pages
+dead_some g s dead passed is passes long finds (k, lt, told) =
+    let block : k < g.blocks = omega (arith, lt, ap length passes, long) in
+    subst (λ (x : Geometry). SomeDead x s.pages) is (k, block, finds.is k block (subst (λ bs. get_or bs k false ≡ true) passes told))
+
 -- ---- both
 
-pub recovers_end : (mark : ℕ) (s m t : Held) (changed : Bool) → m ≡ s → ((row : ℕ) → row < row_count s.geometry → ¬ IsCut s.geometry s.pages mark row)
-    → (changed ≡ true → HasTaken (IsDeadRow m.geometry m.pages) (lasting m) t) → (changed ≡ false → t ≡ m) → (changed ≡ false → (block : ℕ) → block < m.geometry.blocks → ¬ IsDead m.geometry m.pages block)
-    → Recovers mark s t changed
-recovers_end mark s m t true same uncut erased untouched undead = inr (subst (λ (h : Held). HasTaken (IsDeadRow h.geometry h.pages) (lasting h) t) same (erased refl))
+pub was_cut : (mark : ℕ) (s t : Held) → SomeCut s.geometry s.pages mark → HasTaken (IsCut s.geometry s.pages mark) s t → WasCutBack mark s t
+was_cut mark s t some taken = record { some = some; taken = taken }
+
+pub was_erased : (s t : Held) → SomeDead s.geometry s.pages → HasTaken (IsDeadRow s.geometry s.pages) (lasting s) t → WasErasedAgain s t
+was_erased s t some taken = record { some = some; taken = taken }
+
+pub recovers_end : (mark : ℕ) (s m t : Held) (changed : Bool) → m ≡ s → NoneCut s.geometry s.pages mark → (changed ≡ true → WasErasedAgain m t) → (changed ≡ false → t ≡ m)
+    → (changed ≡ false → NoneDead m.geometry m.pages) → Recovers mark s t changed
+recovers_end mark s m t true same uncut erased untouched undead = inr (uncut, subst (λ (h : Held). WasErasedAgain h t) same (erased refl))
 recovers_end mark s m t false same uncut erased untouched undead = (
   untouched refl ∙ same,
-  record { uncut = uncut; undead = subst (λ (h : Held). (block : ℕ) → block < h.geometry.blocks → ¬ IsDead h.geometry h.pages block) same (undead refl) },
+  record { uncut = uncut; undead = subst (λ (h : Held). NoneDead h.geometry h.pages) same (undead refl) },
 )
 
 pub recovers_some : (mark : ℕ) (s m t : Held) → m ≡ s → (Syncs m false t) ⊎ ((t ≡ m) ⊎ Takes (IsDeadRow m.geometry m.pages) (lasting m) t) → RecoversSome mark s t
 recovers_some mark s m t same (inl syncs) = inr (inl (subst (λ (h : Held). Syncs h false t) same syncs))
 recovers_some mark s m t same (inr (inl is)) = inl (subst (λ (h : Held). Takes (IsCut s.geometry s.pages mark) s h) (sym (is ∙ same)) (takes_none (IsCut s.geometry s.pages mark) s))
 recovers_some mark s m t same (inr (inr takes)) = inr (inr (subst (λ (h : Held). Takes (IsDeadRow h.geometry h.pages) (lasting h) t) same takes))
+
+-- ---- what that comes to
+
+pub recovered_lasts : RecoveredLastsLaw
+recovered_lasts mark s t (inl cut) = cut.taken.lasts
+recovered_lasts mark s t (inr (uncut, erased)) = erased.taken.lasts
+
+pub recovered_torn : RecoveredTornLaw
+recovered_torn mark s t (inl cut) nothing = nothing.uncut cut.some.0 cut.some.1 cut.some.2
+recovered_torn mark s t (inr (uncut, erased)) nothing = nothing.undead erased.some.0 erased.some.1 erased.some.2
+
+pub cut_first : CutFirstLaw
+cut_first mark s t (inl cut) some = cut.taken
+cut_first mark s t (inr (uncut, erased)) some = absurd (uncut some.0 some.1 some.2)
+
+pub left_torn : LeftTornLaw
+left_torn g image mark block nothing lt torn = record {
+  holds = λ none. nothing.undead block lt (record { torn = torn; none = none });
+  marked = λ page first unmarked. nothing.uncut (row_in g block page) (row_within g block page lt first.within)
+      (is_cut_behind g image mark block page page (record { torn = torn; first = first; unmarked = unmarked }) (omega arith) first.within);
+}

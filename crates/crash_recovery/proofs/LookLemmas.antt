@@ -10,7 +10,7 @@ use Rattle.page_layout.specs.declared.geometry.Geometry.{Geometry}
 use Rattle.page_layout.specs.declared.record.Key.TheVariants.{Table}
 use Rattle.page_layout.specs.declared.record.Record.{Record}
 use Rattle.page_layout.specs.Geometry.{entries, row_count, table_pages, translation_pages}
-use Rattle.page_layout.specs.Page.{Image, Page, page}
+use Rattle.page_layout.specs.Page.{Image, Page}
 use Rattle.page_layout.specs.Flash.{no_page}
 use Rattle.page_layout.specs.Sound.{record_of}
 use Rattle.page_layout.specs.Newest.{newest}
@@ -26,7 +26,7 @@ use Rattle.certificate.specs.Claim.{Claim}
 use Rattle.file_die.specs.Store.{page_in}
 use Rattle.image_check.specs.Agrees.{Agrees}
 use Rattle.image_check.specs.Blocks.{body_in, class, table_body, table_class, word_of_block}
-use Rattle.crash_recovery.specs.Torn.{FindsCut, FindsCuts, FindsDead, HasSoundRun, IsDead, IsTorn, NoneIsMarked, NoneTorn, row_in}
+use Rattle.crash_recovery.specs.Torn.{FindsCut, FindsCuts, FindsDead, HasSoundRun, IsDead, IsTorn, NoneIsMarked, row_in}
 use Rattle.crash_recovery.proofs.Rows.{mark_in, mark_within}
 
 -- ---- the table
@@ -65,14 +65,6 @@ named_word g image block row e word bytes body is gave front is_e read =
     let within : row < length image = mark_within image row its.0 its.1 in
     let there : body_in image (Some row) ≡ (page_in image row).body = body_page image row (page_in image row) (slice_get-get_or image row no_page within) in
     let here : body ≡ body_in image (newest (marks image) (Table (block / entries g))) = front ∙ (ap (λ (p : Page). p.body) gave ∙ (sym there ∙ ap (body_in image) (sym is))) in
-    ap (λ w. w % 256 == 2) (read ∙ (ap (λ bs. word_at bs (4 * (block % e))) here ∙ ap (λ n. word_at (body_in image (newest (marks image) (Table (block / entries g)))) (4 * (block % n))) is_e))
-
--- the same of a source that puts out the page
-pub told_word : (g : Geometry) (image : Image) (block row e word : ℕ) (body spare : List ℕ) → newest (marks image) (Table (block / entries g)) ≡ Some row → slice_get image row ≡ Some (page body spare)
-    → e ≡ entries g → word ≡ word_at body (4 * (block % e)) → (word % 256 == 2) ≡ (table_class g image block == 2)
-unfolding word_of_block table_body
-told_word g image block row e word body spare is gave is_e read =
-    let here : body ≡ body_in image (newest (marks image) (Table (block / entries g))) = sym (body_page image row (page body spare) gave) ∙ ap (body_in image) (sym is) in
     ap (λ w. w % 256 == 2) (read ∙ (ap (λ bs. word_at bs (4 * (block % e))) here ∙ ap (λ n. word_at (body_in image (newest (marks image) (Table (block / entries g)))) (4 * (block % n))) is_e))
 
 -- ---- a torn block
@@ -243,11 +235,3 @@ if_ok_all (Err e) P Q R Z f p q r = tt
 pub on_err : {A B : Type 0} (result : Result A B) (P : Type 0) → P → OnErr result P
 on_err (Ok x) P p = tt
 on_err (Err e) P p = p
-
--- ---- none is torn
-
-pub torn_more : (g : Geometry) (image : Image) (block : ℕ) → ¬ IsTorn g image block → NoneTorn g image block → NoneTorn g image (block + 1)
-torn_more g image block fine none k less = elim (cases_eq k block) [
-  | inl same ↦ subst (λ n. ¬ IsTorn g image n) (sym same) fine
-  | inr apart ↦ none k (omega (arith, less, apart))
-]

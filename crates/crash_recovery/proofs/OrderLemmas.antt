@@ -27,7 +27,7 @@ use Rattle.image_laws.proofs.PowerLemmas.{both, stays, which}
 use Rattle.crash_recovery.specs.Torn.{IsCut, IsCutFrom, IsFirstUnsound, row_in}
 use Rattle.crash_recovery.specs.Taken.{HasTaken}
 use Rattle.crash_recovery.specs.Laws.{CutAgainLaw, CutLaw, GoodInOrderLaw, CutShowsNoDamageLaw, OrderLaw}
-use Rattle.crash_recovery.proofs.CutLemmas.{has_it, not_before}
+use Rattle.crash_recovery.proofs.CutLemmas.{has_it, is_cut_behind, not_before}
 use Rattle.crash_recovery.proofs.TakesLemmas.{spared_same}
 use Rattle.crash_recovery.proofs.Rows.{mark_in, page_below, row_split, unsound_in}
 
@@ -114,13 +114,6 @@ not_cut g image mark block page k first below within is_cut =
     let of_page : row_in g block k % g.pages ≡ k = mod-mul-add block g.pages k within in
     let earlier : IsFirstUnsound g image block is_cut.page = subst (λ b. IsFirstUnsound g image b is_cut.page) of_block is_cut.from.first in
     not_before g image block page is_cut.page first earlier (omega (arith, is_cut.behind, of_page, below))
-
-is_cut_behind : (g : Geometry) (image : Image) (mark block page k : ℕ) → IsCutFrom g image mark block page → page ≤ k → k < g.pages → IsCut g image mark (row_in g block k)
-is_cut_behind g image mark block page k from le within = record {
-  page = page;
-  from = subst (λ b. IsCutFrom g image mark b page) (sym (div-mul-add block g.pages k within)) from;
-  behind = subst (λ n. page ≤ n) (sym (mod-mul-add block g.pages k within)) le;
-}
 
 fine_sound : (erased : Bool) (its : Option Record) → IsSome its → (not erased && not (is_some its)) ≡ false
 fine_sound true its is = refl

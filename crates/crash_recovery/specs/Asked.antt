@@ -3,7 +3,6 @@ use Rattle.std.specs.Prelude.{◌≡◌, ℕ, Bool, true, false, List, length, I
 use Rattle.page_layout.specs.declared.geometry.Geometry.{Geometry}
 use Rattle.page_layout.specs.Counter.{HasRisen}
 use Rattle.page_layout.specs.Geometry.{row_count, page_bytes}
-use Rattle.page_layout.specs.View.{View}
 use Rattle.certificate.specs.Claim.{Claim, sizes_of}
 use Rattle.file_die.specs.Store.{Held}
 use Rattle.image_check.specs.Agrees.{Agrees, IsCertificateOf}
@@ -13,12 +12,6 @@ pub record CanBeLookedAt {S : Type 0} (held : S → Held) (honest : S → Bool) 
   pub geometry : (held store).geometry ≡ g
   pub rows : honest store ≡ true → length (held store).pages ≡ row_count g
   pub room : length page ≡ page_bytes g
-
--- the same of a source of pages
-pub record CanBeRead {S : Type 0} (view : View S) (g : Geometry) (source : S) (body spare : List ℕ) : Type 0 where
-  pub geometry : (view.flash source).geometry ≡ g
-  pub body_whole : length body ≡ g.data_bytes
-  pub spare_whole : length spare ≡ g.spare_bytes
 
 -- a certificate of this geometry
 pub record IsClaimOf (g : Geometry) (c : Claim) : Type 0 where

@@ -1,10 +1,11 @@
 -- WHAT THE TAKING OF PAGES COMES TO, as far as it came: so also where it was stopped at any write.
-use Rattle.std.specs.Prelude.{◌≡◌, ◌≢◌, ◌<◌, ◌≤◌, ℕ, false, Some}
+use Rattle.std.specs.Prelude.{◌≡◌, ◌≢◌, ◌<◌, ◌≤◌, ℕ, true, false, Some}
 use Rattle.std.specs.List.{list_any}
 use Rattle.page_layout.specs.declared.geometry.Geometry.{Geometry}
 use Rattle.page_layout.specs.declared.record.Key.{Key}
 use Rattle.page_layout.specs.Page.{Image, IsImage}
 use Rattle.page_layout.specs.Block.{block_pages, has_gap, is_broken}
+use Rattle.page_layout.specs.Live.{live}
 use Rattle.page_layout.specs.Newest.{newest}
 use Rattle.page_layout.specs.Array.{marks, HasOneArray}
 use Rattle.page_layout.specs.Change.{IsUnsoundAt}
@@ -12,8 +13,8 @@ use Rattle.file_die.specs.Store.{Held, AreImages}
 use Rattle.image_check.specs.Blocks.{class}
 use Rattle.image_check.specs.Torn.{StandsFor}
 use Rattle.image_laws.specs.Power.{LosesPower, LosesSince}
-use Rattle.crash_recovery.specs.Torn.{IsCut, IsCutFrom, IsDeadRow, IsFirstUnsound, NoneIsMarked, row_in}
-use Rattle.crash_recovery.specs.Taken.{HasTaken, Takes, lasting}
+use Rattle.crash_recovery.specs.Torn.{IsCut, IsCutFrom, IsDeadRow, IsFirstUnsound, IsTorn, NoneIsMarked, NothingTorn, SomeCut, row_in}
+use Rattle.crash_recovery.specs.Taken.{HasTaken, Recovers, Takes, lasting}
 
 -- no key has its newest page in a row that is taken
 abbrev pub TakesNoNewest : (taken : ℕ → Type 0) → Image → Type 0
@@ -85,3 +86,26 @@ CutShowsNoDamageLaw = (mark : ℕ) (s t : Held) (block page : ℕ) → AreImages
 abbrev pub CutAgainLaw : Type 0
 CutAgainLaw = (mark : ℕ) (s t : Held) (block page : ℕ) → AreImages s → block < s.geometry.blocks → Takes (IsCut s.geometry s.pages mark) s t → IsCutFrom s.geometry s.pages mark block page
     → IsFirstUnsound s.geometry t.pages block page × NoneIsMarked s.geometry t.pages mark block page
+
+-- ---- a store that was recovered
+
+-- WHAT WAS RECOVERED LASTS: a loss of power right after it leaves these very pages
+abbrev pub RecoveredLastsLaw : Type 0
+RecoveredLastsLaw = (mark : ℕ) (s t : Held) → Recovers mark s t true → t.durable ≡ t.pages
+
+-- where anything was changed something was torn
+abbrev pub RecoveredTornLaw : Type 0
+RecoveredTornLaw = (mark : ℕ) (s t : Held) → Recovers mark s t true → ¬ NothingTorn s.geometry s.pages mark
+
+-- and where a row was to be cut no block was erased again
+abbrev pub CutFirstLaw : Type 0
+CutFirstLaw = (mark : ℕ) (s t : Held) → Recovers mark s t true → SomeCut s.geometry s.pages mark → HasTaken (IsCut s.geometry s.pages mark) s t
+
+-- the block holds a key's newest page, and behind its first page that is not sound one was synced
+pub record IsLeftTorn (g : Geometry) (image : Image) (mark block : ℕ) : Type 0 where
+  pub holds : live g (marks image) block ≢ 0
+  pub marked : (page : ℕ) → IsFirstUnsound g image block page → ¬ NoneIsMarked g image mark block page
+
+-- WHERE NOTHING IS TORN THAT COULD BE TAKEN AWAY, each block that is torn still is so
+abbrev pub LeftTornLaw : Type 0
+LeftTornLaw = (g : Geometry) (image : Image) (mark block : ℕ) → NothingTorn g image mark → block < g.blocks → IsTorn g image block → IsLeftTorn g image mark block

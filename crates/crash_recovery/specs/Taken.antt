@@ -6,7 +6,7 @@ use Rattle.page_layout.specs.Page.{Page}
 use Rattle.page_layout.specs.Sound.{record_of}
 use Rattle.page_layout.specs.Change.{erased_page}
 use Rattle.file_die.specs.Store.{Held, AreImages, Syncs, page_in}
-use Rattle.crash_recovery.specs.Torn.{IsCut, IsDeadRow, NothingTorn}
+use Rattle.crash_recovery.specs.Torn.{IsCut, IsDeadRow, NoneCut, NothingTorn, SomeCut, SomeDead}
 
 -- what may last of a row: what lasted, what it held, or a page without a sound record
 abbrev pub MayLast : (lasted was now : Page) → Type 0
@@ -46,10 +46,19 @@ pub record HasTaken (taken : ℕ → Type 0) (s t : Held) : Type 0 where
 
 -- ---- a store that is opened after a crash
 
--- A STORE WAS RECOVERED, by whether anything was torn: its torn blocks were cut back; or there was none to be cut, all pages were made to last, and those that had no
--- live page were erased again. Else it is as it was
+-- ITS TORN BLOCKS WERE CUT BACK: some row was to be cut, and just these are erased
+pub record WasCutBack (mark : ℕ) (s t : Held) : Type 0 where
+  pub some : SomeCut s.geometry s.pages mark
+  pub taken : HasTaken (IsCut s.geometry s.pages mark) s t
+
+-- ITS DEAD BLOCKS WERE ERASED AGAIN: there was one, all pages were made to last, and just the rows of these are erased
+pub record WasErasedAgain (s t : Held) : Type 0 where
+  pub some : SomeDead s.geometry s.pages
+  pub taken : HasTaken (IsDeadRow s.geometry s.pages) (lasting s) t
+
+-- A STORE WAS RECOVERED, by whether anything was torn: it was cut back; or there was nothing to be cut, and it was erased again. Else it is as it was
 abbrev pub Recovers : (mark : ℕ) → (s t : Held) → (changed : Bool) → Type 0
-Recovers mark s t true = HasTaken (IsCut s.geometry s.pages mark) s t ⊎ HasTaken (IsDeadRow s.geometry s.pages) (lasting s) t
+Recovers mark s t true = WasCutBack mark s t ⊎ (NoneCut s.geometry s.pages mark × WasErasedAgain s t)
 Recovers mark s t false = (t ≡ s) × NothingTorn s.geometry s.pages mark
 
 -- as far as that came, where it failed

@@ -22,10 +22,6 @@ pub record IsTorn (g : Geometry) (image : Image) (block : ℕ) : Type 0 where
   pub shows : class g image block ≡ 5
   pub unnamed : table_class g image block ≢ 2
 
--- no block below one is torn
-abbrev pub NoneTorn : Geometry → Image → (below : ℕ) → Type 0
-NoneTorn g image below = (block : ℕ) → block < below → ¬ IsTorn g image block
-
 -- its first page that is not sound, which in a block that shows bad is torn or missing
 pub record IsFirstUnsound (g : Geometry) (image : Image) (block page : ℕ) : Type 0 where
   pub within : page < g.pages
@@ -48,10 +44,24 @@ pub record IsCut (g : Geometry) (image : Image) (mark row : ℕ) : Type 0 where
   pub from : IsCutFrom g image mark (row / g.pages) page
   pub behind : page ≤ row % g.pages
 
+-- some row is cut, or none
+abbrev pub SomeCut : Geometry → Image → (mark : ℕ) → Type 0
+SomeCut g image mark = (row : ℕ) × (row < row_count g) × IsCut g image mark row
+
+abbrev pub NoneCut : Geometry → Image → (mark : ℕ) → Type 0
+NoneCut g image mark = (row : ℕ) → row < row_count g → ¬ IsCut g image mark row
+
 -- A BLOCK IS ERASED AGAIN: it is torn, and holds the newest page of no key, as one whose erase was cut short
 pub record IsDead (g : Geometry) (image : Image) (block : ℕ) : Type 0 where
   pub torn : IsTorn g image block
   pub none : live g (marks image) block ≡ 0
+
+-- some block is erased again, or none
+abbrev pub SomeDead : Geometry → Image → Type 0
+SomeDead g image = (block : ℕ) × (block < g.blocks) × IsDead g image block
+
+abbrev pub NoneDead : Geometry → Image → Type 0
+NoneDead g image = (block : ℕ) → block < g.blocks → ¬ IsDead g image block
 
 -- ---- what is found by a look
 
@@ -91,5 +101,5 @@ IsDeadRow g image row = IsDead g image (row / g.pages)
 
 -- NOTHING IS TORN that could be taken away: no row is cut, and no block is erased again
 pub record NothingTorn (g : Geometry) (image : Image) (mark : ℕ) : Type 0 where
-  pub uncut : (row : ℕ) → row < row_count g → ¬ IsCut g image mark row
-  pub undead : (block : ℕ) → block < g.blocks → ¬ IsDead g image block
+  pub uncut : NoneCut g image mark
+  pub undead : NoneDead g image

@@ -1,15 +1,15 @@
 //! Blocks are cut back: their last pages are made erased.
-ghost use Rattle.std.specs.Prelude.{◌≡◌, ◌<◌, ◌≤◌, ◌/◌, ◌%◌, ℕ, List, true, false, length, get_or, IfOk, IfErr, OnOk, IsErrOf, is_ok};
+ghost use Rattle.std.specs.Prelude.{◌≡◌, ◌<◌, ◌≤◌, ◌/◌, ◌%◌, ℕ, true, false, length, get_or, IfOk, OnOk, IsErrOf, is_ok};
 ghost use Rattle.page_layout.specs.Counter.{HasRisen};
-ghost use Rattle.page_layout.specs.Geometry.{row_count, page_bytes};
+ghost use Rattle.page_layout.specs.Geometry.{page_bytes};
 ghost use Rattle.page_layout.specs.Change.{erased_page};
 ghost use Rattle.onfi_cycles.specs.Cycles.{page_of};
 ghost use Rattle.certificate.specs.Claim.{sizes_of};
-ghost use Rattle.file_die.specs.Store.{AreImages, page_in};
+ghost use Rattle.file_die.specs.Store.{AreImages};
 ghost use Rattle.image_check.specs.Agrees.{Agrees, IsCertificateOf};
 ghost use Rattle.crash_recovery.specs.Asked.{IsClaimOf, KeepsAsked, TakesAway};
-ghost use Rattle.crash_recovery.specs.Torn.{IsBehind, IsCut};
-ghost use Rattle.crash_recovery.specs.Taken.{HasTaken, IsInTail, LeavesErased, Takes};
+ghost use Rattle.crash_recovery.specs.Torn.{IsBehind, IsCut, NoneCut};
+ghost use Rattle.crash_recovery.specs.Taken.{IsInTail, LeavesErased, Takes, WasCutBack};
 
 use crate::fault::RecoveryFault;
 use crate::look::find_cuts;
@@ -69,6 +69,7 @@ fn cut_blocks<S: Store>(
 // Whether a block is to be cut.
 fn is_any_cut(geometry: &Geometry, cuts: &[u32]) -> bool
     ensures none { result ≡ false → (k : ℕ) → k < length cuts.now → geometry.now.pages ≤ get_or cuts.now k 0 }
+    ensures some { result ≡ true → (k : ℕ) × (k < length cuts.now) × (get_or cuts.now k 0 < geometry.now.pages) }
 {
     for from in cuts {
         if *from < geometry.pages() {
@@ -93,8 +94,8 @@ fn cut_found<S: Store>(
     requires erased { page_of (S.held store.old).geometry erased.now ≡ erased_page (S.held store.old).geometry }
     requires blocks { length cuts.old ≡ (S.held store.old).geometry.blocks }
     ensures away { S.honest store.old ≡ true → TakesAway certificate.now (Takes (IsCut (S.held store.old).geometry (S.held store.old).pages mark) (S.held store.old) (S.held store.new))
-        (HasTaken (IsCut (S.held store.old).geometry (S.held store.old).pages mark) (S.held store.old) (S.held store.new))
-        ((row : ℕ) → row < row_count (S.held store.old).geometry → ¬ IsCut (S.held store.old).geometry (S.held store.old).pages mark row) (S.held store.old) result (S.held store.new) }
+        (WasCutBack mark (S.held store.old) (S.held store.new))
+        (NoneCut (S.held store.old).geometry (S.held store.old).pages mark) (S.held store.old) result (S.held store.new) }
     ensures keeps { KeepsAsked S.held S.honest S.failed store.old (is_ok result) store.new }
 {
     let geometry = store.geometry();
@@ -108,7 +109,7 @@ fn cut_found<S: Store>(
 }
 
 /// Cuts back each block that is torn, from its first page on that isn't sound, where no page behind that one has a sequence below `mark`: those pages are made
-/// erased, the last one of a block first, and the store is synced. Answers whether any block was. The certificate is that of the store's pages. **Of an honest store just those rows are erased, and
+/// erased, the last one of a block first, and the store is synced. Answers whether any row was to be cut. The certificate is that of the store's pages. **Of an honest store just those rows are erased, and
 /// all pages last; whatever fails, no other row is touched.** So a run that was stopped at any write is finished by the next one.
 ///
 /// # Errors
@@ -125,10 +126,10 @@ pub fn cut_back<S: Store>(
     ensures takes { S.honest store.old ≡ true → (capacity : ℕ) → Agrees (S.held store.old).geometry capacity (S.held store.old).pages certificate.now →
         Takes (IsCut (S.held store.old).geometry (S.held store.old).pages mark) (S.held store.old) (S.held store.new) }
     ensures cut { IfOk result (λ cut. S.honest store.old ≡ true → (capacity : ℕ) → Agrees (S.held store.old).geometry capacity (S.held store.old).pages certificate.now →
-        cut ≡ true → HasTaken (IsCut (S.held store.old).geometry (S.held store.old).pages mark) (S.held store.old) (S.held store.new)) }
+        cut ≡ true → WasCutBack mark (S.held store.old) (S.held store.new)) }
     ensures uncut { IfOk result (λ cut. S.honest store.old ≡ true → cut ≡ false → S.held store.new ≡ S.held store.old) }
     ensures none { IfOk result (λ cut. S.honest store.old ≡ true → (capacity : ℕ) → Agrees (S.held store.old).geometry capacity (S.held store.old).pages certificate.now →
-        cut ≡ false → (row : ℕ) → row < row_count (S.held store.old).geometry → ¬ IsCut (S.held store.old).geometry (S.held store.old).pages mark row) }
+        cut ≡ false → NoneCut (S.held store.old).geometry (S.held store.old).pages mark) }
     ensures geometry { (S.held store.new).geometry ≡ (S.held store.old).geometry }
     ensures honest { S.honest store.new ≡ S.honest store.old }
     ensures settled { OnOk result (S.failed store.new ≡ S.failed store.old) }

@@ -6,8 +6,8 @@ ghost use Rattle.certificate.specs.Claim.{sizes_of};
 ghost use Rattle.file_die.specs.Store.{AreImages, Syncs};
 ghost use Rattle.image_check.specs.Agrees.{Agrees, IsCertificateOf};
 ghost use Rattle.crash_recovery.specs.Asked.{CanBeLookedAt, HasLooked, IsClaimOf, KeepsAsked, TakesAway};
-ghost use Rattle.crash_recovery.specs.Torn.{FindsDead, IsDead, IsDeadRow};
-ghost use Rattle.crash_recovery.specs.Taken.{HasTaken, IsOf, LeavesErased, Takes, lasting};
+ghost use Rattle.crash_recovery.specs.Torn.{FindsDead, IsDeadRow, NoneDead};
+ghost use Rattle.crash_recovery.specs.Taken.{IsOf, LeavesErased, Takes, WasErasedAgain, lasting};
 
 use crate::fault::RecoveryFault;
 use crate::look::is_torn;
@@ -78,6 +78,7 @@ fn clear_blocks<S: Store>(
 // Whether any block is to be erased again.
 fn is_any_dead(dead: &[bool]) -> bool
     ensures none { result ≡ false → (k : ℕ) → k < length dead.now → get_or dead.now k false ≡ false }
+    ensures some { result ≡ true → (k : ℕ) × (k < length dead.now) × (get_or dead.now k false ≡ true) }
 {
     for is_dead in dead {
         if *is_dead {
@@ -99,8 +100,8 @@ fn erase_found<S: Store>(
     requires blocks { length dead.old ≡ (S.held store.old).geometry.blocks }
     ensures away { S.honest store.old ≡ true → TakesAway certificate.now ((Syncs (S.held store.old) false (S.held store.new)) ⊎ ((S.held store.new ≡ S.held store.old)
         ⊎ Takes (IsDeadRow (S.held store.old).geometry (S.held store.old).pages) (lasting (S.held store.old)) (S.held store.new)))
-        (HasTaken (IsDeadRow (S.held store.old).geometry (S.held store.old).pages) (lasting (S.held store.old)) (S.held store.new))
-        ((block : ℕ) → block < (S.held store.old).geometry.blocks → ¬ IsDead (S.held store.old).geometry (S.held store.old).pages block) (S.held store.old) result (S.held store.new) }
+        (WasErasedAgain (S.held store.old) (S.held store.new))
+        (NoneDead (S.held store.old).geometry (S.held store.old).pages) (S.held store.old) result (S.held store.new) }
     ensures keeps { KeepsAsked S.held S.honest S.failed store.old (is_ok result) store.new }
 {
     let geometry = store.geometry();
@@ -133,10 +134,10 @@ pub fn erase_dead<S: Store>(
         (Syncs (S.held store.old) false (S.held store.new)) ⊎ ((S.held store.new ≡ S.held store.old)
         ⊎ Takes (IsDeadRow (S.held store.old).geometry (S.held store.old).pages) (lasting (S.held store.old)) (S.held store.new)) }
     ensures erased { IfOk result (λ erased. S.honest store.old ≡ true → (capacity : ℕ) → Agrees (S.held store.old).geometry capacity (S.held store.old).pages certificate.now →
-        erased ≡ true → HasTaken (IsDeadRow (S.held store.old).geometry (S.held store.old).pages) (lasting (S.held store.old)) (S.held store.new)) }
+        erased ≡ true → WasErasedAgain (S.held store.old) (S.held store.new)) }
     ensures untouched { IfOk result (λ erased. S.honest store.old ≡ true → erased ≡ false → S.held store.new ≡ S.held store.old) }
     ensures none { IfOk result (λ erased. S.honest store.old ≡ true → (capacity : ℕ) → Agrees (S.held store.old).geometry capacity (S.held store.old).pages certificate.now →
-        erased ≡ false → (block : ℕ) → block < (S.held store.old).geometry.blocks → ¬ IsDead (S.held store.old).geometry (S.held store.old).pages block) }
+        erased ≡ false → NoneDead (S.held store.old).geometry (S.held store.old).pages) }
     ensures unasked { IsErrOf result RecoveryFault.OutOfMemory → store.new ≡ store.old }
     ensures geometry { (S.held store.new).geometry ≡ (S.held store.old).geometry }
     ensures honest { S.honest store.new ≡ S.honest store.old }

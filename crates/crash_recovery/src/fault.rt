@@ -8,7 +8,7 @@ use thiserror::Error;
 /// Why the blocks of a store were not cut back, or not all of them. (This project's.)
 #[derive(Clone, Copy, Debug, PartialEq, Eq, Error)]
 pub enum RecoveryFault {
-    /// A growth was refused; the store was not asked.
+    /// A growth was refused; the store's pages are as they were.
     #[error("OutOfMemory")]
     OutOfMemory,
     /// A load, a put, a clear or a sync of the store failed.

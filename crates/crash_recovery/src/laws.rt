@@ -1,5 +1,5 @@
 //! What the taking of pages away from a store comes to, and that what is cut back may be taken. Each function does nothing: its contract is the law.
-ghost use Rattle.crash_recovery.specs.Laws.{CutAgainLaw, CutLaw, DeadLaw, DeadSpareLaw, GoodInOrderLaw, CutShowsNoDamageLaw, LossLastsLaw, LossLaw, OrderLaw, SpareLaw, TailLaw};
+ghost use Rattle.crash_recovery.specs.Laws.{CutAgainLaw, CutFirstLaw, CutLaw, DeadLaw, DeadSpareLaw, GoodInOrderLaw, CutShowsNoDamageLaw, LeftTornLaw, LossLastsLaw, LossLaw, OrderLaw, RecoveredLastsLaw, RecoveredTornLaw, SpareLaw, TailLaw};
 
 /// Where blocks are cut back, as far as it came and whatever failed: if none of the pages was a key's newest one, the same array is held, and what mounted mounts; and after a loss of
 /// power, what is left is what one leaves of the same image, so that nothing that was stored is lost. So is what is found if the power goes meanwhile. Where blocks are erased
@@ -22,4 +22,13 @@ pub fn cut_laws()
     ensures dead { DeadLaw }
     ensures healed { CutShowsNoDamageLaw }
     ensures again { CutAgainLaw }
+{}
+
+/// What a store that was recovered is: what was changed lasts, and something was torn. Blocks are erased again only where none is cut. A block that stays torn
+/// holds a newest page, and one that was synced behind its first page that isn't sound. (This project.)
+pub fn recovery_laws()
+    ensures lasts { RecoveredLastsLaw }
+    ensures torn { RecoveredTornLaw }
+    ensures cut_first { CutFirstLaw }
+    ensures left { LeftTornLaw }
 {}

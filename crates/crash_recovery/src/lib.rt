@@ -1,8 +1,7 @@
-//! What a crash left torn in a store of pages, and how it is taken away: blocks are cut back to their sound pages, so that no kill and no loss of power
-//! costs a block.
+//! What a crash left torn in a store of pages, and how it is taken away: blocks are cut back to their sound pages. Where a mark tells what was synced no kill
+//! and no loss of power costs a block; without one, a block with pages behind a torn one stays bad.
 //!
 //! - `recover`: what is done to a store that is opened to write: `cut_back`, or else `erase_dead`.
-//! - `shows_torn`: whether a die that was mounted is to be recovered at all.
 //! - `cut_back`: cuts back each block that a crash left torn.
 //! - `erase_dead`: erases again each block whose erase a crash cut short.
 //! - `laws`: what the taking of pages comes to, proved.
@@ -16,10 +15,8 @@ mod fault;
 pub mod laws;
 mod look;
 mod recovery;
-mod shown;
 
 pub use cut::cut_back;
 pub use dead::erase_dead;
 pub use fault::RecoveryFault;
 pub use recovery::recover;
-pub use shown::shows_torn;

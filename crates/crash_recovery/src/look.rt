@@ -19,7 +19,7 @@ use page_layout::record::{Record, read_record};
 use page_layout::word::read_word;
 
 // The class of a grown bad block in a certificate.
-pub(crate) const SHOWN_BAD: u8 = 5;
+const SHOWN_BAD: u8 = 5;
 
 // The same in a table page.
 const NAMED_GROWN: u32 = 2;
@@ -42,7 +42,7 @@ fn record_at<S: Store>(
 }
 
 // The row of the newest table page that tells the class of a block, where the certificate knows one.
-pub(crate) fn table_row(geometry: &Geometry, certificate: &Certificate, block: u32) -> Option<u32>
+fn table_row(geometry: &Geometry, certificate: &Certificate, block: u32) -> Option<u32>
     requires claim { IsClaimOf geometry.now certificate.now }
     requires in_range { block < geometry.now.blocks }
     ensures row { IfSome result (λ row. row < row_count geometry.now) }
@@ -53,7 +53,7 @@ pub(crate) fn table_row(geometry: &Geometry, certificate: &Certificate, block: u
 }
 
 // Whether the data area of such a page names the block as one that has grown bad.
-pub(crate) fn names_grown(geometry: &Geometry, body: &[u8], block: u32) -> bool
+fn names_grown(geometry: &Geometry, body: &[u8], block: u32) -> bool
     requires body { length body.now ≡ geometry.now.data_bytes }
     ensures { result ≡ (word_at body.now (4 * (block % entries geometry.now)) % 256 == 2) }
 {

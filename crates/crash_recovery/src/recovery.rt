@@ -1,8 +1,9 @@
 //! A store is recovered as it is opened to write.
-ghost use Rattle.std.specs.Prelude.{◌≡◌, ◌≢◌, ℕ, true, false, IfOk, OnOk, OnErr, IsErrOf};
+ghost use Rattle.std.specs.Prelude.{◌≡◌, ◌≢◌, ℕ, true, false, IfOk, OnOk, OnErr, IsErrOf, Ok};
 ghost use Rattle.page_layout.specs.Counter.{HasRisen};
 ghost use Rattle.certificate.specs.Claim.{sizes_of};
 ghost use Rattle.image_check.specs.Agrees.{Agrees, IsCertificateOf};
+ghost use Rattle.crash_recovery.specs.Asked.{HasLooked};
 ghost use Rattle.crash_recovery.specs.Taken.{Recovers, RecoversSome};
 
 use crate::cut::cut_back;
@@ -14,7 +15,7 @@ use page_layout::geometry::Geometry;
 use std::alloc::Global;
 
 // Whether a certificate is of this geometry.
-pub(crate) fn is_of(certificate: &Certificate, geometry: &Geometry) -> bool
+fn is_of(certificate: &Certificate, geometry: &Geometry) -> bool
     ensures yes { result ≡ true → (certificate.now.sizes ≡ sizes_of geometry.now) × IsCertificateOf geometry.now certificate.now }
     ensures no { result ≡ false → certificate.now.sizes ≢ sizes_of geometry.now }
 {
@@ -31,7 +32,7 @@ pub(crate) fn is_of(certificate: &Certificate, geometry: &Geometry) -> bool
 ///
 /// # Errors
 ///
-/// As of these two. What was begun is finished by the next call over what mounts then. (This project's.)
+/// `OutOfMemory` where a growth was refused: pages were loaded at most, and all is as it was. `Store` as of these two. What was begun is finished by the next call over what mounts then. (This project's.)
 pub fn recover<S: Store>(
     alloc: Global,
     store: &mut S,
@@ -46,6 +47,8 @@ pub fn recover<S: Store>(
     ensures honest { S.honest store.new ≡ S.honest store.old }
     ensures settled { OnOk result (S.failed store.new ≡ S.failed store.old) }
     ensures rose { IsErrOf result RecoveryFault.Store → HasRisen (S.failed store.old) (S.failed store.new) }
+    ensures unchanged { IsErrOf result RecoveryFault.OutOfMemory → HasLooked S.held S.honest S.failed store.old true store.new }
+    ensures elsewhere { certificate.now.sizes ≢ sizes_of (S.held store.old).geometry → (result ≡ Ok false) × (store.new ≡ store.old) }
 {
     if !is_of(certificate, &store.geometry()) {
         return Ok(false);

@@ -178,8 +178,8 @@ spared_still g mark a b one cuts same = subst (IsSpared g mark a) (sym same) (re
 
 -- as far as it came, or whole
 pub recovers_some : (mark : ℕ) (s t : Held) (changed : Bool) → Recovers mark s t changed → RecoversSome mark s t
-recovers_some mark s t true (inl cut) = inl cut.takes
-recovers_some mark s t true (inr erased) = inr (inr erased.takes)
+recovers_some mark s t true (inl cut) = inl cut.taken.takes
+recovers_some mark s t true (inr (uncut, erased)) = inr (inr erased.taken.takes)
 recovers_some mark s t false (same, nothing) = inl (subst (Takes (IsCut s.geometry s.pages mark) s) (sym same) (takes_none (IsCut s.geometry s.pages mark) s))
 
 pub spared_some : (mark : ℕ) (s t : Held) → AreImages s → HasOneArray s.geometry s.pages → CutsSpare s.geometry s.pages mark → RecoversSome mark s t → IsSpared s.geometry mark s.pages t.pages

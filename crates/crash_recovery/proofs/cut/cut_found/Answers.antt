@@ -3,7 +3,7 @@ use Rattle.page_layout.specs.declared.geometry.Geometry.{Geometry}
 use Rattle.image_check.specs.Agrees.{Agrees}
 use Rattle.crash_recovery.specs.Taken.{Takes}
 use Rattle.crash_recovery.specs.Torn.{IsCut}
-use Rattle.crash_recovery.proofs.CutLemmas.{cut_ends, cut_goes, cut_none, cut_syncs}
+use Rattle.crash_recovery.proofs.CutLemmas.{cut_ends, cut_goes, cut_none, cut_some, cut_syncs, was_cut}
 use Rattle.crash_recovery.proofs.Kept.{away_all, away_failed, away_none, can_look, claim_of, images_still, keeps_done, keeps_failed, keeps_then, keeps_undone}
 use Rattle.crash_recovery.proofs.TakesLemmas.{takes_same}
 use Rattle.crash_recovery.proofs.cut.cut_found.Given.{Over}
@@ -75,13 +75,16 @@ returns-clause-away g c h =
     let still = c.cut_blocks.ensures.keeps.as_honest ∙ honest in
     away_all _ _ _ _ _ _
     (λ capacity agrees. cut_syncs _ _ _ _ _ (cut_so_far g (goal.at.returns-clause-away g c).After-cut_blocks h capacity agrees) (c.sync.ensures.syncs still) c.sync.ensures.geometry)
-    (λ capacity agrees. cut_ends c.geometry-geometry.result _ _ _ _ c.args.mark c.find_cuts.new.cuts c.find_cuts.new.cuts c.geometry-geometry.ensures.geometry
-    (c.find_cuts.ensures.looks.same h) refl
-    (c.find_cuts.auto.cuts ∙ (c.requires.blocks ∙ ap (λ (x : Geometry). x.blocks) (sym c.geometry-geometry.ensures.geometry)))
-    (c.in_ok-find_cuts.ensures.finds h capacity (subst (λ (x : Geometry). Agrees x capacity (g.S.Store.held c.args.store.now).pages c.args.certificate.now) (sym c.geometry-geometry.ensures.geometry) agrees))
+    (λ capacity agrees.
+    let long = c.find_cuts.auto.cuts ∙ (c.requires.blocks ∙ ap (λ (x : Geometry). x.blocks) (sym c.geometry-geometry.ensures.geometry)) in
+    let finds = c.in_ok-find_cuts.ensures.finds h capacity (subst (λ (x : Geometry). Agrees x capacity (g.S.Store.held c.args.store.now).pages c.args.certificate.now) (sym c.geometry-geometry.ensures.geometry) agrees) in
+    was_cut c.args.mark _ _
+    (cut_some c.geometry-geometry.result (g.S.Store.held c.args.store.now) c.args.mark c.find_cuts.new.cuts c.find_cuts.new.cuts c.geometry-geometry.ensures.geometry refl long finds (c.is_any_cut.ensures.some c.if-not-is_any_cut.false))
+    (cut_ends c.geometry-geometry.result _ _ _ _ c.args.mark c.find_cuts.new.cuts c.find_cuts.new.cuts c.geometry-geometry.ensures.geometry
+    (c.find_cuts.ensures.looks.same h) refl long finds
     (c.cut_blocks.ensures.takes honest) (c.in_ok-cut_blocks.ensures.erased honest)
     (c.cut_blocks.ensures.keeps.geometry ∙ (c.find_cuts.ensures.looks.keeps.geometry ∙ sym c.geometry-geometry.ensures.geometry))
-    (c.in_ok-sync.ensures.syncs still) c.sync.ensures.geometry)
+    (c.in_ok-sync.ensures.syncs still) c.sync.ensures.geometry))
 
 pub returns-clause-keeps : goal.returns-clause-keeps
 returns-clause-keeps g c =

@@ -5,7 +5,7 @@ use Rattle.image_check.specs.Agrees.{Agrees}
 use Rattle.crash_recovery.specs.Asked.{KeepsAsked}
 use Rattle.crash_recovery.specs.Taken.{Takes, lasting}
 use Rattle.crash_recovery.specs.Torn.{IsDeadRow}
-use Rattle.crash_recovery.proofs.CutLemmas.{cut_syncs, dead_ends, dead_goes, dead_none}
+use Rattle.crash_recovery.proofs.CutLemmas.{cut_syncs, dead_ends, dead_goes, dead_none, dead_some, was_erased}
 use Rattle.crash_recovery.proofs.Kept.{away_all, away_failed, away_none, can_look, claim_of, images_still, keeps_done, keeps_failed, keeps_then, keeps_undone}
 use Rattle.crash_recovery.proofs.dead.erase_found.Given.{Over}
 use Rattle.crash_recovery.proofs.dead.erase_found.Goals.{After-clear_blocks, In_ok-sync}
@@ -93,13 +93,16 @@ returns-clause-away g c h =
     let last = c.clear_blocks.ensures.keeps.as_honest ∙ still in
     away_all _ _ _ _ _ _
     (λ capacity agrees. inr (inr (cut_syncs _ _ _ _ _ (erased_so_far g (goal.at.returns-clause-away g c).After-clear_blocks h capacity agrees) (c.sync-2.ensures.syncs last) c.sync-2.ensures.geometry)))
-    (λ capacity agrees. dead_ends c.geometry-geometry.result _ _ _ _ _ c.find_dead.new.dead c.find_dead.new.dead c.geometry-geometry.ensures.geometry
-    (c.find_dead.ensures.looks.same h) refl
-    (c.find_dead.auto.dead ∙ (c.requires.blocks ∙ ap (λ (x : Geometry). x.blocks) (sym c.geometry-geometry.ensures.geometry)))
-    (c.in_ok-find_dead.ensures.finds h capacity (subst (λ (x : Geometry). Agrees x capacity (g.S.Store.held c.args.store.now).pages c.args.certificate.now) (sym c.geometry-geometry.ensures.geometry) agrees))
+    (λ capacity agrees.
+    let long = c.find_dead.auto.dead ∙ (c.requires.blocks ∙ ap (λ (x : Geometry). x.blocks) (sym c.geometry-geometry.ensures.geometry)) in
+    let finds = c.in_ok-find_dead.ensures.finds h capacity (subst (λ (x : Geometry). Agrees x capacity (g.S.Store.held c.args.store.now).pages c.args.certificate.now) (sym c.geometry-geometry.ensures.geometry) agrees) in
+    was_erased _ _
+    (dead_some c.geometry-geometry.result (g.S.Store.held c.args.store.now) c.find_dead.new.dead c.find_dead.new.dead c.geometry-geometry.ensures.geometry refl long finds (c.is_any_dead.ensures.some c.if-not-is_any_dead.false))
+    (dead_ends c.geometry-geometry.result _ _ _ _ _ c.find_dead.new.dead c.find_dead.new.dead c.geometry-geometry.ensures.geometry
+    (c.find_dead.ensures.looks.same h) refl long finds
     (c.in_ok-sync.ensures.syncs honest) c.sync.ensures.geometry (c.clear_blocks.ensures.takes still) (c.in_ok-clear_blocks.ensures.erased still)
     (c.clear_blocks.ensures.keeps.geometry ∙ (c.sync.ensures.geometry ∙ (c.find_dead.ensures.looks.keeps.geometry ∙ sym c.geometry-geometry.ensures.geometry)))
-    (c.in_ok-sync-2.ensures.syncs last) c.sync-2.ensures.geometry)
+    (c.in_ok-sync-2.ensures.syncs last) c.sync-2.ensures.geometry))
 
 pub returns-clause-keeps : goal.returns-clause-keeps
 returns-clause-keeps g c =
