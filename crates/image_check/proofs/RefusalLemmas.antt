@@ -33,6 +33,9 @@ same_refusal r x y h k = cc
 pub ok_not_source : {T : Type 0} (r : Result T Refusal) (x : T) → r ≡ Ok x → r ≡ Err refusals.Source → ⊥
 ok_not_source r x h k = (let never : ⊥ = cc in never)
 
+pub err_not_source : {T : Type 0} (r : Result T Refusal) (x : Refusal) → r ≡ Err x → (x ≡ refusals.Source → ⊥) → r ≡ Err refusals.Source → ⊥
+err_not_source r x was other is = other (same_refusal r x refusals.Source was is)
+
 pub asked_not_source : refusals.GeometryDiffers ≡ refusals.Source → ⊥
 asked_not_source e = (let never : ⊥ = cc in never)
 
@@ -60,8 +63,11 @@ source_not_asked e = (let never : ⊥ = cc in never)
 pub source_not_memory : refusals.Source ≡ refusals.OutOfMemory → ⊥
 source_not_memory e = (let never : ⊥ = cc in never)
 
+pub length_not_source : refusals.WrongLength ≡ refusals.Source → ⊥
+length_not_source e = (let never : ⊥ = cc in never)
+
 pub source_not_length : refusals.Source ≡ refusals.WrongLength → ⊥
-source_not_length e = (let never : ⊥ = cc in never)
+source_not_length e = length_not_source (sym e)
 
 pub untaken_refusal : (g : Geometry) (capacity : ℕ) (o : Option (List ℕ)) (c : Claim) (x : Refusal) → IfSome o (λ bytes. IsUntaken g bytes x) → IfSome o (λ bytes. IsStreamRefusal g capacity bytes c x)
 untaken_refusal g capacity o c x h = if_more o (λ bytes. IsUntaken g bytes x) (λ bytes. IsStreamRefusal g capacity bytes c x) h (λ bytes u. (elim u [
@@ -86,6 +92,10 @@ unbegun_of g capacity c x (inr h) = inr h.0
 pub unbegun_asked : {T : Type 0} (r : Result T Refusal) (g : Geometry) (capacity : ℕ) (c : Claim) (x : Refusal) → r ≡ Err x → IsUnbegun g capacity c x → (r ≡ Err refusals.GeometryDiffers) ↔ (¬ IsAsked g capacity c)
 unbegun_asked r g capacity c x was (inl h) = (λ is. h.1, λ differs. was ∙ ap (λ y. Err y) h.0)
 unbegun_asked r g capacity c x was (inr h) = (λ is. absurd (memory_not_asked (sym h.0 ∙ same_refusal r x refusals.GeometryDiffers was is)), λ differs. absurd (differs h.1))
+
+pub unbegun_not_source : {T : Type 0} (r : Result T Refusal) (g : Geometry) (capacity : ℕ) (c : Claim) (x : Refusal) → IsUnbegun g capacity c x → r ≡ Err x → r ≡ Err refusals.Source → ⊥
+unbegun_not_source r g capacity c x (inl h) was is = asked_not_source (sym h.0 ∙ same_refusal r x refusals.Source was is)
+unbegun_not_source r g capacity c x (inr h) was is = memory_not_source (sym h.0 ∙ same_refusal r x refusals.Source was is)
 
 -- a growth was refused, or the first part fails
 pub unbegun_first : (g : Geometry) (capacity : ℕ) (image : Image) (c : Claim) (x : Refusal) → IsUnbegun g capacity c x → (x ≡ refusals.OutOfMemory) ⊎ IsFirstWrong g capacity image c x

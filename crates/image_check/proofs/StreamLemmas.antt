@@ -35,6 +35,13 @@ pub cut_stops : (cut : Cut) (r : Refusal) → r ≡ refusal_of cut → (r ≡ re
 cut_stops Ended r e = inr e
 cut_stops Failed r e = inl e
 
+pub source_cut : {T : Type 0} (result : Result T Refusal) (cut : Cut) (r : Refusal) → r ≡ refusal_of cut → result ≡ Err r → result ≡ Err refusals.Source → cut ≡ Failed
+source_cut result Ended r e was is = (let never : ⊥ = cc in absurd never)
+source_cut result Failed r e was is = refl
+
+pub uncut : {T : Type 0} (result : Result T Cut) (x : T) (cut : Cut) → result ≡ Ok x → result ≡ Err cut → ⊥
+uncut result x cut was is = (let never : ⊥ = cc in never)
+
 pub past_untaken : (g : Geometry) (a b : Option (List ℕ)) (shows : Image → Type 0) (r : Refusal) → IsReadTo g (row_count g) a b shows → HasMore b → r ≡ refusals.WrongLength → IfSome a (λ bytes. IsUntaken g bytes r)
 past_untaken g a b shows r h more e = if_more a (λ bytes. ¬ (length bytes ≡ image_bytes g)) (λ bytes. IsUntaken g bytes r) (read_past g a b shows h more) (λ bytes long. inr (e, long))
 

@@ -31,7 +31,7 @@ pub enum Refusal {
     LiveWrong { block: u32 },
     /// The block has another erase count (12).
     WearWrong { block: u32 },
-    /// Some sound page's sequence isn't below the certificate's next one (13).
+    /// Some sound page's sequence isn't below the certificate's next one, or, of a mount, it is 2^64 - 1, and none follows it (13).
     NextSequence,
     /// More sectors are stale than the capacity says: how many, and the capacity (14).
     TooStale { stale: u32, capacity: u32 },

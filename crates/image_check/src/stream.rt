@@ -1,5 +1,5 @@
 //! The checker of an image that a reader gives, page by page.
-ghost use Rattle.std.specs.Prelude.{◌≡◌, ◌⊎◌, ◌+◌, ◌↔◌, Err, length, OnOk, IfOk, IfErr, IfSome};
+ghost use Rattle.std.specs.Prelude.{◌≡◌, ◌⊎◌, ◌+◌, ◌↔◌, true, Err, length, OnOk, IfOk, IfErr, IfSome};
 ghost use Rattle.page_layout.specs.Geometry.{row_count};
 ghost use Rattle.page_layout.specs.Page.{Image};
 ghost use Rattle.page_layout.specs.Raw.{raw_image};
@@ -9,6 +9,7 @@ ghost use Rattle.image_check.specs.PageReader.{image_bytes, ReadsUpTo, ReadsFewe
 ghost use Rattle.image_check.specs.Passed.{IsBegun, IsPass, IsSamePass, Shows};
 ghost use Rattle.image_check.specs.Refused.{IsJudgement};
 ghost use Rattle.image_check.specs.Streamed.{IsUntaken, IsStreamRefusal};
+ghost use Rattle.image_check.specs.declared.page_reader.Cut.TheVariants as cuts;
 ghost use Rattle.image_check.specs.declared.refusal.Refusal.TheVariants as refusals;
 
 use crate::accepted::Accepted;
@@ -20,7 +21,6 @@ use crate::refusal::Refusal;
 use certificate::Certificate;
 use page_layout::geometry::Geometry;
 use std::alloc::Global;
-use std::io::Read;
 
 impl From<Cut> for Refusal {
     ghost use Rattle.image_check.specs.Streamed.{refusal_of};
@@ -52,6 +52,7 @@ fn stream_pages<R: DumpReader>(
     ensures same_pass { OnOk result (IsSamePass pass.old pass.new) }
     ensures read { OnOk result (IsReadTo geometry.now (row_count geometry.now) (R.remaining reader.old) (R.remaining reader.new) (λ image. Shows image (row_count geometry.now) pass.new)) }
     ensures cut { IfErr result (ReadsFewer (image_bytes geometry.now) (R.remaining reader.old) (R.remaining reader.new)) }
+    ensures failed { result ≡ Err cuts.Failed → R.failed reader.new ≡ true }
 {
     for row in 0..geometry.rows() {
         read_page(reader, body, spare)?;
@@ -72,6 +73,7 @@ fn take_image<'a, R: DumpReader>(
     ensures taken { IfOk result (λ pass. IfSome (R.remaining reader.old) (IsTaken geometry.now (λ image. Shows image (row_count geometry.now) pass))) }
     ensures untaken { IfErr result (λ refusal. IfSome (R.remaining reader.old) (λ bytes. IsUntaken geometry.now bytes refusal)) }
     ensures stops { IfErr result (λ refusal. (refusal ≡ refusals.Source) ⊎ (refusal ≡ refusals.WrongLength)) }
+    ensures source { result ≡ Err refusals.Source → R.failed reader.new ≡ true }
     ensures read { ReadsUpTo (image_bytes geometry.now + 1) (R.remaining reader.old) (R.remaining reader.new) }
 {
     let Begun {
@@ -98,7 +100,7 @@ fn take_image<'a, R: DumpReader>(
 /// `WrongLength` where the reader's bytes ended before the last page or a byte follows it, `Source` where a read failed or was
 /// interrupted, `OutOfMemory` where a growth was refused: each when it happens. Else the refusals of `check`. (This project's
 /// rules.)
-pub fn check_stream<'a, R: Read>(
+pub fn check_stream<'a, R: DumpReader>(
     alloc: Global,
     reader: &mut R,
     geometry: &Geometry,
@@ -115,6 +117,7 @@ pub fn check_stream<'a, R: Read>(
     ensures asked { (result ≡ Err Refusal.GeometryDiffers) ↔ (¬ IsAsked geometry.now capacity certificate.now) }
     ensures unread { result ≡ Err Refusal.GeometryDiffers → reader.new ≡ reader.old }
     ensures memory { result ≡ Err Refusal.OutOfMemory → reader.new ≡ reader.old }
+    ensures source { result ≡ Err Refusal.Source → R.failed reader.new ≡ true }
     ensures accepted { IfOk result (λ accepted. (accepted.claim ≡ certificate.now) × IsAsked geometry.now capacity certificate.now) }
 {
     let begun = begin(alloc, geometry, capacity, certificate)?;

@@ -1,4 +1,4 @@
-use Rattle.std.proofs.Common.{ℕ, List, Option, IfSome, refl, ◌∙◌}
+use Rattle.std.proofs.Common.{ℕ, List, Option, Err, IfSome, ap, refl, ◌∙◌}
 use Rattle.std.proofs.lemmas.Result.{err_from_is_err_and}
 use Rattle.page_layout.specs.declared.geometry.Geometry.{Geometry}
 use Rattle.certificate.specs.Claim.{Claim}
@@ -8,7 +8,7 @@ use Rattle.image_check.specs.Streamed.{IsStreamRefusal}
 use Rattle.image_check.proofs.PageReaderLemmas.{if_all, read_nothing}
 use Rattle.image_check.proofs.PassLemmas.{IsOwn, own_pass, full_pass}
 use Rattle.image_check.proofs.StreamLemmas.{streamed_ok, streamed_err, streamed_whole, streamed_judged, begun_own}
-use Rattle.image_check.proofs.RefusalLemmas.{judged, neither, stopped_unjudged, untaken_refusal, accepted_of, unbegun_asked, unbegun_streamed, unbegun_unjudged}
+use Rattle.image_check.proofs.RefusalLemmas.{judged, neither, same_refusal, stopped_unjudged, untaken_refusal, accepted_of, unbegun_asked, unbegun_not_source, unbegun_streamed, unbegun_unjudged}
 use Rattle.image_check.proofs.RefusalLemmas.{asked_not_source, asked_not_length, memory_not_source, memory_not_length}
 use Rattle.image_check.proofs.stream.check_stream.Goals as goal
 
@@ -36,6 +36,7 @@ returns-in_err-begun g c =
       asked = unbegun_asked _ _ _ _ _ refl no;
       unread = λ is. refl;
       memory = λ is. refl;
+      source = λ is. absurd (unbegun_not_source _ _ _ _ _ no refl is);
       accepted = tt;
     })
 
@@ -52,6 +53,7 @@ returns-in_err-pass g c =
       asked = (λ is. absurd (neither _ _ _ _ _ no.stops refl asked_not_source asked_not_length is), λ differs. absurd (differs c.in_ok-begun.ensures.asked));
       unread = λ is. absurd (neither _ _ _ _ _ no.stops refl asked_not_source asked_not_length is);
       memory = λ is. absurd (neither _ _ _ _ _ no.stops refl memory_not_source memory_not_length is);
+      source = λ is. c.take_image.ensures.source (c.in_err-pass.was ∙ ap Err (same_refusal _ _ _ refl is));
       accepted = tt;
     })
 
@@ -59,7 +61,7 @@ pub returns : goal.returns
 returns g c =
     let geo = c.args.geometry.now in
     let claim = c.args.certificate.now in
-    let o = g.R.Read.remaining c.args.reader.now in
+    let o = g.R.DumpReader.remaining c.args.reader.now in
     let made = c.in_ok-begun.ensures in
     let done = c.in_ok-pass.ensures in
     let p = c.in_ok-pass.pass in
@@ -74,5 +76,6 @@ returns g c =
       asked = (λ is. absurd (judged _ _ named is), λ differs. absurd (differs made.asked));
       unread = λ is. absurd (judged _ _ named is);
       memory = λ is. absurd (judged _ _ named is);
+      source = λ is. absurd (judged _ _ named is);
       accepted = accepted_of c.finish.result geo c.args.capacity _ claim c.finish.ensures.claim own.claim made.asked;
     }

@@ -6,6 +6,7 @@ use Rattle.image_check.specs.Passed.{Shows, IsPass}
 use Rattle.image_check.proofs.PageReaderLemmas.{read_none, read_more, read_cut, page_size, row_before}
 use Rattle.image_check.proofs.PassLemmas.{same_pass}
 use Rattle.image_check.proofs.ReadLemmas.{at_end, place_fits}
+use Rattle.image_check.proofs.StreamLemmas.{uncut}
 use Rattle.image_check.proofs.stream.stream_pages.Goals as goal
 
 pub loop-row-init : goal.loop-row-init
@@ -46,6 +47,7 @@ returns-in_err-read_page g c =
       read = tt;
       cut = read_cut geo row _ _ _ _ (λ image. Shows image row c.loop-row.pass) _ c.loop-row.invariant.read
           (page_size geo _ _ _ _ (c.read_page.auto.body ∙ c.loop-row.auto.body) c.requires.body_whole (c.read_page.auto.spare ∙ c.loop-row.auto.spare) c.requires.spare_whole) (row_before geo _ _ c.loop-row-test.true c.rows-row-end.ensures) c.in_err-read_page.ensures.cut;
+      failed = c.in_err-read_page.ensures.failed;
     })
 
 pub returns : goal.returns
@@ -58,4 +60,5 @@ returns g c =
       pass = subst (λ k. IsPass k c.loop-row.pass) end inv.pass_is;
       same_pass = inv.pass_same;
       cut = tt;
+      failed = λ is. absurd (uncut _ _ _ refl is);
     }
