@@ -9,7 +9,7 @@ use Rattle.std.proofs.lemmas.Option.{slice_get_past, slice_get-get_or, same_Some
 use Rattle.page_layout.specs.Page.{Page}
 use Rattle.file_die.specs.declared.bytes.ByteFault.{ByteFault}
 use Rattle.file_die.specs.declared.bytes.ByteFault.TheVariants as fault
-use Rattle.file_die.specs.Bytes.{Bytes, over, Mixes, LastsMixed, AreAlike, WritesBytes, KeepsTold, Gives, HasEnded, InARow, IsPatient, OneCall, OneMore, came_by}
+use Rattle.file_die.specs.Bytes.{Bytes, over, Mixes, LastsMixed, AreAlike, WritesBytes, KeepsTold, Gives, HasEnded, InARow, IsPatient, OneCall, OneMore, came_by, OneWrite, TakesBytes, taken_by}
 use Rattle.file_die.specs.Rows.{WritesAll, Going, IsFilled}
 
 -- ---- places
@@ -27,7 +27,7 @@ get_drop (suc n) (x ∷ xs) i =
     let e : suc (n + i) ≡ suc n + i = omega arith in
     get_drop n xs i ∙ ap (slice_get (x ∷ xs)) e
 
-get_take : (n : ℕ) (xs : List ℕ) (i : ℕ) → i < n → slice_get (take n xs) i ≡ slice_get xs i
+pub get_take : (n : ℕ) (xs : List ℕ) (i : ℕ) → i < n → slice_get (take n xs) i ≡ slice_get xs i
 get_take zero xs i lt = absurd (omega (arith, lt))
 get_take (suc n) [] i lt = refl
 get_take (suc n) (x ∷ xs) zero lt = refl
@@ -250,6 +250,12 @@ not_written u at given done s g = record { mixes = g.mixes; written = λ e. let 
 
 pub tells_on : (size : ℕ) (reads : List ℕ → Page) (full : List ℕ) (u s t : Bytes) → KeepsTold size reads full u s → KeepsTold size reads full s t → KeepsTold size reads full u t
 tells_on size reads full u s t a b since told = b since (a since told)
+
+-- one more write of what is left
+pub takes_more : {F : Type 0} → (wrote : F → ℕ → List ℕ → Result ℕ ByteFault → F → Type 0) (first old new : F) (at done count : ℕ) (given part : List ℕ) (answer : Result ℕ ByteFault) → part ≡ drop done given → taken_by done answer ≡ count
+    → TakesBytes wrote first at given done old → wrote old (at + done) part answer new → TakesBytes wrote first at given count new
+takes_more wrote first old new at done count given part answer p e before here =
+    subst (λ n. TakesBytes wrote first at given n new) e (OneWrite done old answer new before (subst (λ z. wrote old (at + done) z answer new) p here))
 
 -- ---- reads one behind another
 

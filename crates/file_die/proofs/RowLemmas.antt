@@ -19,7 +19,7 @@ use Rattle.page_layout.specs.Flash.{no_page, with_block}
 use Rattle.page_layout.proofs.FlashLemmas.{inside, with_block-inside}
 use Rattle.onfi_cycles.specs.Cycles.{page_of}
 use Rattle.nand_die.proofs.PagesLemmas.{block_within, page_of_blank}
-use Rattle.file_die.specs.Bytes.{Bytes, HoldsOnlyBytes, WritesFailBy, Gives, HasEnded, SyncsBytes, over, piece, IsTold}
+use Rattle.file_die.specs.Bytes.{Bytes, HoldsOnlyBytes, WritesFailBy, Gives, HasEnded, SyncsBytes, TakesBytes, TakesFewer, over, piece, IsTold}
 use Rattle.file_die.specs.declared.bytes.ByteFault.{ByteFault}
 use Rattle.file_die.specs.declared.store.StoreFault.{StoreFault}
 use Rattle.file_die.specs.Rows.{Rows, AreRows, CountsRowFailures, FailsSync, Remembers, TellsEnd, TellsFull, WritesAll, IsReading, lacks_room, read_rows, held_in, is_kept, syncs_lost}
@@ -568,6 +568,18 @@ parts_read a b s t g size erased failures fault lost e parts same = record {
 
 pub gives_at : {F : Type 0} → (gave : F → ℕ → ℕ → Result (List ℕ) ByteFault → F → Type 0) (old : F) (at other : ℕ) (bytes : List ℕ) (file new : F) → at ≡ other → file ≡ new → Gives gave old at bytes file → Gives gave old other bytes new
 gives_at gave old at other bytes file new a f g = subst (λ z. Gives gave old other bytes z) f (subst (λ k. Gives gave old k bytes file) a g)
+
+pub takes_at : {F : Type 0} → (wrote : F → ℕ → List ℕ → Result ℕ ByteFault → F → Type 0) (old : F) (at other n : ℕ) (bytes : List ℕ) (file new : F) → at ≡ other → file ≡ new → TakesBytes wrote old at bytes n file → TakesBytes wrote old other bytes n new
+takes_at wrote old at other n bytes file new a f t = subst (λ z. TakesBytes wrote old other bytes n z) f (subst (λ k. TakesBytes wrote old k bytes n file) a t)
+
+pub takes_blank : {F : Type 0} → (wrote : F → ℕ → List ℕ → Result ℕ ByteFault → F → Type 0) (old : F) (at n : ℕ) (bytes : List ℕ) (file : F) → bytes ≡ replicate n 255 → TakesBytes wrote old at bytes (length bytes) file → TakesBytes wrote old at (replicate n 255) n file
+takes_blank wrote old at n bytes file e t = subst (λ k. TakesBytes wrote old at (replicate n 255) k file) (length-replicate n 255) (subst (λ (xs : List ℕ). TakesBytes wrote old at xs (length xs) file) e t)
+
+pub where_stopped : {F : Type 0} → (wrote : F → ℕ → List ℕ → Result ℕ ByteFault → F → Type 0) (old : F) (at other : ℕ) (bytes : List ℕ) (file new : F) (answer : Result (Unit {0}) ByteFault) (result : Result (Unit {0}) StoreFault)
+    → at ≡ other → file ≡ new → is_ok result ≡ is_ok answer → OnErr answer (TakesFewer wrote old at bytes file) → OnErr result (TakesFewer wrote old other bytes new)
+where_stopped wrote old at other bytes file new answer (Ok done) a f same by = tt
+where_stopped wrote old at other bytes file new (Ok done) (Err fault) a f same by = let no : ⊥ = cc in absurd no
+where_stopped wrote old at other bytes file new (Err why) (Err fault) a f same by = (by.0, by.1, takes_at wrote old at other by.0 bytes file new a f by.2)
 
 -- the parts of a file as it was taken: what stands in it was made to last
 pub parts_taken : (a b m : Bool) (u s t : Bytes) (g : Geometry) (size found : ℕ) (erased : List ℕ) → m ≡ a → b ≡ m → (a ≡ true → s ≡ u) → (a ≡ true → found ≡ length u.bytes) → (a ≡ true → HoldsOnlyBytes u) → found ≡ row_count g * size

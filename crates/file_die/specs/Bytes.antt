@@ -128,6 +128,22 @@ pub record HasEnded {F : Type 0} (gave : F → ℕ → ℕ → Result (List ℕ)
   pub unread : length before + rest ≡ wanted
   pub last : gave mid (at + length before) rest (Err why) new ⊎ ((why ≡ fault.Other) × gave mid (at + length before) rest (Ok []) new)
 
+-- ---- writes one behind another
+
+-- how many bytes are taken, after as many as had been
+abbrev pub taken_by : ℕ → Result ℕ ByteFault → ℕ
+taken_by done (Ok n) = done + n
+taken_by done (Err why) = done
+
+-- WRITES OF BYTES FROM A PLACE ON, each of all that are left where the one before has ended, have taken so many of them, by the file's own word for one write
+pub data TakesBytes {F : Type 0} (wrote : F → ℕ → List ℕ → Result ℕ ByteFault → F → Type 0) (old : F) (at : ℕ) (bytes : List ℕ) : ℕ → F → Type 0 where
+  NoWrite : TakesBytes wrote old at bytes 0 old
+  OneWrite : (done : ℕ) (mid : F) (answer : Result ℕ ByteFault) (new : F) → TakesBytes wrote old at bytes done mid → wrote mid (at + done) (drop done bytes) answer new → TakesBytes wrote old at bytes (taken_by done answer) new
+
+-- they took a part of them only
+abbrev pub TakesFewer : {F : Type 0} → (wrote : F → ℕ → List ℕ → Result ℕ ByteFault → F → Type 0) → (old : F) → (at : ℕ) → (bytes : List ℕ) → (new : F) → Type 0
+TakesFewer wrote old at bytes new = (done : ℕ) × (done < length bytes) × TakesBytes wrote old at bytes done new
+
 -- ---- calls that were interrupted
 
 -- a read was, and a write

@@ -9,7 +9,7 @@ use Rattle.page_layout.specs.Counter.{HasRisen}
 use Rattle.file_die.specs.declared.bytes.ByteFault.{ByteFault}
 use Rattle.file_die.specs.declared.store.StoreFault.{StoreFault}
 use Rattle.file_die.specs.declared.bytes.ByteFault.TheVariants as fault
-use Rattle.file_die.specs.Bytes.{Bytes, HoldsOnlyBytes, WritesFailBy, HasEnded, Mixes, LastsMixed, AreAlike, over, piece}
+use Rattle.file_die.specs.Bytes.{Bytes, HoldsOnlyBytes, WritesFailBy, HasEnded, Mixes, LastsMixed, AreAlike, TakesBytes, over, piece}
 use Rattle.file_die.specs.Store.{Held}
 
 -- ---- a write of all bytes
@@ -109,6 +109,10 @@ pub record TellsEnd {F : Type 0} (gave : F → ℕ → ℕ → Result (List ℕ)
   pub why : ByteFault
   pub ended : HasEnded gave old.file (row * size) size why new.file
   pub first : Remembers old new why
+
+-- A BLOCK WAS MADE FFh by writes that took so many bytes FFh as its rows have, from its first row on, by the file's own word for one
+abbrev pub BlanksBlock : {F : Type 0} → (wrote : F → ℕ → List ℕ → Result ℕ ByteFault → F → Type 0) → (block : ℕ) → (old new : Rows F) → Type 0
+BlanksBlock wrote block old new = (let n : ℕ = old.geometry.pages * old.size in TakesBytes wrote old.file (block * old.geometry.pages * old.size) (replicate n 255) n new.file)
 
 -- A SYNC THAT FAILED did so as the file's, by its own word for one, or comes after one that failed
 pub record FailsSync {F : Type 0} (refused : F → ByteFault → F → Type 0) (old new : Rows F) : Type 0 where

@@ -4,8 +4,8 @@ ghost use Rattle.page_layout.specs.Counter.{HasRisen};
 ghost use Rattle.page_layout.specs.Geometry.{row_count, page_bytes};
 ghost use Rattle.onfi_cycles.specs.Cycles.{page_of};
 ghost use Rattle.file_die.specs.Store.{Clears, Loads, Puts, Syncs};
-ghost use Rattle.file_die.specs.Bytes.{Gives, HasRefused};
-ghost use Rattle.file_die.specs.Rows.{FailsSync, TellsEnd, TellsFull};
+ghost use Rattle.file_die.specs.Bytes.{Gives, HasRefused, TakesBytes, TakesFewer};
+ghost use Rattle.file_die.specs.Rows.{BlanksBlock, FailsSync, TellsEnd, TellsFull};
 
 use crate::bytes::{ByteFault, ByteFile};
 use crate::row_file::{RowFault, RowFile};
@@ -118,6 +118,10 @@ impl<F: ByteFile> Store for DieFile<F> {
         // Whatever the file does: it is full just where the file's last answer was that.
         ensures room { OnOk result (self.new.rows.full ≡ false) }
         ensures full { OnErr result (TellsFull F.wrote self.old.rows self.new.rows) }
+
+        // And the page is what its writes took.
+        ensures taken { OnOk result (TakesBytes F.wrote self.old.rows.file (row * page_bytes self.old.rows.geometry) page.now (length page.now) self.new.rows.file) }
+        ensures stopped { OnErr result (TakesFewer F.wrote self.old.rows.file (row * page_bytes self.old.rows.geometry) page.now self.new.rows.file) }
     {
         self.rows.write(row, page)
     }
@@ -137,6 +141,7 @@ impl<F: ByteFile> Store for DieFile<F> {
         // Whatever the file does: it is full just where the file's last answer was that.
         ensures room { OnOk result (self.new.rows.full ≡ false) }
         ensures full { OnErr result (TellsFull F.wrote self.old.rows self.new.rows) }
+        ensures taken { OnOk result (BlanksBlock F.wrote block self.old.rows self.new.rows) }
     {
         self.rows.erase(block)
     }

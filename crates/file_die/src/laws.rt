@@ -2,7 +2,7 @@
 ghost use Rattle.file_die.specs.Bytes.{ReadInterrupted, WriteInterrupted};
 ghost use Rattle.file_die.specs.DieLaws.{AddingGoesLaw, AlwaysLaw, CopiesLaw, ImagesLaw, KeepsLaw, LandsLaw, SinceSyncLaw, WipesLaw};
 ghost use Rattle.file_die.specs.FaultLaws.{ChangedLaw, EndedLaw, FirstFaultLaw, FullLaw, OwnFaultLaw, PatientLaw, NeverRefusedLaw, RowReadLaw, SyncedLaw, NoWriteFailsLaw, WholeReadLaw};
-ghost use Rattle.file_die.specs.FileLaws.{OverLaw, RawLaw};
+ghost use Rattle.file_die.specs.FileLaws.{FailedSyncLaw, OverLaw, PartWriteLaw, RawLaw};
 ghost use Rattle.file_die.specs.Laws.{StaysLaw, PutIsLoadedLaw, ClearedLaw, LoadLaw, SyncLaw, WholeLaw};
 
 use crate::bytes::ByteFile;
@@ -34,10 +34,13 @@ pub fn die_laws()
     ensures adding { AddingGoesLaw }
 {}
 
-/// Bytes over others stand in their place, and before them and behind them stands what stood there; and the rows of a file of pages without codes are the
-/// pages of the raw image that its bytes are. (This project's.)
+/// Bytes over others stand in their place, and before them and behind them stands what stood there; a write may have written the first of its bytes alone, and a
+/// sync that failed may have made nothing last, or all; and the rows of a file of pages without codes are the pages of the raw image that its bytes are. (This
+/// project's.)
 pub fn file_laws()
     ensures over { OverLaw }
+    ensures part_write { PartWriteLaw }
+    ensures failed_sync { FailedSyncLaw }
     ensures raw { RawLaw }
 {}
 

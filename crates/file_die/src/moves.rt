@@ -1,7 +1,7 @@
 //! Whole reads and writes of a file, whose calls may move less.
-ghost use Rattle.std.specs.Prelude.{◌≡◌, ◌<◌, ◌≤◌, ℕ, ◌+◌, ◌^◌, true, List, length, take, IfErr, IfOk, is_ok};
+ghost use Rattle.std.specs.Prelude.{◌≡◌, ◌<◌, ◌≤◌, ℕ, ◌+◌, ◌^◌, true, List, length, take, OnErr, IfErr, IfOk, is_ok};
 ghost use Rattle.page_layout.specs.Page.{Page};
-ghost use Rattle.file_die.specs.Bytes.{Bytes, WritesFailBy, Gives, HasEnded, IsPatient, ReadInterrupted, KeepsTold, WriteInterrupted, over};
+ghost use Rattle.file_die.specs.Bytes.{Bytes, WritesFailBy, Gives, HasEnded, IsPatient, ReadInterrupted, KeepsTold, TakesBytes, TakesFewer, WriteInterrupted, over};
 ghost use Rattle.file_die.specs.Rows.{WritesAll, Going, IsFilled, moved_by};
 
 use crate::bytes::{ByteFault, ByteFile};
@@ -68,6 +68,7 @@ fn write_once<F: ByteFile>(
     requires unfinished { done < length bytes.now }
     requires within { at + length bytes.now < 2 ^ 64 }
     ensures next { IfOk result (λ next. (done < next) × (next ≤ length bytes.now)) }
+    ensures taken { (first : F) → TakesBytes F.wrote first at bytes.now done file.old → TakesBytes F.wrote first at bytes.now (moved_by done result) file.new }
     ensures fails { IfErr result (λ why. WritesFailBy F.wrote why file.new) }
     ensures interrupted { IfErr result (λ why. why ≡ ByteFault.Interrupted → WriteInterrupted F.wrote file.old file.new) }
     ensures goes { F.honest file.old ≡ true → (first : Bytes) → at ≤ length first.bytes → Going first at bytes.now done (F.held file.old) → Going first at bytes.now (moved_by done result) (F.held file.new) }
@@ -93,6 +94,7 @@ fn write_next<F: ByteFile>(
     requires unfinished { done < length bytes.now }
     requires within { at + length bytes.now < 2 ^ 64 }
     ensures next { IfOk result (λ next. (done < next) × (next ≤ length bytes.now)) }
+    ensures taken { (first : F) → TakesBytes F.wrote first at bytes.now done file.old → TakesBytes F.wrote first at bytes.now (moved_by done result) file.new }
     ensures fails { IfErr result (λ why. WritesFailBy F.wrote why file.new) }
     ensures patient { IfErr result (λ why. IsPatient (WriteInterrupted F.wrote) why file.new) }
     ensures goes { F.honest file.old ≡ true → (first : Bytes) → at ≤ length first.bytes → Going first at bytes.now done (F.held file.old) → Going first at bytes.now (moved_by done result) (F.held file.new) }
@@ -147,6 +149,8 @@ pub fn read_all<F: ByteFile>(file: &mut F, to: &mut [u8], at: u64) -> Result<(),
 /// Each byte is as it was or as it was to be.
 pub fn write_all<F: ByteFile>(file: &mut F, bytes: &[u8], at: u64) -> Result<(), ByteFault>
     requires within { at + length bytes.now < 2 ^ 64 }
+    ensures taken { is_ok result ≡ true → TakesBytes F.wrote file.old at bytes.now (length bytes.now) file.new }
+    ensures stopped { OnErr result (TakesFewer F.wrote file.old at bytes.now file.new) }
     ensures fails { IfErr result (λ why. WritesFailBy F.wrote why file.new) }
     ensures patient { IfErr result (λ why. IsPatient (WriteInterrupted F.wrote) why file.new) }
     ensures writes { F.honest file.old ≡ true → at ≤ length (F.held file.old).bytes → WritesAll (F.held file.old) at bytes.now (is_ok result) (F.held file.new) }

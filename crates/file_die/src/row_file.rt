@@ -4,9 +4,9 @@ ghost use Rattle.page_layout.specs.Page.{Page};
 ghost use Rattle.page_layout.specs.Flash.{with_block};
 ghost use Rattle.page_layout.specs.Geometry.{row_count};
 ghost use Rattle.page_layout.specs.Counter.{counted, HasRisen};
-ghost use Rattle.file_die.specs.Bytes.{Gives, HasRefused, piece};
+ghost use Rattle.file_die.specs.Bytes.{Gives, HasRefused, TakesBytes, TakesFewer, piece};
 ghost use Rattle.file_die.specs.Store.{AreImages, Loads, Puts, Clears, Syncs};
-ghost use Rattle.file_die.specs.Rows.{CountsRowFailures, FailsSync, IsReading, TellsEnd, TellsFull, held_in, is_kept, lacks_room};
+ghost use Rattle.file_die.specs.Rows.{BlanksBlock, CountsRowFailures, FailsSync, IsReading, TellsEnd, TellsFull, held_in, is_kept, lacks_room};
 
 use crate::bytes::{ByteFault, ByteFile};
 use crate::moves::{read_all, write_all};
@@ -184,6 +184,8 @@ impl<F: ByteFile> RowFile<F> {
         ensures counts { CountsRowFailures self.old self.new result }
         ensures full { OnErr result (TellsFull F.wrote self.old self.new) }
         ensures room { OnOk result (self.new.full ≡ false) }
+        ensures taken { OnOk result (TakesBytes F.wrote self.old.file (row * self.old.size) bytes.now (length bytes.now) self.new.file) }
+        ensures stopped { OnErr result (TakesFewer F.wrote self.old.file (row * self.old.size) bytes.now self.new.file) }
     {
         let start = self.offset(row);
         let answer = write_all(&mut self.file, bytes, start);
@@ -205,6 +207,7 @@ impl<F: ByteFile> RowFile<F> {
         ensures counts { CountsRowFailures self.old self.new result }
         ensures full { OnErr result (TellsFull F.wrote self.old self.new) }
         ensures room { OnOk result (self.new.full ≡ false) }
+        ensures taken { OnOk result (BlanksBlock F.wrote block self.old self.new) }
     {
         let start = self.offset(self.geometry.row(block, 0));
         let answer = write_all(&mut self.file, &self.erased, start);

@@ -1,6 +1,6 @@
-use Rattle.std.proofs.Common.{◌∙◌, ℕ, List, arith, refl, false}
+use Rattle.std.proofs.Common.{◌≡◌, ◌∙◌, ℕ, List, arith, length, refl, subst, false}
 use Rattle.std.proofs.lemmas.Result.{err_from_is_err_and}
-use Rattle.file_die.specs.Bytes.{Bytes, over}
+use Rattle.file_die.specs.Bytes.{Bytes, NoWrite, TakesBytes, over}
 use Rattle.file_die.specs.Rows.{Going, WritesAll}
 use Rattle.file_die.proofs.BytesLemmas.{going_first, all_written, tells_on}
 use Rattle.file_die.proofs.moves.write_all.Goals as goal
@@ -11,6 +11,7 @@ part_written s at given done t going = record { mixes = going.mixes; written = �
 pub loop-done-init : goal.loop-done-init
 loop-done-init g c = record {
   most = omega arith;
+  taken = NoWrite;
   honest = refl;
   tells = λ size reads. refl;
   going = λ h l. going_first _ _ _ l;
@@ -25,6 +26,7 @@ loop-done-preserved g c =
     let made = c.in_ok-done.ensures in
     record {
       most = made.next.1;
+      taken = made.taken c.args.file.now was.taken;
       honest = made.honest ∙ was.honest;
       tells = λ size reads. made.tells size reads ∙ was.tells size reads;
       going = λ h l. made.goes (was.honest ∙ h) first l (was.going h l);
@@ -40,6 +42,8 @@ returns-in_err-done g c =
     let made = c.in_err-done.ensures in
     let p = err_from_is_err_and c.from_residual.result c.from_residual.ensures.1 in
     rw (p.1, p.2) (record {
+      taken = λ d. (let no : ⊥ = cc in absurd no);
+      stopped = (c.loop-done.done, omega (arith, c.loop-done-test.true), made.taken c.args.file.now was.taken);
       fails = made.fails;
       patient = made.patient;
       writes = λ h l. part_written first c.args.at c.args.bytes.now c.loop-done.done _ (made.goes (was.honest ∙ h) first l (was.going h l));
@@ -54,6 +58,8 @@ returns g c =
     let was = c.loop-done.invariant in
     record {
       honest = was.honest;
+      taken = λ d. subst (λ n. TakesBytes g.F.ByteFile.wrote c.args.file.now c.args.at c.args.bytes.now n c.loop-done.file) (let all : c.loop-done.done ≡ length c.args.bytes.now = omega (arith, c.loop-done-test.false, was.most) in all) was.taken;
+      stopped = tt;
       fails = tt;
       tells = was.tells;
       patient = tt;

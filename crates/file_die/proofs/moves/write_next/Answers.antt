@@ -5,6 +5,7 @@ use Rattle.file_die.proofs.moves.write_next.Goals as goal
 
 pub loop-tries-init : goal.loop-tries-init
 loop-tries-init g c = record {
+  taken = λ first before. before;
   tried = NoCall c.args.file.now;
   honest = refl;
   tells = λ size reads. refl;
@@ -17,6 +18,7 @@ loop-tries-preserved g c =
     let was = c.loop-tries.invariant in
     let made = c.in-Err-Interrupted.ensures in
     record {
+      taken = λ first before. made.taken first (was.taken first before);
       tried = one_more_call (WriteInterrupted g.F.ByteFile.wrote) c.loop-tries._tries _ c.loop-tries.file c.write_once.new.file refl was.tried (made.interrupted c.in-Err-Interrupted.field-0-is);
       honest = made.honest ∙ was.honest;
       tells = λ size reads. made.tells size reads ∙ was.tells size reads;
@@ -34,6 +36,7 @@ returns g c =
     let held = g.F.ByteFile.held in
     record {
       next = made.next;
+      taken = λ first before. made.taken first (was.taken first before);
       fails = made.fails;
       patient = is_patient (WriteInterrupted g.F.ByteFile.wrote) c.loop-tries._tries c.loop-tries.file left c.write_once-2.result (omega (arith, c.loop-tries-test.false, c.loop-tries.auto._tries-end)) was.tried made.interrupted;
       goes = λ h first l going. made.goes (was.honest ∙ h) first l (was.going h first l going);

@@ -23,4 +23,5 @@ returns g c =
       settled = failures_still now.rows left c.erase.result counts.settled;
       room = c.erase.ensures.room;
       full = c.erase.ensures.full;
+      taken = c.erase.ensures.taken;
     }

@@ -1,8 +1,10 @@
-use Rattle.std.proofs.Common.{sym, subst}
+use Rattle.std.proofs.Common.{◌*◌, length, sym, subst}
 use Rattle.page_layout.specs.declared.geometry.Geometry.{Geometry}
 use Rattle.std.specs.Result.{is_ok}
 use Rattle.onfi_cycles.specs.Cycles.{page_of}
 use Rattle.file_die.specs.Store.{Puts}
+use Rattle.std.specs.Prelude.{OnErr, OnOk}
+use Rattle.file_die.specs.Bytes.{TakesBytes, TakesFewer}
 use Rattle.file_die.specs.Rows.{held_in}
 use Rattle.file_die.proofs.RowLemmas.{failures_still, kept_still, plain_reading}
 use Rattle.file_die.proofs.file_store.DieFileStore.put.Goals as goal
@@ -23,4 +25,6 @@ returns g c =
       settled = failures_still now.rows left c.write.result counts.settled;
       room = c.write.ensures.room;
       full = c.write.ensures.full;
+      taken = subst (λ n. OnOk c.write.result (TakesBytes g.F.ByteFile.wrote now.rows.file (c.args.row * n) c.args.page.now (length c.args.page.now) left.file)) now.sized c.write.ensures.taken;
+      stopped = subst (λ n. OnErr c.write.result (TakesFewer g.F.ByteFile.wrote now.rows.file (c.args.row * n) c.args.page.now left.file)) now.sized c.write.ensures.stopped;
     }

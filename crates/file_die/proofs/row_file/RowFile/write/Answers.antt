@@ -4,7 +4,7 @@ use Rattle.std.proofs.Math.Facts.{Fits-lt-pow}
 use Rattle.page_layout.specs.Page.{Page}
 use Rattle.file_die.specs.Rows.{WritesAll, held_in}
 use Rattle.file_die.specs.Store.{Held, Puts}
-use Rattle.file_die.proofs.RowLemmas.{counts_settled, full_told, room_settled, rows_held, rows_set, puts, rows_of, kept_of, kept_settled, held_is, parts_written, row_within}
+use Rattle.file_die.proofs.RowLemmas.{counts_settled, full_told, room_settled, rows_held, rows_set, puts, rows_of, kept_of, kept_settled, held_is, parts_written, row_within, takes_at, where_ok, where_stopped}
 use Rattle.file_die.proofs.row_file.RowFile.write.Goals as goal
 
 pub invariant_of-self : goal.invariant_of-self
@@ -46,5 +46,7 @@ returns g c =
           (λ h. (c.write_all-answer.ensures.writes h (omega (arith, l, c.self.invariant.whole h))).syncs) reads;
       counts = counts_settled _ new c.settle.result made.geometry made.size made.ok made.rising made.rose made.first;
       full = full_told g.F.ByteFile.wrote _ new left c.write_all-answer.result c.settle.result c.write_all-answer.ensures.fails made.full made.told made.answer made.file;
+      taken = where_ok c.settle.result (λ d. takes_at g.F.ByteFile.wrote i.file c.offset-start.result _ _ given left new.file at_is (sym made.file) (c.write_all-answer.ensures.taken (sym made.answer ∙ d)));
+      stopped = where_stopped g.F.ByteFile.wrote i.file c.offset-start.result _ given left new.file c.write_all-answer.result c.settle.result at_is (sym made.file) made.answer c.write_all-answer.ensures.stopped;
       room = room_settled new.full i.sync_failed c.write_all-answer.result c.settle.result made.full made.answer;
     })
