@@ -7,7 +7,7 @@ ghost use Rattle.nand_die.specs.DieValue.{DieValue};
 ghost use Rattle.nand_die.specs.Laws.{TellsLaw};
 ghost use Rattle.die_laws.specs.Buses.{BlownLaw};
 ghost use Rattle.die_laws.specs.Names.{NamedAllLaw, NamedUpToLaw};
-ghost use Rattle.die_laws.specs.Records.{AlwaysTellsLaw, AgreeingLaw, UntouchedLaw};
+ghost use Rattle.die_laws.specs.Records.{AlwaysTellsLaw, AgreeingLaw, BehindFaultLaw, UntouchedLaw};
 ghost use Rattle.die_laws.specs.Refusals.{UncountedLaw, KeptBufferLaw};
 ghost use Rattle.die_laws.specs.Stops.{UnsoundStopLaw};
 
@@ -37,11 +37,12 @@ pub fn stop_laws()
     ensures unsound { UnsoundStopLaw }
 {}
 
-/// A driver tells a record at each moment, over any bus; as it is made that tells of the die, with an empty log and nothing at hand. What a fuse or a garble tells is what its bus
+/// A driver tells a record at each moment, over any bus; as it is made that tells of the die, with an empty log and nothing at hand. What is done behind a fault stands behind what was at hand. What a fuse or a garble tells is what its bus
 /// tells, and what a die in memory tells is the record that it keeps. Where both are told and were the same once, the driver's record and its bus's stay the same. (This project.)
 pub fn record_laws<B: Bus>()
     ensures driver { AlwaysTellsLaw ⟦<Driver<B> as PageSource>⟧.view.recorded (λ d. d.told) }
     ensures untouched { UntouchedLaw }
+    ensures behind { BehindFaultLaw }
     ensures agreeing { AgreeingLaw }
     ensures fuse { TellsLaw (λ f. f.bus) ⟦<CycleFuse<B> as Bus>⟧.recorded B.recorded }
     ensures garble { TellsLaw (λ g. g.bus) ⟦<Garble<B> as Bus>⟧.recorded B.recorded }
