@@ -15,17 +15,17 @@ use Rattle.page_layout.specs.Greatest.{place_of, Describes}
 use Rattle.page_layout.specs.Key.{key_of}
 use Rattle.page_layout.specs.Page.{Page, Image}
 use Rattle.page_layout.specs.Sound.{record_of}
-use Rattle.page_layout.specs.Newest.{latest_below, newest, sequence_at}
+use Rattle.page_layout.specs.Newest.{AreTied, latest_below, newest, sequence_at}
 use Rattle.page_layout.specs.Live.{IsKeyOf, is_in_block}
 use Rattle.page_layout.specs.Array.{marks}
 use Rattle.page_layout.proofs.NewestLemmas.{newest-is, newest-record, scan_tells, sequence_at-key}
-use Rattle.page_layout.proofs.ArrayLemmas.{latest-newest, latest-tied, length-marks, mark-page, page_of_mark}
+use Rattle.page_layout.proofs.ArrayLemmas.{latest-newest, latest-tied, length-marks, mark-page, page_of_mark, scan_never, scan_once}
 use Rattle.image_check.specs.Blocks.{table_class}
 use Rattle.image_check.specs.Survey.{index_of}
 use Rattle.image_check.proofs.SurveyLemmas.{index_within}
 use Rattle.lab_dump.specs.Count.{is_in_range, is_outside}
 use Rattle.page_layout.specs.Change.{one_if}
-use Rattle.lab_dump.specs.Bad.{HasNewer, IsRewritten, IsPlain, is_tied, is_plain, is_rewritten, keeps_below, key_at, latest_at, strange_of, ties_below, RewrittenLaw, RewrittenToldLaw}
+use Rattle.lab_dump.specs.Bad.{HasNewer, IsRewritten, IsPlain, is_tied, is_plain, is_rewritten, keeps_below, key_at, latest_at, strange_of, ties_below, PlainLaw, RewrittenLaw, RewrittenToldLaw}
 use Rattle.lab_dump.proofs.AnyLemmas.{any_at, any_more}
 use Rattle.lab_dump.proofs.TraceLemmas.{key_found, place_is}
 
@@ -185,6 +185,25 @@ strange_all g image plain = none_counted (λ p. is_outside g (record_of p)) imag
     by : (row : ℕ) (p : Page) → slice_get image row ≡ Some p → (o : Option Record) → record_of p ≡ o → is_outside g (record_of p) ≡ false
     by row p is None e = ap (is_outside g) e
     by row p is (Some r) e = ap (is_outside g) e ∙ within_range g r (plain.keys row r (mark-page image row p is ∙ e))
+
+-- ---- the test of a plain image
+
+untied_by : (g : Geometry) (image : Image) (key : Key) (a b : ℕ) → ties_below g image (key_count g) ≡ false → IsKeyOf g key → (l : Latest) → l ≡ latest_below (marks image) key (length image) → AreTied (marks image) key a b → ⊥
+untied_by g image key a b ties of Never is two = scan_never image key (length image) refl is a b two
+untied_by g image key a b ties of (Once row s) is two = scan_once image key (length image) row s refl is a b two
+untied_by g image key a b ties of (Tied x y s) is two =
+    let i = index_of g key in
+    let tied : is_tied (latest_at g image (length image) i) ≡ true = ap is_tied (ap (λ k. latest_below (marks image) k (length image)) (key_found g key of) ∙ sym is) in
+    true≢false (sym (any_at (λ j. is_tied (latest_at g image (length image) j)) (key_count g) i (index_within g key of) tied) ∙ ties)
+
+pub plain_law : PlainLaw
+plain_law g image = (
+  λ e. let parts = plain_parts g image e in record {
+    keys = λ row r mark. strange_none g image row r parts.0 mark;
+    untied = λ key a b of. untied_by g image key a b parts.1 of (latest_below (marks image) key (length image)) refl;
+  },
+  λ plain. and_from (strange_of g image == 0) (not (ties_below g image (key_count g))) (eq-eqb (strange_of g image) 0 (strange_all g image plain)) (ap not (untied_all g image plain)),
+)
 
 pub rewritten_told_law : RewrittenToldLaw
 unfolding is_rewritten

@@ -1,15 +1,16 @@
 -- How many sectors of a dump may be older than the last write.
-use Rattle.std.proofs.Common.{◌≡◌, ◌⊎◌, inl, inr, ℕ, zero, suc, ◌+◌, ◌/◌, ◌<◌, ◌≤◌, List, [], ◌∷◌, ◌++◌, append-nil, cond, count_by, subst, length, get_or, Option, Some, None}
+use Rattle.std.proofs.Common.{◌≡◌, ◌⊎◌, inl, inr, ℕ, zero, suc, ◌+◌, ◌/◌, ◌<◌, ◌≤◌, List, [], ◌∷◌, ◌++◌, append-nil, cond, count_by, subst, length, get_or, set, Option, Some, None}
 use Rattle.std.proofs.Common.{Bool, true, false, refl, sym, ap, ◌∙◌, arith, slice_get}
-use Rattle.std.specs.Prelude.{◌&&◌, ◌||◌, not, nat_lt, is_some}
+use Rattle.std.specs.Prelude.{◌&&◌, ◌||◌, ◌==◌, not, nat_lt, is_some}
 use Rattle.std.specs.List.{list_any}
 use Rattle.std.proofs.lemmas.List.Sums.{sum_by_push}
 use Rattle.std.proofs.lemmas.Bool.{cases_Bool, cases_eq, cases_lt, lt-ltb, le-ltb, ltb-true, and_from, and_parts, true≢false}
-use Rattle.std.proofs.lemmas.List.{get_or_past}
+use Rattle.std.proofs.lemmas.List.{get_or_past, length-set}
 use Rattle.page_layout.specs.declared.geometry.Geometry.{Geometry}
 use Rattle.page_layout.specs.declared.record.Record.{Record}
 use Rattle.page_layout.specs.declared.record.Key.{Key}
 use Rattle.page_layout.specs.declared.record.Key.TheVariants.{Sector, Translation, Table}
+use Rattle.page_layout.specs.Geometry.{key_count}
 use Rattle.page_layout.specs.Page.{Page, Image}
 use Rattle.page_layout.specs.Sound.{record_of, is_erased_page}
 use Rattle.page_layout.specs.Key.{key_eq, key_of}
@@ -19,12 +20,12 @@ use Rattle.page_layout.specs.Array.{marks}
 use Rattle.page_layout.specs.Block.{is_broken, is_programmed}
 use Rattle.page_layout.proofs.RecordLemmas.{erased_no_record}
 use Rattle.page_layout.proofs.NewestLemmas.{Forgets, newest-is, newest_forgets, newest-record, newest-within, sequence_at-key, sequence_at-none, sequence_at-same}
-use Rattle.page_layout.proofs.ArrayLemmas.{length-marks, mark-page, mark-same, sector-same}
+use Rattle.page_layout.proofs.ArrayLemmas.{length-marks, mark-page, mark-same, sector-same, slice_get-set_other, slice_get-set_same}
 use Rattle.page_layout.specs.Change.{one_if}
 use Rattle.image_check.specs.Blocks.{is_factory}
-use Rattle.lab_dump.specs.Bad.{is_excused, is_rewritten}
+use Rattle.lab_dump.specs.Bad.{is_excused, is_plain, is_rewritten, keeps_below}
 use Rattle.lab_dump.specs.Doubts.{has_page, is_programmed_at, is_unsound_at, is_hole, rows_passing, doubts_of}
-use Rattle.lab_dump.specs.Bound.{IsDumpOf, is_gone_from, is_gone, OwnRowLaw, BoundLaw, NotGoneReadsSameLaw, HoleLostLaw}
+use Rattle.lab_dump.specs.Bound.{IsDumpOf, is_gone_from, is_gone, BrokenPageLaw, OwnRowLaw, BoundLaw, NotGoneReadsSameLaw, HoleLostLaw}
 use Rattle.lab_dump.proofs.CountLemmas.{broken_of}
 use Rattle.lab_dump.specs.declared.said.SaidPage.{SaidPage}
 use Rattle.lab_dump.specs.Doubts.{legible_of}
@@ -111,6 +112,36 @@ own_row_law g die dump n of e =
         ]
       ];
     }
+
+-- ---- there is such a dump
+
+not_both : (o : Option Page) → has_page is_programmed o ≡ true → has_page is_erased_page o ≡ true → ⊥
+not_both None programmed erased = true≢false (sym programmed)
+not_both (Some p) programmed erased = true≢false (sym programmed ∙ ap not erased)
+
+pub broken_page_law : BrokenPageLaw
+unfolding is_rewritten
+broken_page_law g die row p within broken fine =
+    let dump : Image = set die row p in
+    let parts = and_parts (not (is_erased_page p)) (not (is_some (record_of p))) broken in
+    let here : slice_get dump row ≡ Some p = slice_get-set_same die row p within in
+    record {
+      size = length-set die row p;
+      page = λ at was is was_at is_at. elim (cases_eq at row) [
+        | inl same ↦ inr (let both : Some is ≡ Some p = sym is_at ∙ (ap (slice_get dump) same ∙ here) in let now : is ≡ p = cc in ap record_of now ∙ unsound_of (record_of p) (unset (is_some (record_of p)) parts.1))
+        | inr ne ↦ inl (let both : Some is ≡ Some was = sym is_at ∙ (slice_get-set_other die row at p ne ∙ was_at) in cc)
+      ];
+      followed = λ at programmed erased. absurd (elim (cases_eq at row) [
+        | inl same ↦ true≢false (sym parts.0 ∙ ap not (sym (ap (has_page is_erased_page) (ap (slice_get dump) same ∙ here)) ∙ erased))
+        | inr ne ↦ not_both (slice_get die at) programmed (sym (ap (has_page is_erased_page) (slice_get-set_other die row at p ne)) ∙ erased)
+      ]);
+      unused = λ at factory. absurd (true≢false (sym factory ∙ ap (λ k. k == 1) (fine (at / g.pages))));
+      moved = λ n at newest_is rewritten. absurd (true≢false (sym rewritten ∙ ap (λ k. (k == 2) && (is_plain g dump && not (keeps_below g dump (key_count g) (at / g.pages)))) (fine (at / g.pages))));
+    }
+  where
+    unset : (b : Bool) → not b ≡ true → b ≡ false
+    unset true h = absurd (true≢false (sym h))
+    unset false h = refl
 
 -- ---- counts
 

@@ -25,7 +25,7 @@ use Rattle.page_layout.proofs.StepLemmas.{below_more}
 use Rattle.page_layout.proofs.FlashLemmas.{geometry-Steps, program_means, erase_keeps}
 use Rattle.certificate.specs.Claim.{Claim}
 use Rattle.image_check.specs.Agrees.{Agrees}
-use Rattle.lab_dump.specs.Lost.{IsWhereSaid, IsSectorSince, LeadsInOrder, is_there, is_lost_by_latest, said_row, has_lost_page, HasLostPageLaw, NoneLostLaw}
+use Rattle.lab_dump.specs.Lost.{IsWhereSaid, IsSectorSince, LeadsInOrder, is_there, is_lost_by_latest, said_row, has_lost_page, HasLostPageLaw, NoneLostLaw, OneProgramLaw}
 
 -- ---- the criterion
 
@@ -260,6 +260,9 @@ since_late ms n next h =
       at = subst (λ k. sequence_at ms k h.row ≡ Some h.its.sequence) key (sequence_at-key ms h.row h.its h.is);
       late = h.late;
     }
+
+pub one_program : OneProgramLaw
+one_program g next old new row p r passed left free says version of late steps = (r, record { free = free; says = says; version = version; of_key = of; late = late }, new, steps, refl)
 
 pub none_lost : NoneLostLaw
 none_lost g capacity c old new log n same agrees on within =

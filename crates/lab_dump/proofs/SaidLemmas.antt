@@ -34,7 +34,7 @@ use Rattle.lab_dump.specs.declared.trace.Trace.{Trace}
 use Rattle.lab_dump.specs.declared.trace.Trace.TheVariants.{Never, Once, Tied}
 use Rattle.lab_dump.specs.Trace.{TellsTrace, is_before}
 use Rattle.lab_dump.specs.Doubting.{HasTraces}
-use Rattle.lab_dump.specs.Said.{IsBesideSeal, IsSpelled, NewerLaw, SaidLaw, SpelledLaw, WasLaw, is_after, is_newer, judged, of_die, said_below, said_by, said_in_row, said_of, says}
+use Rattle.lab_dump.specs.Said.{IsBesideSeal, IsSpelled, NewerLaw, OtherSealLaw, SaidLaw, SpelledLaw, WasLaw, is_after, is_newer, judged, of_die, said_below, said_by, said_in_row, said_of, says}
 use Rattle.lab_dump.proofs.BadLemmas.{in_range, within_range}
 
 -- ---- what a spare area spells, but for its seal
@@ -97,6 +97,19 @@ says_broken g p b e = ap (λ t. cond t (of_die g (spelled p.spare)) None) e
 
 of_die_in : (g : Geometry) (r : Record) → IsKeyOf g (key_of r) → of_die g (Some r) ≡ Some r
 of_die_in g r of = ap (λ b. cond b None (Some r)) (within_range g r of)
+
+pub other_seal_law : OtherSealLaw
+other_seal_law head seal other rest size seal_is other_is = record {
+  head = head;
+  seal = seal;
+  other = other;
+  rest = rest;
+  head_size = size;
+  seal_size_is = seal_is;
+  other_size_is = other_is;
+  was_is = refl;
+  now_is = refl;
+}
 
 pub was_law : WasLaw
 was_law g was now r is of beside broken =

@@ -1,9 +1,9 @@
 -- The image as of a sequence.
-use Rattle.std.proofs.Common.{◌≡◌, ◌↔◌, inl, inr, ℕ, suc, ◌≤◌, length, get_or, map, [], ◌∷◌, Option, Some, None, Bool, true, false, refl, sym, ap, ◌∙◌, subst, arith, cond}
+use Rattle.std.proofs.Common.{◌≡◌, ◌↔◌, inl, inr, ℕ, suc, ◌<◌, ◌≤◌, length, get_or, set, map, [], ◌∷◌, Option, Some, None, Bool, true, false, refl, sym, ap, ◌∙◌, subst, arith, cond}
 use Rattle.std.specs.Prelude.{slice_get, option_map, nat_lt}
-use Rattle.std.proofs.lemmas.Bool.{cases_Bool}
+use Rattle.std.proofs.lemmas.Bool.{cases_Bool, cases_eq}
 use Rattle.std.proofs.lemmas.Bool.Decides.{nat_tests}
-use Rattle.std.proofs.lemmas.List.{length-map, get_or_past}
+use Rattle.std.proofs.lemmas.List.{length-map, length-set, get_or_past}
 use Rattle.std.proofs.lemmas.Option.{slice_get-map, slice_get_cases}
 use Rattle.page_layout.specs.declared.geometry.Geometry.{Geometry}
 use Rattle.page_layout.specs.declared.record.Record.{Record}
@@ -13,11 +13,11 @@ use Rattle.page_layout.specs.Sound.{record_of}
 use Rattle.page_layout.specs.Change.{erased_page}
 use Rattle.page_layout.specs.Newest.{newest}
 use Rattle.page_layout.specs.Array.{marks}
-use Rattle.page_layout.proofs.ArrayLemmas.{mark-page, length-marks, page_of_mark, sector-same, array-same}
+use Rattle.page_layout.proofs.ArrayLemmas.{mark-page, mark-same, length-marks, page_of_mark, sector-same, array-same, slice_get-set_other, slice_get-set_same}
 use Rattle.page_layout.proofs.NewestLemmas.{newest-record, newest_same, sequence_at-same}
 use Rattle.page_layout.proofs.GreatestLemmas.{IsGreatest-same}
 use Rattle.page_layout.proofs.StepLemmas.{erased_unsound}
-use Rattle.lab_dump.specs.Until.{is_later, record_until, page_until, until, CountsUntilLaw, AllCountLaw, IsUncollected, ThenLaw}
+use Rattle.lab_dump.specs.Until.{is_later, record_until, page_until, until, CountsUntilLaw, AllCountLaw, IsUncollected, LaterPageLaw, ThenLaw}
 
 -- ---- its pages
 
@@ -152,3 +152,23 @@ then_law g last old new h = array-same g old (until g (Some last) new) (λ n.
     sector-same g old (until g (Some last) new) n (then_newest g last old new n h) (λ row is.
     let found = newest-record (marks old) (key.Sector n) row is in
     then_page g last old new row found.0 h found.1))
+
+-- ---- there is such a die
+
+pub later_page_law : LaterPageLaw
+later_page_law last old row p r within free is late early = record {
+  size = length-set old row p;
+  early = early;
+  kept = λ at its mark. elim (cases_eq at row) [
+    | inl same ↦ absurd (let clash : Some its ≡ None = sym mark ∙ (ap (λ k. get_or (marks old) k None) same ∙ free) in cc)
+    | inr ne ↦ slice_get-set_other old row at p ne
+  ];
+  late = λ at its none mark. elim (cases_eq at row) [
+    | inl same ↦
+        (let here : get_or (marks (set old row p)) at None ≡ Some r = ap (λ k. get_or (marks (set old row p)) k None) same ∙ (mark-page (set old row p) row p (slice_get-set_same old row p within) ∙ is) in
+        let both : Some its ≡ Some r = sym mark ∙ here in
+        let its_is : r ≡ its = cc in
+        subst (λ (x : Record). last < x.sequence) its_is late)
+    | inr ne ↦ absurd (let clash : Some its ≡ None = sym mark ∙ (mark-same (set old row p) old at (slice_get-set_other old row at p ne) ∙ none) in cc)
+  ];
+}

@@ -1,6 +1,6 @@
 -- Bad blocks of which a dump may say that their pages leave nothing open: those that the newest table names factory, and those that it names grown
 -- and whose content was written again.
-use Rattle.std.specs.Prelude.{◌≡◌, ℕ, ◌-◌, ◌<◌, ◌/◌, ◌==◌, ◌&&◌, ◌||◌, not, nat_lt, if◌then◌else◌, Bool, true, false, List, length, count_by, get_or, Option, Some, None}
+use Rattle.std.specs.Prelude.{◌≡◌, ◌↔◌, ℕ, ◌-◌, ◌<◌, ◌/◌, ◌==◌, ◌&&◌, ◌||◌, not, nat_lt, if◌then◌else◌, Bool, true, false, List, length, count_by, get_or, Option, Some, None}
 use Rattle.std.specs.List.{list_any, range_with_len}
 use Rattle.page_layout.specs.declared.geometry.Geometry.{Geometry}
 use Rattle.page_layout.specs.declared.record.Record.{Record}
@@ -86,6 +86,10 @@ is_excused g image block = is_factory g image block || is_rewritten g image bloc
 -- A block is told as written again only where it was.
 abbrev pub RewrittenLaw : Type 0
 RewrittenLaw = (g : Geometry) (image : Image) (block : ℕ) → is_rewritten g image block ≡ true → IsRewritten g image block
+
+-- The test of that is right.
+abbrev pub PlainLaw : Type 0
+PlainLaw = (g : Geometry) (image : Image) → (is_plain g image ≡ true) ↔ IsPlain g image
 
 -- Where each sound page is of a key of the die and none are tied, each that was written again is told.
 abbrev pub RewrittenToldLaw : Type 0

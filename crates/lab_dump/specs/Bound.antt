@@ -1,6 +1,6 @@
 -- How many sectors of a dump may be older than the last write: at most as many as it has pages that are neither erased nor sound, and holes, but for
 -- those of bad blocks whose pages leave nothing open.
-use Rattle.std.specs.Prelude.{◌≡◌, ◌⊎◌, ℕ, ◌/◌, ◌<◌, ◌≤◌, not, Bool, true, false, length, get_or, slice_get, count_by, Option, Some, None, is_some}
+use Rattle.std.specs.Prelude.{◌≡◌, ◌⊎◌, ℕ, ◌/◌, ◌<◌, ◌≤◌, not, Bool, true, false, length, get_or, slice_get, slice_set, count_by, Option, Some, None, is_some}
 use Rattle.std.specs.List.{range_with_len}
 use Rattle.page_layout.specs.declared.geometry.Geometry.{Geometry}
 use Rattle.page_layout.specs.declared.record.Key.TheVariants.{Sector}
@@ -9,7 +9,8 @@ use Rattle.page_layout.specs.Sound.{record_of}
 use Rattle.page_layout.specs.Newest.{newest}
 use Rattle.page_layout.specs.Array.{marks, sector_of}
 use Rattle.page_layout.specs.OneArray.{AreDistinct}
-use Rattle.image_check.specs.Blocks.{is_factory}
+use Rattle.page_layout.specs.Block.{is_broken}
+use Rattle.image_check.specs.Blocks.{is_factory, table_class}
 use Rattle.lab_dump.specs.Bad.{is_excused, is_rewritten}
 use Rattle.lab_dump.specs.Doubts.{is_erased_at, is_programmed_at, is_unsound_at, is_hole, IsHole, doubts_of, most_older}
 
@@ -52,6 +53,10 @@ pub record HasOwnRow (g : Geometry) (die dump : Image) (n : ℕ) : Type 0 where
   pub stays_open : is_excused g dump (row / g.pages) ≡ false
 
 -- ---- laws
+
+-- Such a dump there is: of a die of which one page came to be neither erased nor sound, where the dump's newest table names no block bad.
+abbrev pub BrokenPageLaw : Type 0
+BrokenPageLaw = (g : Geometry) (die : Image) (row : ℕ) (p : Page) → row < length die → is_broken p ≡ true → ((block : ℕ) → table_class g (slice_set die row p) block ≡ 0) → IsDumpOf g die (slice_set die row p)
 
 -- Each sector whose newest page is gone has a row of its own that is told.
 abbrev pub OwnRowLaw : Type 0

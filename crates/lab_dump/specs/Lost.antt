@@ -80,6 +80,11 @@ LeadsInOrder g next old (Program row p passed left ∷ log) new =
     (r : Record) × IsDueNext g next old.image row p r × (mid : Flash) × Steps old (Program row p passed left) mid × LeadsInOrder g (r.sequence + 1) mid log new
 LeadsInOrder g next old (Erase block passed left ∷ log) new = HoldsNone g.pages block old.image × (mid : Flash) × Steps old (Erase block passed left) mid × LeadsInOrder g next mid log new
 
+-- A log of one program is in order where its page is due.
+abbrev pub OneProgramLaw : Type 0
+OneProgramLaw = (g : Geometry) (next : ℕ) (old new : Flash) (row : ℕ) (p : Page) (r : Record) (passed : Bool) (left : Page) → IsUnsoundAt old.image row → record_of p ≡ Some r → version_of p ≡ Some (version_for g)
+    → IsKeyOf g (key_of r) → next ≤ r.sequence → Steps old (Program row p passed left) new → LeadsInOrder g next old (Program row p passed left ∷ []) new
+
 -- Of a die whose certificate agreed with it no sector is told as lost, whatever went on since.
 abbrev pub NoneLostLaw : Type 0
 NoneLostLaw = (g : Geometry) (capacity : ℕ) (c : Claim) (old new : Flash) (log : List Operation) (n : ℕ) → old.geometry ≡ g → Agrees g capacity old.image c

@@ -78,6 +78,10 @@ pub record IsBesideSeal (was now : List ℕ) : Type 0 where
   pub was_is : was ≡ head ++ (seal ++ rest)
   pub now_is : now ≡ head ++ (other ++ rest)
 
+-- Such areas there are, of whatever bytes.
+abbrev pub OtherSealLaw : Type 0
+OtherSealLaw = (head seal other rest : List ℕ) → length head ≡ 24 → length seal ≡ seal_size (slice_index head 2) → length other ≡ seal_size (slice_index head 2) → IsBesideSeal (head ++ (seal ++ rest)) (head ++ (other ++ rest))
+
 -- A page that was sound, of which the data area and the seal alone have changed, and which is not sound any more, says what it was of.
 abbrev pub WasLaw : Type 0
 WasLaw = (g : Geometry) (was now : Page) (r : Record) → record_of was ≡ Some r → IsKeyOf g (key_of r) → IsBesideSeal was.spare now.spare → is_broken now ≡ true → says g now ≡ Some r

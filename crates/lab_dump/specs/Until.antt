@@ -1,5 +1,5 @@
 -- The image as of a sequence: the pages that were programmed later are as an erase leaves them.
-use Rattle.std.specs.Prelude.{◌≡◌, ◌↔◌, ℕ, ◌<◌, ◌≤◌, nat_lt, if◌then◌else◌, Bool, false, length, map, get_or, slice_get, Option, Some, None}
+use Rattle.std.specs.Prelude.{◌≡◌, ◌↔◌, ℕ, ◌<◌, ◌≤◌, nat_lt, if◌then◌else◌, Bool, false, length, map, get_or, slice_get, slice_set, Option, Some, None}
 use Rattle.page_layout.specs.declared.geometry.Geometry.{Geometry}
 use Rattle.page_layout.specs.declared.record.Record.{Record}
 use Rattle.page_layout.specs.Page.{Page, Image}
@@ -44,6 +44,11 @@ pub record IsUncollected (last : ℕ) (old new : Image) : Type 0 where
   pub early : (row : ℕ) (r : Record) → get_or (marks old) row None ≡ Some r → r.sequence ≤ last
   pub kept : (row : ℕ) (r : Record) → get_or (marks old) row None ≡ Some r → slice_get new row ≡ slice_get old row
   pub late : (row : ℕ) (r : Record) → get_or (marks old) row None ≡ None → get_or (marks new) row None ≡ Some r → last < r.sequence
+
+-- Such a die there is: one of which a row that had no sound page got one of a later sequence.
+abbrev pub LaterPageLaw : Type 0
+LaterPageLaw = (last : ℕ) (old : Image) (row : ℕ) (p : Page) (r : Record) → row < length old → get_or (marks old) row None ≡ None → record_of p ≡ Some r → last < r.sequence
+    → ((other : ℕ) (its : Record) → get_or (marks old) other None ≡ Some its → its.sequence ≤ last) → IsUncollected last old (slice_set old row p)
 
 -- Of such a die the array as of that sequence is the array then.
 abbrev pub ThenLaw : Type 0

@@ -1,8 +1,8 @@
 //! What the definitions in `specs/` come to, proved: each function's contract is the law, and its body is empty.
-ghost use Rattle.lab_dump.specs.Bound.{BoundLaw, HoleLostLaw, NotGoneReadsSameLaw, OwnRowLaw};
-ghost use Rattle.lab_dump.specs.Bad.{RewrittenLaw, RewrittenToldLaw};
+ghost use Rattle.lab_dump.specs.Bound.{BoundLaw, BrokenPageLaw, HoleLostLaw, NotGoneReadsSameLaw, OwnRowLaw};
+ghost use Rattle.lab_dump.specs.Bad.{PlainLaw, RewrittenLaw, RewrittenToldLaw};
 ghost use Rattle.lab_dump.specs.Doubts.{HoleLaw, ToldOnceLaw};
-ghost use Rattle.lab_dump.specs.Lost.{HasLostPageLaw, NoneLostLaw};
+ghost use Rattle.lab_dump.specs.Lost.{HasLostPageLaw, NoneLostLaw, OneProgramLaw};
 ghost use Rattle.lab_dump.specs.Named.{OthersLaw};
 ghost use Rattle.lab_dump.specs.Map.{AreasLaw};
 ghost use Rattle.lab_dump.specs.FitLaws.{FewerLaw, FitLaw, NoFitTwiceLaw, OwnGeometryLaw, ShortLaw, PageLaw, LookedLaw, LookedRiseLaw, LookedAllLaw, GreatestLaw, TellsEachPageLaw, LowerLaw, TableLaw};
@@ -19,9 +19,10 @@ pub fn lost_law()
 {}
 
 /// Of a die whose certificate agreed with it no sector is told as lost after any log of programs that take the next sequences in order and of
-/// erases of blocks with no newest page, passed or failed.
+/// erases of blocks with no newest page, passed or failed. One program of a page that is due is such a log.
 pub fn none_lost_law()
-    ensures { NoneLostLaw }
+    ensures none { NoneLostLaw }
+    ensures program { OneProgramLaw }
 {}
 
 /// What a hole is: a row is told as one just where its page is erased and one behind it in its block is not. Of a die whose blocks were programmed in
@@ -32,12 +33,13 @@ pub fn hole_laws()
 {}
 
 /// What a block is that was written again: one is told only where the newest table names it grown, and there is a newer page of the key of each sound
-/// page in it; where each sound page is of a key of the die, and no two share the greatest sequence of theirs, each such block is told. Each page that is
+/// page in it; where each sound page is of a key of the die, and no two share the greatest sequence of theirs, each such block is told, and a test says whether that is so. Each page that is
 /// neither erased nor sound, and each hole, is counted once: as one that may have been the newest of its sector, or as one of a block that the newest
 /// table names factory, or that was written again.
 pub fn bad_block_laws()
     ensures rewritten { RewrittenLaw }
     ensures told { RewrittenToldLaw }
+    ensures plain { PlainLaw }
     ensures once { ToldOnceLaw }
 {}
 
@@ -46,8 +48,9 @@ pub fn bad_block_laws()
 /// factory, and none that was the newest of its sector is gone from a block that was written again: each sector whose newest page is gone has a row of
 /// its own that is neither erased nor sound, or a hole; so there are at most as many of them as `Doubts::most_older` says; and every other one reads as
 /// it did. And where what pages say is so that are neither erased nor sound, at most as many of those sectors as `Doubts::most_others` says are not among those
-/// of which some page says something newer.
+/// of which some page says something newer. A die of which one page came to be neither erased nor sound gives such a dump, where its newest table names no block bad.
 pub fn bound_laws()
+    ensures broken { BrokenPageLaw }
     ensures own { OwnRowLaw }
     ensures bound { BoundLaw }
     ensures kept { NotGoneReadsSameLaw }

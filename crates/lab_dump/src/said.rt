@@ -8,7 +8,7 @@ ghost use Rattle.page_layout.specs.Live.{IsKeyOf};
 ghost use Rattle.page_layout.specs.Key.{key_of};
 ghost use Rattle.page_layout.specs.Array.{marks};
 ghost use Rattle.lab_dump.specs.Doubting.{HasTraces};
-ghost use Rattle.lab_dump.specs.Said.{NewerLaw, SaidLaw, SpelledLaw, WasLaw, is_newer, judged, of_die, said_below, said_of};
+ghost use Rattle.lab_dump.specs.Said.{NewerLaw, OtherSealLaw, SaidLaw, SpelledLaw, WasLaw, is_newer, judged, of_die, said_below, said_of};
 
 use crate::counts::is_outside;
 use crate::keys::index_of;
@@ -28,10 +28,11 @@ pub struct SaidPage {
     pub newer: bool,
 }
 
-/// What a page says is what it was of, where its data area and its seal alone are damaged; and it says no more than its spare bytes spell. It is newer just where each
+/// What a page says is what it was of, where its data area and its seal alone are damaged, by whatever bytes; and it says no more than its spare bytes spell. It is newer just where each
 /// sound page of the same has an earlier sequence. What pages say is listed whole, and nothing else.
 pub fn said_laws()
     ensures was { WasLaw }
+    ensures seal { OtherSealLaw }
     ensures spelled { SpelledLaw }
     ensures newer { NewerLaw }
     ensures said { SaidLaw }
