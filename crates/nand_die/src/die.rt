@@ -14,7 +14,7 @@ use std::alloc::Global;
 use std::marker::Model;
 
 /// A raw NAND die in memory, behind its bus. It is always ready after a confirm cycle and never write
-/// protected; it holds its image once, and a program copies one page.
+/// protected; it holds its image once, and a second time while it records. A program copies one page.
 ///
 /// A program or an erase fails just where it is illegal or a fault is set for it. Illegal is a program
 /// of another page than the next of its block, and a program or an erase of a block that is bad or has
@@ -22,7 +22,7 @@ use std::marker::Model;
 /// status bits are ONFI 1.0's; the rules of turns are this project's.)
 ///
 /// A stop may be set. In the program or erase that it is set for and from then on every cycle is answered
-/// `Device`; a die on which none is set never answers that. What each cycle leaves and answers follows
+/// `Device`; a die that never stopped answers no cycle so. What each cycle leaves and answers follows
 /// from the die's value: see `DieValue` in `specs/`.
 #[derive(Drop)]
 pub struct Die {
@@ -189,7 +189,7 @@ impl Die {
     }
 
     /// Begins a record in place of one before: its image is the die's as it is, and it has room for so many
-    /// programs and erases; one more ends it. What it tells is said in contracts alone. All memory is
+    /// programs and erases; one more ends it, and so does a stop. What it tells is said in contracts alone. All memory is
     /// taken here.
     ///
     /// # Errors

@@ -76,8 +76,8 @@ pub trait Nand: PageSource {
     ghost use Rattle.onfi_cycles.specs.Outcomes.{is_passed, passed_in};
 
     /// Programs the page of a row with the bytes of its data area and its spare area. After an `Err` nothing is known of the pages,
-    /// but an honest die that tells a record tells whether the program was at hand; and the count of failures has risen or stands
-    /// at 2^64 - 1.
+    /// but by the record of an honest die, where that is told on: it is as it was, or has the program at hand. The count of failures
+    /// has risen or stands at 2^64 - 1.
     fn program(&mut self, row: u32, body: &[u8], spare: &[u8]) -> Result<Outcome, BusFault>
         requires row_in { row < row_count (Self.view.flash self.old).geometry }
         requires body_whole { length body.now ≡ (Self.view.flash self.old).geometry.data_bytes }

@@ -1,5 +1,5 @@
 -- Records of a die: its image as it was when the record began, and the programs and erases since. A die may tell a record, or none, which
--- claims nothing. A die that tells one tells it on; a part of a die, as the bus in front of it, may cease to.
+-- claims nothing. A die that tells one tells it on, unless a fault ends it; a part of a die, as the bus in front of it, may cease to at any call.
 use Rattle.std.specs.Prelude.{◌≡◌, ◌⊎◌, ℕ, true, List, [], ◌∷◌, ◌++◌, replicate, slice_set, Option, Some, None, IsSome, IfSome}
 use Rattle.page_layout.specs.declared.geometry.Geometry.{Geometry}
 use Rattle.page_layout.specs.Page.{Page, Image}
