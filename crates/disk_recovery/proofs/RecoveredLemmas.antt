@@ -9,8 +9,8 @@ use Rattle.file_die.specs.Store.{Held}
 use Rattle.crash_recovery.specs.Taken.{Recovers}
 use Rattle.disk_server.specs.declared.opened.OpenStoreFault.{OpenStoreFault}
 use Rattle.disk_server.specs.Opened.{HasCome, bytes_of}
-use Rattle.disk_server.specs.Stopped.{IsUnopenedLater}
-use Rattle.disk_recovery.specs.Recovered.{HoldsRecovered, IsLeftRecovered, IsRecovered, IsUnrecovered}
+use Rattle.disk_server.specs.Stopped.{IsOpenedWith, IsUnopenedLater}
+use Rattle.disk_recovery.specs.Recovered.{HoldsRecovered, IsLeftRecovered, IsOpenedLeft, IsRecovered, IsUnrecovered}
 
 -- the certificate is that of the store which came back
 pub agrees_again : {S : Type 0} (held : S → Held) (honest : S → Bool) (store mounted : S) (c : Claim) → HasCome held honest store mounted → honest store ≡ true
@@ -47,6 +47,12 @@ opened_bytes bytes held H G store given mark (Err e) to recovered opened = tt
 pub opened_honest : {D E : Type 0} (holds : D → Bool) (H G : Type 0) (result : Result D E) → (H → G) → IfOk result (λ d. G → holds d ≡ true) → IfOk result (λ d. H → holds d ≡ true)
 opened_honest holds H G (Ok d) to opened = λ h. opened (to h)
 opened_honest holds H G (Err e) to opened = tt
+
+pub opened_entries : {S D E : Type 0} (entries : D → ℕ) (held : S → Held) (honest : S → Bool) (failed : S → ℕ) (store given : S) (capacity share mark : ℕ) (result : Result D E) → honest given ≡ honest store
+    → (honest store ≡ true → IsLeftRecovered mark (held store) (held given)) → IfOk result (λ d. IsOpenedWith held honest failed true given capacity share (entries d))
+    → IfOk result (λ d. IsOpenedLeft held honest failed mark store capacity share (entries d))
+opened_entries entries held honest failed store given capacity share mark (Ok d) same recovered opened = record { left = given; as_honest = same; recovered = recovered; opened = opened }
+opened_entries entries held honest failed store given capacity share mark (Err e) same recovered opened = tt
 
 pub opened_fault : {S A : Type 0} (held : S → Held) (honest : S → Bool) (failed : S → ℕ) (store given : S) (capacity share mark : ℕ) (result : Result A OpenStoreFault) → honest given ≡ honest store
     → (honest store ≡ true → IsLeftRecovered mark (held store) (held given)) → IfErr result (IsUnopenedLater held honest failed given capacity share) → IfErr result (IsUnrecovered held honest failed store capacity share mark)

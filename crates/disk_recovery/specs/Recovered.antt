@@ -6,7 +6,7 @@ use Rattle.crash_recovery.specs.Taken.{Recovers, RecoversSome}
 use Rattle.disk_server.specs.declared.opened.OpenStoreFault.{OpenStoreFault}
 use Rattle.disk_server.specs.declared.opened.OpenStoreFault.TheVariants.{Device, OutOfMemory}
 use Rattle.disk_server.specs.Opened.{HasCome, IsStoreUnopened, bytes_of}
-use Rattle.disk_server.specs.Stopped.{IsUnopenedLater}
+use Rattle.disk_server.specs.Stopped.{IsOpenedWith, IsUnopenedLater}
 
 -- a store that was mounted was recovered once, by whether anything was torn
 pub record IsRecovered (mark : ℕ) (s : Held) (changed : Bool) (t : Held) : Type 0 where
@@ -24,6 +24,13 @@ pub record HoldsRecovered (mark : ℕ) (s : Held) (bytes : List ℕ) : Type 0 wh
   pub left : Held
   pub recovered : IsLeftRecovered mark s left
   pub bytes_are : bytes ≡ bytes_of left
+
+-- THE ENTRIES OF ITS CACHE: what was left was opened to be written. So where it had too many stale sectors it was flushed, and opened again
+pub record IsOpenedLeft {S : Type 0} (held : S → Held) (honest : S → Bool) (failed : S → ℕ) (mark : ℕ) (store : S) (capacity share entries : ℕ) : Type 0 where
+  pub left : S
+  pub as_honest : honest left ≡ honest store
+  pub recovered : honest store ≡ true → IsLeftRecovered mark (held store) (held left)
+  pub opened : IsOpenedWith held honest failed true left capacity share entries
 
 -- IT WAS NOT RECOVERED ONCE: a growth was refused, or the store failed, and counted it. What was torn may be taken away in part
 pub record IsNotTaken {S : Type 0} (held : S → Held) (honest : S → Bool) (failed : S → ℕ) (mark : ℕ) (store given : S) (fault : OpenStoreFault) : Type 0 where

@@ -5,7 +5,7 @@ ghost use Rattle.image_check.specs.Agrees.{Agrees};
 ghost use Rattle.disk_server.specs.Disk.{contents_of, holds};
 ghost use Rattle.disk_server.specs.Opened.{SyncsWhen, is_honest_in, view_in};
 ghost use Rattle.disk_recovery.specs.Listed.{IsUnkept, KeepsIfAny};
-ghost use Rattle.disk_recovery.specs.Recovered.{HoldsRecovered, IsUnrecovered};
+ghost use Rattle.disk_recovery.specs.Recovered.{HoldsRecovered, IsOpenedLeft, IsUnrecovered};
 
 use crate::recovered::recover_mounted;
 use certificate::Certificate;
@@ -85,6 +85,7 @@ pub fn recover_listed<S: Store + Drop>(
     ensures share { IfOk result (λ d. d.engine.mapping.share ≡ share) }
     ensures honest { IfOk result (λ d. S.honest listed.store ≡ true → holds (is_honest_in S.honest) d ≡ true) }
     ensures bytes { IfOk result (λ d. S.honest listed.store ≡ true → HoldsRecovered mark (S.held listed.store) (contents_of (view_in S.held S.honest S.failed) d).bytes) }
+    ensures entries { IfOk result (λ d. IsOpenedLeft S.held S.honest S.failed mark listed.store capacity share d.engine.mapping.capacity) }
     ensures fault { IfErr result (IsUnrecovered S.held S.honest S.failed listed.store capacity share mark) }
 {
     let ListedStore { store } = listed;

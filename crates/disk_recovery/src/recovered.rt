@@ -3,7 +3,7 @@ ghost use Rattle.std.specs.Prelude.{◌≡◌, ◌≤◌, Bool, true, IfOk, IfEr
 ghost use Rattle.image_check.specs.Agrees.{Agrees};
 ghost use Rattle.disk_server.specs.Disk.{contents_of, holds};
 ghost use Rattle.disk_server.specs.Opened.{SyncsWhen, is_honest_in, view_in};
-ghost use Rattle.disk_recovery.specs.Recovered.{HoldsRecovered, IsNotAgain, IsNotTaken, IsRecovered, IsUnrecovered};
+ghost use Rattle.disk_recovery.specs.Recovered.{HoldsRecovered, IsNotAgain, IsNotTaken, IsOpenedLeft, IsRecovered, IsUnrecovered};
 
 use certificate::Certificate;
 use crash_recovery::{RecoveryFault, recover};
@@ -66,6 +66,7 @@ pub(crate) fn recover_mounted<S: Store + Drop>(
     ensures share { IfOk result (λ d. d.engine.mapping.share ≡ share) }
     ensures honest { IfOk result (λ d. S.honest store ≡ true → holds (is_honest_in S.honest) d ≡ true) }
     ensures bytes { IfOk result (λ d. S.honest store ≡ true → HoldsRecovered mark (S.held store) (contents_of (view_in S.held S.honest S.failed) d).bytes) }
+    ensures entries { IfOk result (λ d. IsOpenedLeft S.held S.honest S.failed mark store capacity share d.engine.mapping.capacity) }
     ensures fault { IfErr result (IsUnrecovered S.held S.honest S.failed store capacity share mark) }
 {
     let mut store = store;

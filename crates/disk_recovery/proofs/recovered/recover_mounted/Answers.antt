@@ -3,7 +3,7 @@ use Rattle.disk_server.specs.Disk.{contents_of}
 use Rattle.disk_server.specs.Opened.{view_in}
 use Rattle.disk_recovery.specs.Recovered.{IsUnrecovered}
 use Rattle.disk_server.proofs.FaultLemmas.{handed_on}
-use Rattle.disk_recovery.proofs.RecoveredLemmas.{left_once, left_twice, opened_bytes, opened_fault}
+use Rattle.disk_recovery.proofs.RecoveredLemmas.{left_once, left_twice, opened_bytes, opened_entries, opened_fault}
 use Rattle.disk_recovery.proofs.recovered.recover_mounted.Goals as goal
 
 pub returns-then-not-changed-clause-bytes : goal.returns-then-not-changed-clause-bytes
@@ -22,6 +22,13 @@ returns-then-not-changed-clause-fault g c =
     opened_fault held g.S.Store.honest g.S.Store.failed c.args.store c.recover_once.new.store c.args.capacity c.args.share c.args.mark c.open_stopped.result c.in_ok-changed.ensures.honest
     (λ h. left_once c.args.mark (held c.args.store) (held c.recover_once.new.store) c.in_ok-changed.changed c.if-not-changed.true (c.in_ok-changed.ensures.recovered h))
     c.open_stopped.ensures.fault
+
+pub returns-then-not-changed-clause-entries : goal.returns-then-not-changed-clause-entries
+returns-then-not-changed-clause-entries g c =
+    let held = g.S.Store.held in
+    opened_entries _ held g.S.Store.honest g.S.Store.failed c.args.store c.recover_once.new.store c.args.capacity c.args.share c.args.mark c.open_stopped.result c.in_ok-changed.ensures.honest
+    (λ h. left_once c.args.mark (held c.args.store) (held c.recover_once.new.store) c.in_ok-changed.changed c.if-not-changed.true (c.in_ok-changed.ensures.recovered h))
+    c.open_stopped.ensures.entries
 
 pub returns-in-Ok-clause-bytes : goal.returns-in-Ok-clause-bytes
 returns-in-Ok-clause-bytes g c =
@@ -43,6 +50,15 @@ returns-in-Ok-clause-fault g c =
     (λ h. left_twice c.args.mark (held c.args.store) (held c.recover_once.new.store) (held left) c.in_ok-changed.changed c.if-not-changed.false (c.in_ok-changed.ensures.recovered h)
     (c.in-Ok.ensures.recovered (c.in_ok-changed.ensures.honest ∙ h)))
     c.open_stopped-in-Ok.ensures.fault
+
+pub returns-in-Ok-clause-entries : goal.returns-in-Ok-clause-entries
+returns-in-Ok-clause-entries g c =
+    let held = g.S.Store.held in
+    let left = c.in-Ok.left in
+    opened_entries _ held g.S.Store.honest g.S.Store.failed c.args.store left c.args.capacity c.args.share c.args.mark c.open_stopped-in-Ok.result (c.in-Ok.ensures.honest ∙ c.in_ok-changed.ensures.honest)
+    (λ h. left_twice c.args.mark (held c.args.store) (held c.recover_once.new.store) (held left) c.in_ok-changed.changed c.if-not-changed.false (c.in_ok-changed.ensures.recovered h)
+    (c.in-Ok.ensures.recovered (c.in_ok-changed.ensures.honest ∙ h)))
+    c.open_stopped-in-Ok.ensures.entries
 
 pub returns-in_err-changed-clause-fault : goal.returns-in_err-changed-clause-fault
 returns-in_err-changed-clause-fault g c =
