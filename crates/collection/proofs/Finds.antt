@@ -1,5 +1,5 @@
 -- Which page of a row, a block or a die is the newest of its key.
-use Rattle.std.proofs.Common.{◌≡◌, ◌≢◌, inl, inr, ℕ, ◌+◌, ◌*◌, ◌/◌, ◌%◌, ◌<◌, ◌≤◌, Bool, true, false, List, get_or, slice_get, Option, Some, None}
+use Rattle.std.proofs.Common.{◌≡◌, ◌≢◌, inl, inr, ℕ, ◌+◌, ◌*◌, ◌/◌, ◌%◌, ◌<◌, ◌≤◌, Bool, true, false, List, get_or, slice_get, Option, Some, None, Result, Ok, Err}
 use Rattle.std.proofs.Common.{refl, ap, sym, ◌∙◌, subst, arith, eq-eqb}
 use Rattle.std.specs.Option.{option_eq}
 use Rattle.std.proofs.Math.Dec.{eqb}
@@ -17,10 +17,12 @@ use Rattle.page_layout.specs.Change.{HoldsNone, Writes}
 use Rattle.page_layout.proofs.KeyLemmas.{cases_key}
 use Rattle.page_layout.proofs.NewestLemmas.{newest-record}
 use Rattle.page_layout.proofs.ArrayLemmas.{mark-page, body_page}
+use Rattle.collection.specs.declared.fault.EngineFault.{EngineFault}
+use Rattle.page_layout.specs.Live.{IsKeyOf}
 use Rattle.collection.specs.State.{Ram}
 use Rattle.collection.specs.Pages.{newest_row}
 use Rattle.collection.specs.Truth.{IsTrue}
-use Rattle.collection.specs.Live.{NotAt, HoldsNoneIn, StandsInRow, IsLivePage, LooksAt}
+use Rattle.collection.specs.Live.{NotAt, HoldsNoneIn, StandsInRow, IsLivePage, IsUnlive, LooksAt, PointsTo}
 
 -- ---- a row
 
@@ -97,3 +99,28 @@ at_none row body image live looks is = (let P : Option Record → Type 0 = λ o.
 -- what a look-up tells after a read that left all as it was
 pub still_newest : (r r1 : Ram) (x x1 : Image) (key : Key) (newest : Option ℕ) → IsTrue None r x → r1 ≡ r → x1 ≡ x → (IsTrue None r1 x1 → newest ≡ newest_row x1 key) → newest ≡ newest_row x key
 still_newest r r1 x x1 key newest w same still look = look (rw (same, still) w) ∙ ap (λ i. newest_row i key) still
+
+-- ---- why a row holds no newest page, whatever the die does
+
+pub some_not_unfound : {A : Type 0} (r : Result (Option A) EngineFault) (x : A) → r ≡ Ok (Some x) → r ≢ Ok None
+some_not_unfound r x was is = (let no : ⊥ = cc in no)
+
+pub err_not_unfound : {A : Type 0} (r : Result A EngineFault) (f : EngineFault) (x : A) → r ≡ Err f → r ≢ Ok x
+err_not_unfound r f x was is = (let no : ⊥ = cc in no)
+
+pub true_not_false : (r : Result Bool EngineFault) → r ≡ Ok true → r ≢ Ok false
+true_not_false r was is = (let no : ⊥ = cc in no)
+
+pub unlive_unsound : (r : Ram) (read scratch : Page) (row : ℕ) (taken : Option Record) → taken ≡ record_of read → taken ≡ None → IsUnlive r read scratch row
+unlive_unsound r read scratch row taken sound none its mark of_key = (let no : ⊥ = cc in absurd no)
+
+module _ (r : Ram) (read scratch : Page) (row : ℕ) (taken : Option Record) (found : Record) (key : Key) (got : taken ≡ Some found) (of_key : key ≡ key_of found) where
+  pub unlive_key : taken ≡ record_of read → (IsKeyOf r.geometry key → ⊥) → IsUnlive r read scratch row
+  unlive_key sound never its mark within = (let same : found ≡ its = cc in absurd (never (subst (λ k. IsKeyOf r.geometry k) (ap key_of (sym same) ∙ sym of_key) within)))
+
+  pub unlive_other : (mid : Ram) (before : Page) (newest : Option ℕ) → taken ≡ record_of before → read ≡ before → mid ≡ r → PointsTo mid scratch key newest → newest ≢ Some row → IsUnlive r read scratch row
+  unlive_other mid before newest sound again still points not its mark within =
+      let here : record_of before ≡ Some its = ap record_of (sym again) ∙ mark in
+      let same : found ≡ its = cc in
+      let its_key : key ≡ key_of its = of_key ∙ ap key_of same in
+      (newest, not, subst (λ z. PointsTo z scratch (key_of its) newest) still (subst (λ k. PointsTo mid scratch k newest) its_key points))

@@ -24,9 +24,9 @@ use Rattle.translation_pages.specs.Entry.{entry_of}
 use Rattle.collection.specs.Pages.{newest_row}
 use Rattle.collection.specs.Maps.{Maps}
 use Rattle.collection.specs.State.{Ram}
-use Rattle.collection.specs.Looks.{IsPageOf, IsRead, GivesRow, FindsRow, GivesSector}
+use Rattle.collection.specs.Looks.{IsPageOf, IsNotOf, IsRead, GivesRow, GivesNoRow, FindsRow, GivesSector}
 use Rattle.collection.specs.declared.fault.EngineFault.{EngineFault}
-use Rattle.collection.specs.declared.fault.EngineFault.TheVariants.{Bus}
+use Rattle.collection.specs.declared.fault.EngineFault.TheVariants.{Bus, Damaged}
 use Rattle.page_layout.proofs.GeometryLemmas.{sector_entry}
 use Rattle.collection.proofs.MapLemmas.{entry_here, entry_none, none_not}
 use Rattle.collection.proofs.Truths.{newest_in}
@@ -49,6 +49,17 @@ not_other image key row p r is at mark none =
     let yes : is_some (sequence_of key (Some r)) ≡ true = ap is_some s in
     cc
 
+pub unsound_not_of : (key : Key) (p : Page) → record_of p ≡ None → IsNotOf key p
+unsound_not_of key p none its is = (let e : record_of p ≡ Some its = is.sound in cc)
+
+pub other_not_of : (key : Key) (p : Page) (r : Record) → record_of p ≡ Some r → is_some (sequence_of key (Some r)) ≡ false → IsNotOf key p
+other_not_of key p r mark none its is =
+    let e : record_of p ≡ Some its = is.sound in
+    let same : r ≡ its = cc in
+    let s : sequence_of key (Some r) ≡ Some r.sequence = (let of_key : key_of r ≡ key = ap key_of same ∙ is.of_key in rw (← of_key) (sequence_of-key r)) in
+    let yes : is_some (sequence_of key (Some r)) ≡ true = ap is_some s in
+    cc
+
 some_of : {X : Type 0} (o : Option X) → is_some o ≡ true → (x : X) × (o ≡ Some x)
 some_of None e = (let no : ⊥ = cc in absurd no)
 some_of (Some x) e = (x, refl)
@@ -63,6 +74,27 @@ page_of key p r mark some =
 -- an answer is no fault
 pub ok_not_bus : {A : Type 0} (x : A) → Ok x ≢ Err Bus
 ok_not_bus x e = (let never : ⊥ = cc in never)
+
+pub ok_not_damaged : {A : Type 0} (x : A) → Ok x ≢ Err Damaged
+ok_not_damaged x e = (let never : ⊥ = cc in never)
+
+pub bus_not_damaged : {A : Type 0} (r : Result A EngineFault) → r ≡ Err Bus → r ≢ Err Damaged
+bus_not_damaged r was e = (let never : ⊥ = cc in never)
+
+-- an answer has one fault
+pub fault_is : {A : Type 0} (r : Result A EngineFault) (f x : EngineFault) → r ≡ Err f → r ≡ Err x → f ≡ x
+fault_is r f x was is = cc
+
+-- ---- a page that gives no row
+
+pub unread_row : (g : Geometry) (n e : ℕ) (p : Page) → e ≡ entries g → IsNotOf (Translation (n / e)) p → GivesNoRow g n p
+unread_row g n e p same none row holds small = none holds.its (subst (λ k. IsPageOf (Translation (n / k)) holds.its p) (sym same) holds.checked)
+
+pub unlisted_row : (g : Geometry) (n e : ℕ) (p : Page) (lent : List ℕ) (result : Result (Option ℕ) EngineFault) → e ≡ entries g → lent ≡ p.body
+    → (ForSome (entry_at lent (n % e)) (λ r. r < row_count g) → OnErr result ⊥) → result ≡ Err Damaged → GivesNoRow g n p
+unlisted_row g n e p lent result same is_lent undamaged is row holds small =
+    let entry : row ≡ entry_at lent (n % e) = holds.entry ∙ (ap (λ k. entry_at p.body (n % k)) (sym same) ∙ ap (λ b. entry_at b (n % e)) (sym is_lent)) in
+    subst (λ (r : Result (Option ℕ) EngineFault). OnErr r ⊥) is (undamaged (subst (λ o. ForSome o (λ r. r < row_count g)) entry small))
 
 -- the row that the directory has for a translation page is its newest page's
 pub directory_row : (g : Geometry) (image : Image) (directory : List (Option ℕ)) (m : MappingState) (t : ℕ) (row : Option ℕ) → Maps None g image directory m → t < translation_pages g → slice_get directory t ≡ Some row → newest_row image (Translation t) ≡ row

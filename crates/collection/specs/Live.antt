@@ -5,6 +5,7 @@ use Rattle.page_layout.specs.declared.record.Key.{Key}
 use Rattle.page_layout.specs.declared.record.Key.TheVariants.{Sector, Translation, Table}
 use Rattle.page_layout.specs.Page.{Page, Image, body_at}
 use Rattle.page_layout.specs.Key.{key_of}
+use Rattle.page_layout.specs.Sound.{record_of}
 use Rattle.page_layout.specs.Array.{marks}
 use Rattle.page_layout.specs.Live.{IsKeyOf}
 use Rattle.page_layout.specs.Geometry.{translation_pages}
@@ -60,3 +61,8 @@ pub record IsFoundIn (r : Ram) (read scratch : Page) (row : ℕ) (found : Record
   pub sound : IsPageOf (key_of found) found read
   pub of_key : IsKeyOf r.geometry (key_of found)
   pub points : PointsTo r scratch (key_of found) (Some row)
+
+-- WHY A ROW HOLDS NO NEWEST PAGE: the page that was read is not sound, or its key is none of the die's, or has another row or none, by memory or by the page in the
+-- scratch buffer
+abbrev pub IsUnlive : Ram → (read scratch : Page) → ℕ → Type 0
+IsUnlive r read scratch row = (its : Record) → record_of read ≡ Some its → IsKeyOf r.geometry (key_of its) → (other : Option ℕ) × (other ≢ Some row) × PointsTo r scratch (key_of its) other

@@ -1,5 +1,6 @@
 -- What look-ups and page buffers hold of an image.
-use Rattle.std.specs.Prelude.{◌≡◌, ◌⊎◌, ℕ, ◌+◌, ◌*◌, ◌/◌, ◌%◌, ◌<◌, ◌≤◌, List, length, replicate, slice_get, Option, Some, None, unwrap_or}
+use Rattle.std.specs.Prelude.{◌≡◌, ◌≢◌, ◌⊎◌, ℕ, ◌+◌, ◌*◌, ◌/◌, ◌%◌, ◌<◌, ◌≤◌, List, length, replicate, slice_get, Option, Some, None, unwrap_or}
+use Rattle.std.specs.Option.{ForSome}
 use Rattle.page_layout.specs.declared.geometry.Geometry.{Geometry}
 use Rattle.page_layout.specs.declared.record.Key.{Key}
 use Rattle.page_layout.specs.declared.record.Key.TheVariants.{Sector, Translation}
@@ -8,7 +9,7 @@ use Rattle.page_layout.specs.Page.{Image, Page}
 use Rattle.page_layout.specs.Sound.{record_of}
 use Rattle.page_layout.specs.Key.{key_of}
 use Rattle.page_layout.specs.Array.{zeros, content_of_kind, sector_of}
-use Rattle.page_layout.specs.Geometry.{entries}
+use Rattle.page_layout.specs.Geometry.{entries, row_count}
 use Rattle.mapping_cache.specs.Mapping.{MappingState, known, pending}
 use Rattle.translation_pages.specs.TranslationPage.{entry_at}
 use Rattle.collection.specs.declared.fault.EngineFault.{EngineFault}
@@ -81,6 +82,24 @@ pub record HoldsSectorContent (g : Geometry) (n : ℕ) (p : Page) (bytes : List 
 abbrev pub GivesSector : Geometry → ℕ → Option ℕ → Page → List ℕ → Type 0
 GivesSector g n None p bytes = bytes ≡ zeros g
 GivesSector g n (Some row) p bytes = HoldsSectorContent g n p bytes
+
+-- the page is not sound, or not of the key
+abbrev pub IsNotOf : Key → Page → Type 0
+IsNotOf key p = (its : Record) → ¬ IsPageOf key its p
+
+-- the page gives no row of the die as the sector's entry: it is no sound one of the sector's translation page, or names a row that the die doesn't have
+abbrev pub GivesNoRow : Geometry → ℕ → Page → Type 0
+GivesNoRow g n p = (row : Option ℕ) → HoldsEntry g n p row → ¬ ForSome row (λ r. r < row_count g)
+
+-- WHY A LOOK-UP IS DAMAGED: memory doesn't know the row, the directory has a translation page of the sector, and this page, as it was read, gives none
+pub record LooksUpDamage (r : Ram) (n : ℕ) (p : Page) : Type 0 where
+  pub unknown : known r.mapping n ≡ None
+  pub listed : slice_get r.directory (n / entries r.geometry) ≢ Some None
+  pub gives : GivesNoRow r.geometry n p
+
+-- WHY A READ IS: so is the look-up, or it found a row, and this page, as it was read, is no sound one of the sector
+abbrev pub FindsDamage : Ram → ℕ → (entries_page sector_page : Page) → Type 0
+FindsDamage r n p q = LooksUpDamage r n p ⊎ ((row : ℕ) × FindsRow r n p (Some row) × IsNotOf (Sector n) q)
 
 -- the faults of a read: it programs nothing, so there is always room and a sequence for it
 abbrev pub IsReadFault : EngineFault → Type 0

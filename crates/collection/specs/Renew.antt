@@ -1,14 +1,14 @@
 -- Pages of version 1 that have to be copied, so that a die's pages come to be of version 2.
-use Rattle.std.specs.Prelude.{◌≡◌, ◌≢◌, ℕ, ◌<◌, ◌≤◌, ◌&&◌, not, Bool, true, false, List, Option, Some, None}
+use Rattle.std.specs.Prelude.{◌≡◌, ◌≢◌, ◌⊎◌, ℕ, ◌<◌, ◌≤◌, ◌&&◌, not, Bool, true, false, List, Option, Some, None}
 use Rattle.page_layout.specs.declared.record.Record.{Record}
 use Rattle.page_layout.specs.declared.record.Key.{Key}
 use Rattle.page_layout.specs.declared.record.Key.TheVariants.{Sector, Translation, Table}
 use Rattle.page_layout.specs.Page.{Page, Image}
-use Rattle.page_layout.specs.Sound.{version_of, version_for}
+use Rattle.page_layout.specs.Sound.{record_of, version_of, version_for}
 use Rattle.page_layout.specs.Key.{key_of}
 use Rattle.page_layout.specs.Version.{is_1, is_old, HasOldAt}
 use Rattle.collection.specs.State.{Ram}
-use Rattle.collection.specs.Live.{IsLivePage}
+use Rattle.collection.specs.Live.{IsLivePage, IsUnlive}
 use Rattle.collection.specs.Results.{IsSame, KeepsPage}
 use Rattle.collection.specs.Collect.{FollowsCopy}
 
@@ -21,6 +21,10 @@ is_table_key (Table u) = true
 -- whether a page with this record has to be renewed where it is the newest of its key: it is of version 1, and no table page
 abbrev pub is_due_page : Record → Page → Bool
 is_due_page r p = not (is_table_key (key_of r)) && is_1 (version_of p)
+
+-- why the page of a row need not be renewed: it is the newest of no key, or has a record by which that is not due
+abbrev pub IsUndue : Ram → (read scratch : Page) → ℕ → Type 0
+IsUndue r read scratch row = IsUnlive r read scratch row ⊎ ((its : Record) × (record_of read ≡ Some its) × (is_due_page its read ≡ false))
 
 -- no newest page of version 1 is in the row, but a table page
 abbrev pub HasNoneDue : ℕ → Image → Type 0

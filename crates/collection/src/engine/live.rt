@@ -1,5 +1,5 @@
 //! Pages that are the newest of their keys.
-ghost use Rattle.std.specs.Prelude.{◌≡◌, ◌↔◌, ◌+◌, ◌-◌, ◌*◌, ◌<◌, ◌≤◌, true, IsTrue, slice_get, Some, None, Err, IfOk, IfErr, OnOk, MatchResult};
+ghost use Rattle.std.specs.Prelude.{◌≡◌, ◌↔◌, ◌+◌, ◌-◌, ◌*◌, ◌<◌, ◌≤◌, true, IsTrue, slice_get, Some, None, Ok, Err, IfOk, IfErr, OnOk, MatchResult};
 ghost use Rattle.std.specs.Option.{ForSome};
 ghost use Rattle.page_layout.specs.Geometry.{row_count};
 ghost use Rattle.page_layout.specs.Live.{IsKeyOf};
@@ -7,7 +7,7 @@ ghost use Rattle.page_layout.specs.Sound.{record_of};
 ghost use Rattle.collection.specs.Pages.{newest_row};
 ghost use Rattle.collection.specs.Safe.{IsSafe, ram, image_in, page_in_buffer};
 ghost use Rattle.collection.specs.Truth as truth;
-ghost use Rattle.collection.specs.Live.{PointsTo, StandsInRow, LooksAt, FindsFirst, IsFoundIn};
+ghost use Rattle.collection.specs.Live.{PointsTo, StandsInRow, LooksAt, FindsFirst, IsFoundIn, IsUnlive};
 ghost use Rattle.collection.specs.Acts.{EngineLooks};
 
 use super::Engine;
@@ -85,6 +85,7 @@ impl<N: Nand> Engine<N> {
         ensures looks { EngineLooks N.view self.old self.new result }
         ensures reads { N.view.reads self.new.nand ≤ N.view.reads self.old.nand + 2 }
         ensures checked { IfOk result (λ found. ForSome found (IsFoundIn (ram self.old) (page_in_buffer self.new.page) (page_in_buffer self.new.scratch) row)) }
+        ensures unfound { result ≡ Ok None → IsUnlive (ram self.old) (page_in_buffer self.new.page) (page_in_buffer self.new.scratch) row }
         ensures stands { N.view.honest self.old.nand ≡ true → OnOk result (slice_get (image_in N.view.flash self.old) row ≡ Some (page_in_buffer self.new.page)) }
         ensures truth { N.view.honest self.old.nand ≡ true → truth.IsTrue None (ram self.old) (image_in N.view.flash self.old) →
             MatchResult result

@@ -11,7 +11,7 @@ ghost use Rattle.translation_pages.specs.TranslationPage.{entry_at};
 ghost use Rattle.collection.specs.Pages.{newest_row};
 ghost use Rattle.collection.specs.Safe.{IsSafe, IsBuffer, ram, image_in, page_in_buffer};
 ghost use Rattle.collection.specs.Truth.{IsTrue};
-ghost use Rattle.collection.specs.Looks.{IsPageOf, IsRead, GivesRow, FindsRow, GivesSector, IsReadFault};
+ghost use Rattle.collection.specs.Looks.{IsPageOf, IsNotOf, IsRead, GivesRow, FindsRow, GivesSector, IsReadFault, LooksUpDamage, FindsDamage};
 ghost use Rattle.collection.specs.Acts.{EngineLooks};
 ghost use Rattle.page_layout.specs.OnlyReads.{OnlyReads};
 ghost use Rattle.page_layout.specs.DieCalls.{AsksOnly};
@@ -51,6 +51,7 @@ pub(crate) fn read_of<N: Nand>(
     ensures cut { N.view.honest nand.old ≡ true → result ≡ Err EngineFault.Bus → EndsAt [] (N.view.recorded nand.old) (N.view.recorded nand.new) }
     ensures page { N.view.honest nand.old ≡ true → OnOk result
         (slice_get (N.view.flash nand.old).image row ≡ Some (page buffer.new.body.items buffer.new.spare.items)) }
+    ensures damaged { result ≡ Err EngineFault.Damaged → IsNotOf key (page buffer.new.body.items buffer.new.spare.items) }
     ensures undamaged { N.view.honest nand.old ≡ true → newest_row (N.view.flash nand.old).image key ≡ Some row →
         IfErr result (λ fault. fault ≡ EngineFault.Bus) }
 {
@@ -123,6 +124,7 @@ impl<N: Nand> Engine<N> {
             (result ≡ Ok None) × (self.new ≡ self.old) }
         ensures checked { known self.old.mapping sector ≡ None →
             IfOk result (GivesRow self.old.geometry self.old.directory sector (page_in_buffer self.new.scratch)) }
+        ensures damaged { result ≡ Err EngineFault.Damaged → LooksUpDamage (ram self.old) sector (page_in_buffer self.new.scratch) }
         ensures truth { N.view.honest self.old.nand ≡ true → IsTrue None (ram self.old) (image_in N.view.flash self.old) →
             MatchResult result
             (λ row. row ≡ newest_row (image_in N.view.flash self.old) (Sector sector))
@@ -147,6 +149,7 @@ impl<N: Nand> Engine<N> {
         ensures unmapped { slice_get self.old.directory (sector / entries self.old.geometry) ≡ Some None →
             (result ≡ Ok None) × (self.new ≡ self.old) }
         ensures checked { IfOk result (GivesRow self.old.geometry self.old.directory sector (page_in_buffer self.new.scratch)) }
+        ensures damaged { result ≡ Err EngineFault.Damaged → LooksUpDamage (ram self.old) sector (page_in_buffer self.new.scratch) }
         ensures truth { N.view.honest self.old.nand ≡ true → IsTrue None (ram self.old) (image_in N.view.flash self.old) →
             MatchResult result
             (λ row. row ≡ newest_row (image_in N.view.flash self.old) (Sector sector))
@@ -193,6 +196,7 @@ impl<N: Nand> Engine<N> {
         ensures looked_up { IfOk result (FindsRow (ram self.old) sector (page_in_buffer self.new.scratch)) }
         ensures refused { OnErr result (out.new ≡ out.old) }
         ensures checked { IfOk result (λ row. GivesSector self.old.geometry sector row (page_in_buffer self.new.page) out.new) }
+        ensures damaged { result ≡ Err EngineFault.Damaged → FindsDamage (ram self.old) sector (page_in_buffer self.new.scratch) (page_in_buffer self.new.page) }
         ensures truth { N.view.honest self.old.nand ≡ true → IsTrue None (ram self.old) (image_in N.view.flash self.old) →
             MatchResult result
             (λ row. IsRead sector row out.new self.old.geometry (image_in N.view.flash self.old))

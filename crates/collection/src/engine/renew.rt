@@ -1,5 +1,5 @@
 //! Pages of version 1 are copied, so that a die's pages come to be of version 2.
-ghost use Rattle.std.specs.Prelude.{◌≡◌, ◌≢◌, ◌+◌, ◌<◌, ◌≤◌, true, length, Some, None, Ok, Err, IfOk, IfErr, OnOk, MatchResult};
+ghost use Rattle.std.specs.Prelude.{◌≡◌, ◌≢◌, ◌+◌, ◌<◌, ◌≤◌, true, false, length, Some, None, Ok, Err, IfOk, IfErr, OnOk, MatchResult};
 ghost use Rattle.std.specs.Option.{ForSome};
 ghost use Rattle.page_layout.specs.Geometry.{row_count};
 ghost use Rattle.page_layout.specs.OnlyReads.{OnlyReads};
@@ -11,7 +11,7 @@ ghost use Rattle.collection.specs.Looks.{IsReadFault};
 ghost use Rattle.collection.specs.Results.{Refused, Goes};
 ghost use Rattle.collection.specs.Collect.{waiting, KeepsKeys, RescueCosts};
 ghost use Rattle.page_layout.specs.Version.{is_1};
-ghost use Rattle.collection.specs.Renew.{is_table_key, is_due_page, LooksAtDue, FindsDue, IsRenewedAt};
+ghost use Rattle.collection.specs.Renew.{is_table_key, is_due_page, LooksAtDue, FindsDue, IsRenewedAt, IsUndue};
 ghost use Rattle.collection.specs.Acts.{EngineLooks, Stands};
 ghost use Rattle.collection.specs.Stops.{CutsSafely, StopsSafely};
 ghost use Rattle.collection.specs.Moves.{MovesOne};
@@ -61,6 +61,7 @@ impl<N: Nand> Engine<N> {
         requires row { row < row_count self.old.geometry }
         ensures looks { EngineLooks N.view self.old self.new result }
         ensures checked { IfOk result (λ found. ForSome found (IsFoundIn (ram self.old) (page_in_buffer self.new.page) (page_in_buffer self.new.scratch) row)) }
+        ensures unfound { result ≡ Ok None → IsUndue (ram self.old) (page_in_buffer self.new.page) (page_in_buffer self.new.scratch) row }
         ensures truth { N.view.honest self.old.nand ≡ true → truth.IsTrue None (ram self.old) (image_in N.view.flash self.old) →
             MatchResult result
             (LooksAtDue row self.new.page.body.items (image_in N.view.flash self.old))
@@ -101,7 +102,8 @@ impl<N: Nand> Engine<N> {
     fn renew(&mut self, row: u32) -> Result<bool, EngineFault>
         requires safe { IsSafe N.view.flash self.old }
         requires row { row < row_count self.old.geometry }
-        ensures { MovesOne N.view (IsRenewedAt row) self.old self.new result }
+        ensures moves { MovesOne N.view (IsRenewedAt row) self.old self.new result }
+        ensures unfound { result ≡ Ok false → IsUndue (ram self.old) (page_in_buffer self.new.page) (page_in_buffer self.new.scratch) row }
     {
         if !self.mapping.has_place() {
             return Err(EngineFault::Damaged);
@@ -147,7 +149,9 @@ impl<N: Nand> Engine<N> {
     /// the die.
     ///
     /// The array stays, and so do the sectors that are cached, and their order; no block is erased. No
-    /// more sectors are moved afterwards, and a pinned block stays so.
+    /// more sectors are moved afterwards, and a pinned block stays so. Whatever the die does, `false`
+    /// means that the page in the page buffer isn't sound, or not the newest of its key by memory or by
+    /// the page in the scratch buffer, or need not be renewed.
     ///
     /// # Errors
     ///
@@ -167,6 +171,7 @@ impl<N: Nand> Engine<N> {
         ensures erases { N.view.erases self.new.nand ≡ N.view.erases self.old.nand }
         ensures keys { KeepsKeys self.old.mapping self.new.mapping }
         ensures cost { self.old.fault ≡ None → RescueCosts (ram self.old) (ram self.new) result }
+        ensures unfound { result ≡ Ok false → IsUndue (ram self.old) (page_in_buffer self.new.page) (page_in_buffer self.new.scratch) row }
         ensures truth { N.view.honest self.old.nand ≡ true → self.old.fault ≡ None → truth.IsTrue None (ram self.old) (image_in N.view.flash self.old) →
             length self.old.mapping.moved < waiting (ram self.old) + self.old.geometry.pages →
             MatchResult result

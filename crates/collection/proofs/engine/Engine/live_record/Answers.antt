@@ -1,10 +1,12 @@
-use Rattle.std.proofs.Common.{◌∙◌, ap, Some, sym, refl}
+use Rattle.std.proofs.Common.{◌∙◌, ap, Some, subst, sym, refl}
+use Rattle.std.proofs.lemmas.Bool.{false≢true}
 use Rattle.std.proofs.lemmas.Result.{err_from_is_err_and}
+use Rattle.page_layout.specs.Live.{IsKeyOf}
 use Rattle.collection.specs.Safe.{ram, page_in_buffer}
 use Rattle.collection.specs.Pages.{newest_row}
 use Rattle.collection.proofs.Acts.{looks_then, looks_ok, looks_err}
 use Rattle.collection.proofs.Looks.{none_from, ok_not_bus}
-use Rattle.collection.proofs.Finds.{gone_none, gone_other, not_same, still_newest}
+use Rattle.collection.proofs.Finds.{err_not_unfound, gone_none, gone_other, not_same, some_not_unfound, still_newest, unlive_key, unlive_other, unlive_unsound}
 use Rattle.collection.proofs.Rescues.{true_over}
 use Rattle.collection.proofs.Exits.{none_not_some, reads_one, reads_two, live_here, found_here}
 use Rattle.collection.proofs.engine.Engine.live_record.Goals as goal
@@ -14,6 +16,7 @@ returns-in_default g c = record {
   looks = looks_ok _ _ _ _ c.in_ok-taken.ensures.looks;
   reads = reads_one _ _ c.take_page.ensures.reads;
   checked = λ _ is. absurd (none_not_some _ is);
+  unfound = λ _. unlive_unsound (ram c.args.self.now) _ _ c.args.row c.in_ok-taken.taken c.in_ok-taken.ensures.sound (none_from c.in_ok-taken.taken c.in_default.not-Some);
   stands = c.in_ok-taken.ensures.stands;
   truth = λ honest w. gone_none _ c.args.row ((c.in_ok-taken.ensures.truth honest).mark ∙ none_from c.in_ok-taken.taken c.in_default.not-Some);
 }
@@ -23,6 +26,8 @@ returns-else-eq g c = record {
   looks = looks_then _ _ _ _ _ c.in_ok-taken.ensures.looks (looks_ok _ _ _ _ c.in_ok-newest.ensures.looks);
   reads = reads_two _ _ _ c.take_page.ensures.reads c.find_newest.ensures.reads;
   checked = λ _ is. absurd (none_not_some _ is);
+  unfound = λ _. unlive_other (ram c.args.self.now) _ _ c.args.row c.in_ok-taken.taken c.in-Some.found c.key-key.result c.in-Some.is c.key-key.ensures (ram c.take_page.new.self) _ c.in_ok-newest.newest
+      c.in_ok-taken.ensures.sound (ap (λ b. page_in_buffer b) c.find_newest.ensures.page) c.take_page.ensures.looks.memory c.in_ok-newest.ensures.points (not_same c.in_ok-newest.newest c.args.row c.eq.result c.eq.ensures c.if-eq.false);
   stands = λ honest. c.in_ok-taken.ensures.stands honest ∙ ap (λ b. Some (page_in_buffer b)) (sym c.find_newest.ensures.page);
   truth = λ honest w.
       let taken = c.in_ok-taken.ensures.truth honest in
@@ -40,6 +45,7 @@ returns-in_err-newest g c =
       looks = looks_then _ _ _ _ _ c.in_ok-taken.ensures.looks (looks_err _ _ _ c.in_err-newest.ensures.looks);
       reads = reads_two _ _ _ c.take_page.ensures.reads c.find_newest.ensures.reads;
       checked = tt;
+      unfound = λ is. absurd (err_not_unfound _ _ _ refl is);
       stands = λ _. tt;
       truth = λ honest w.
           let still = ap (λ f. f.image) (c.in_ok-taken.ensures.looks.same honest (ok_not_bus _)) in
@@ -53,6 +59,7 @@ returns-then-eq g c = record {
   checked = found_here c.args.row c.in-Some.found c.in_ok-taken.taken c.key-key.result c.in_ok-newest.newest c.eq.result c.in-Some.is c.key-key.ensures c.eq.ensures c.if-eq.true
       (ram c.args.self.now) (ram c.take_page.new.self) _ _ _ c.take_page.ensures.looks.memory c.in_ok-taken.ensures.sound (ap (λ b. page_in_buffer b) c.find_newest.ensures.page)
       (c.if-not-has_key.ensures.0 refl) c.in_ok-newest.ensures.points;
+  unfound = λ is. absurd (some_not_unfound _ _ refl is);
   stands = λ honest. c.in_ok-taken.ensures.stands honest ∙ ap (λ b. Some (page_in_buffer b)) (sym c.find_newest.ensures.page);
   truth = λ honest w.
       let still = ap (λ f. f.image) (c.in_ok-taken.ensures.looks.same honest (ok_not_bus _)) in
@@ -68,9 +75,14 @@ returns-in_err-taken g c =
       looks = c.in_err-taken.ensures.looks;
       reads = reads_one _ _ c.take_page.ensures.reads;
       checked = tt;
+      unfound = λ is. absurd (err_not_unfound _ _ _ refl is);
       stands = λ _. tt;
       truth = λ _ _. c.in_err-taken.ensures.faults;
     })
+
+pub returns-then-not-has_key-clause-unfound : goal.returns-then-not-has_key-clause-unfound
+returns-then-not-has_key-clause-unfound g c = λ _. unlive_key (ram c.args.self.now) _ _ c.args.row c.in_ok-taken.taken c.in-Some.found c.key-key.result c.in-Some.is c.key-key.ensures c.in_ok-taken.ensures.sound
+    (λ within. false≢true (c.if-not-has_key.ensures.1 (subst (λ r. IsKeyOf r.geometry c.key-key.result) (sym c.take_page.ensures.looks.memory) within)))
 
 pub returns-then-not-has_key-clause-stands : goal.returns-then-not-has_key-clause-stands
 returns-then-not-has_key-clause-stands g c = c.in_ok-taken.ensures.stands

@@ -1,10 +1,10 @@
-use Rattle.std.proofs.Common.{slice_get, Some, refl, ap, sym, subst, ◌∙◌, ◌<◌, ◌≡◌, None, Ok}
+use Rattle.std.proofs.Common.{slice_get, Some, refl, ap, sym, subst, ◌∙◌, ◌<◌, ◌≡◌, None, Ok, Err, inl, inr}
 use Rattle.std.proofs.lemmas.Result.{err_from_is_err_and}
 use Rattle.page_layout.specs.Page.{page}
 use Rattle.collection.specs.Safe.{ram, page_in_buffer}
 use Rattle.collection.specs.Looks.{FindsRow}
 use Rattle.collection.proofs.Acts.{looks_read, looks_then, looks_ok, looks_err}
-use Rattle.collection.proofs.Looks.{none_from, ok_not_bus, read_none, read_some, gives_none, gives_some, finds_row}
+use Rattle.collection.proofs.Looks.{fault_is, none_from, ok_not_bus, ok_not_damaged, read_none, read_some, gives_none, gives_some, finds_row}
 use Rattle.page_layout.specs.Geometry.{row_count}
 use Rattle.page_layout.specs.declared.record.Key.TheVariants.{Sector}
 use Rattle.collection.specs.Pages.{newest_row}
@@ -24,6 +24,7 @@ returns-in_default g c = record {
       let none = none_from c.in_ok-found.found c.in_default.not-Some in
       rw (← none) (finds_row (ram c.args.self.now) c.args.sector (page_in_buffer c.row_of_sector.new.self.scratch) c.in_ok-found.found c.in_ok-found.ensures.hit c.in_ok-found.ensures.checked);
   refused = tt;
+  damaged = λ e. absurd (ok_not_damaged _ e);
   checked = gives_none c.args.self.now.geometry c.args.sector _ (page_in_buffer c.row_of_sector.new.self.page) _ c.clear.ensures c.requires.whole;
   truth = λ honest w. read_none c.args.self.now.geometry _ c.args.sector c.in_ok-found.found _ _ (c.in_ok-found.ensures.truth honest w) (none_from c.in_ok-found.found c.in_default.not-Some) c.clear.ensures c.requires.whole;
 }
@@ -43,6 +44,7 @@ returns g c = record {
       let found = finds_row (ram c.args.self.now) c.args.sector (page_in_buffer c.row_of_sector.new.self.scratch) c.in_ok-found.found c.in_ok-found.ensures.hit c.in_ok-found.ensures.checked in
       subst (FindsRow (ram c.args.self.now) c.args.sector (page_in_buffer c.row_of_sector.new.self.scratch)) c.in-Some.is found;
   refused = tt;
+  damaged = λ e. absurd (ok_not_damaged _ e);
   checked = gives_some c.args.self.now.geometry c.args.sector c.in-Some.row (Some c.in-Some.row) (page_in_buffer c.read_of.new.buffer)
       c.in_ok-written.written _ c.deref.result.now _ refl c.in_ok-written.ensures.checked c.deref.ensures.value c.copy_sector.ensures.sector
       c.copy_sector.ensures.others c.requires.whole;
@@ -71,6 +73,9 @@ returns-in_err-written g c =
       unmapped = λ unknown is. found_apart c.in_ok-found.found c.in-Some.row (c.in_ok-found.ensures.unmapped unknown is).0 c.in-Some.is;
       looked_up = tt;
       refused = refl;
+      damaged = λ e.
+          let found = finds_row (ram c.args.self.now) c.args.sector (page_in_buffer c.row_of_sector.new.self.scratch) c.in_ok-found.found c.in_ok-found.ensures.hit c.in_ok-found.ensures.checked in
+          inr (c.in-Some.row, subst (FindsRow (ram c.args.self.now) c.args.sector (page_in_buffer c.row_of_sector.new.self.scratch)) c.in-Some.is found, c.read_of.ensures.damaged (c.in_err-written.was ∙ ap Err (fault_is _ _ _ refl e)));
       checked = tt;
       truth = λ honest w. c.in_err-written.ensures.undamaged (c.row_of_sector.ensures.looks.only_reads.honest_is ∙ honest)
           (ap (λ f. newest_row f.image (Sector c.args.sector)) (c.in_ok-found.ensures.looks.same honest (ok_not_bus c.in_ok-found.found))
@@ -89,6 +94,7 @@ returns-in_err-found g c =
       unmapped = c.in_err-found.ensures.unmapped;
       looked_up = tt;
       refused = refl;
+      damaged = λ e. inl (c.in_err-found.ensures.damaged e);
       checked = tt;
       truth = c.in_err-found.ensures.truth;
     })

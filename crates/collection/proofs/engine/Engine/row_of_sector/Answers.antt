@@ -1,5 +1,6 @@
 use Rattle.collection.proofs.Acts.{looks_same, looks_ok}
 use Rattle.std.proofs.Common.{rules, refl}
+use Rattle.collection.proofs.Looks.{ok_not_damaged}
 use Rattle.collection.proofs.engine.Engine.row_of_sector.Goals as goal
 
 pub returns-in-Some : goal.returns-in-Some
@@ -11,6 +12,7 @@ returns-in-Some g c = record {
   hit = search rules;
   unmapped = search rules;
   checked = search rules;
+  damaged = λ e. absurd (ok_not_damaged _ e);
   truth = search rules;
 }
 
@@ -23,5 +25,6 @@ returns-in-None g c = record {
   hit = search rules;
   unmapped = search rules;
   checked = search rules;
+  damaged = c.row_on_page.ensures.damaged;
   truth = c.row_on_page.ensures.truth;
 }

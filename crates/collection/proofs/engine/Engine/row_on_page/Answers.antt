@@ -1,8 +1,8 @@
-use Rattle.std.proofs.Common.{Some, None, refl, ◌∙◌, ap}
+use Rattle.std.proofs.Common.{Err, Some, None, refl, ◌∙◌, ap}
 use Rattle.std.proofs.lemmas.Result.{err_from_is_err_and}
 use Rattle.page_layout.specs.Page.{page}
 use Rattle.collection.proofs.Acts.{looks_same, looks_ok, looks_err}
-use Rattle.collection.proofs.Looks.{found_none, found_by, newest_at, none_from, has_place}
+use Rattle.collection.proofs.Looks.{fault_is, found_none, found_by, newest_at, none_from, has_place, ok_not_damaged, unlisted_row, unread_row}
 use Rattle.collection.proofs.Exits.{none_not_some, no_more, reads_counted, gives_nothing, gives_checked, is_mapped, looks_scratch, looks_tested}
 use Rattle.collection.proofs.engine.Engine.row_on_page.Goals as goal
 
@@ -17,6 +17,7 @@ returns-in_default g c = record {
   row = λ _ is. absurd (none_not_some _ is);
   unmapped = λ _. (refl, refl);
   checked = gives_nothing c.args.self.now.geometry c.args.self.now.directory c.args.sector c.entries-entries.result _ c.entries-entries.ensures c.row_of-found.result c.row_of-found.ensures.value (none_from c.row_of-found.result c.in_default.not-Some);
+  damaged = λ e. absurd (ok_not_damaged _ e);
   truth = λ honest w. found_none c.args.self.now.geometry _ c.args.self.now.directory c.args.self.now.mapping
       c.args.sector c.entries-entries.result w.maps c.requires.sector c.entries-entries.ensures c.requires.unknown
       (newest_at c.args.self.now.geometry _ c.args.self.now.directory c.args.self.now.mapping c.args.sector c.entries-entries.result
@@ -35,6 +36,11 @@ returns-in_err-read_of g c =
       row = tt;
       unmapped = λ none. absurd (is_mapped c.args.self.now.geometry c.args.self.now.directory c.args.sector c.entries-entries.result c.in-Some.at c.row_of-found.result c.entries-entries.ensures c.row_of-found.ensures.value c.in-Some.is none);
       checked = tt;
+      damaged = λ e. record {
+        unknown = c.requires.unknown;
+        listed = is_mapped c.args.self.now.geometry c.args.self.now.directory c.args.sector c.entries-entries.result c.in-Some.at c.row_of-found.result c.entries-entries.ensures c.row_of-found.ensures.value c.in-Some.is;
+        gives = unread_row c.args.self.now.geometry c.args.sector c.entries-entries.result _ c.entries-entries.ensures (c.read_of.ensures.damaged (c.in_err-read_of.was ∙ ap Err (fault_is _ _ _ refl e)));
+      };
       truth = λ honest w.
           c.in_err-read_of.ensures.undamaged honest
           (newest_at c.args.self.now.geometry _ c.args.self.now.directory c.args.self.now.mapping c.args.sector c.entries-entries.result
@@ -50,6 +56,11 @@ returns g c = record {
   row = c.checked_entry.ensures.row;
   unmapped = λ none. absurd (is_mapped c.args.self.now.geometry c.args.self.now.directory c.args.sector c.entries-entries.result c.in-Some.at c.row_of-found.result c.entries-entries.ensures c.row_of-found.ensures.value c.in-Some.is none);
   checked = gives_checked c.args.self.now.geometry c.args.self.now.directory c.args.sector c.entries-entries.result _ c.entries-entries.ensures _ _ c.checked_entry.result c.in_ok-read_of.ensures.checked c.deref.ensures.value c.checked_entry.ensures.entry;
+  damaged = λ e. record {
+    unknown = c.requires.unknown;
+    listed = is_mapped c.args.self.now.geometry c.args.self.now.directory c.args.sector c.entries-entries.result c.in-Some.at c.row_of-found.result c.entries-entries.ensures c.row_of-found.ensures.value c.in-Some.is;
+    gives = unlisted_row c.args.self.now.geometry c.args.sector c.entries-entries.result _ _ c.checked_entry.result c.entries-entries.ensures c.deref.ensures.value c.checked_entry.ensures.undamaged e;
+  };
   truth = λ honest w.
       let at = newest_at c.args.self.now.geometry _ c.args.self.now.directory c.args.self.now.mapping c.args.sector c.entries-entries.result c.row_of-found.result (Some c.in-Some.at) w.maps c.requires.sector c.entries-entries.ensures c.row_of-found.ensures.value c.in-Some.is in
       found_by c.args.self.now.geometry _ c.args.self.now.directory c.args.self.now.mapping c.args.sector c.entries-entries.result w.maps

@@ -2,7 +2,7 @@ use Rattle.std.proofs.Common.{is_some, ap, sym, ◌∙◌, refl}
 use Rattle.std.proofs.lemmas.List.{with_items_is}
 use Rattle.page_layout.specs.Page.{page}
 use Rattle.page_layout.proofs.AskedLemmas.{asks_one}
-use Rattle.collection.proofs.Looks.{page_of, not_other, not_unsound, ok_not_bus}
+use Rattle.collection.proofs.Looks.{bus_not_damaged, ok_not_damaged, other_not_of, page_of, not_other, not_unsound, ok_not_bus, unsound_not_of}
 use Rattle.collection.specs.declared.fault.EngineFault.TheVariants.{Damaged}
 use Rattle.collection.proofs.Programs.{buffer_both}
 use Rattle.collection.proofs.Ends.{damaged_apart, err_apart}
@@ -24,6 +24,27 @@ returns-in-Ok-Some-2-clause-checked g c = rw (
 )
     (page_of c.args.key (page c.read_sound.new.body c.read_sound.new.spare) c.in-Ok-Some.found
     (sym c.in-Ok-Some.ensures.record ∙ c.in-Ok-Some.field-0-is) (ap is_some (sym c.sequence_of.ensures) ∙ c.if-is_none.ensures))
+
+-- ---- why it is damaged
+
+pub returns-in-Err-clause-damaged : goal.returns-in-Err-clause-damaged
+returns-in-Err-clause-damaged g c = λ e. absurd (bus_not_damaged _ refl e)
+
+pub returns-in-Ok-None-clause-damaged : goal.returns-in-Ok-None-clause-damaged
+returns-in-Ok-None-clause-damaged g c = λ _.
+    let body = with_items_is c.args.buffer.now.body c.read_sound.new.body (c.read_sound.auto.body ∙ c.deref_mut.ensures.len) in
+    let spare = with_items_is c.args.buffer.now.spare c.read_sound.new.spare (c.read_sound.auto.spare ∙ c.deref_mut-2.ensures.len) in
+    rw (body, spare) (unsound_not_of c.args.key (page c.read_sound.new.body c.read_sound.new.spare) (sym c.in-Ok-None.ensures.record ∙ c.in-Ok-None.field-0-is))
+
+pub returns-in-Ok-Some-clause-damaged : goal.returns-in-Ok-Some-clause-damaged
+returns-in-Ok-Some-clause-damaged g c = λ _.
+    let body = with_items_is c.args.buffer.now.body c.read_sound.new.body (c.read_sound.auto.body ∙ c.deref_mut.ensures.len) in
+    let spare = with_items_is c.args.buffer.now.spare c.read_sound.new.spare (c.read_sound.auto.spare ∙ c.deref_mut-2.ensures.len) in
+    rw (body, spare) (other_not_of c.args.key (page c.read_sound.new.body c.read_sound.new.spare) c.in-Ok-Some.found
+    (sym c.in-Ok-Some.ensures.record ∙ c.in-Ok-Some.field-0-is) (ap is_some (sym c.sequence_of.ensures) ∙ c.if-is_none.ensures))
+
+pub returns-in-Ok-Some-2-clause-damaged : goal.returns-in-Ok-Some-2-clause-damaged
+returns-in-Ok-Some-2-clause-damaged g c = λ e. absurd (ok_not_damaged _ e)
 
 -- ---- whatever the page is, one call was asked
 
