@@ -15,7 +15,7 @@ use Rattle.collection.specs.declared.fault.EngineFault.TheVariants as engine_fau
 use Rattle.collection.specs.State.{Ram}
 use Rattle.collection.specs.Safe.{IsSafe, ram, page_in_buffer}
 use Rattle.collection.specs.Left.{IsCalm}
-use Rattle.collection.specs.Looks.{IsReadFault}
+use Rattle.collection.specs.Looks.{FindsDamage, IsReadFault}
 use Rattle.ftl_device.specs.declared.device.Device.{Device}
 use Rattle.ftl_device.specs.declared.fault.DeviceFault.{DeviceFault}
 use Rattle.ftl_device.specs.declared.fault.DeviceFault.TheVariants.{OutOfRange, ReadOnly, SequenceSpent, OutOfMemory, Damaged, BusFault}
@@ -42,6 +42,9 @@ done_no result fault ok e = (let no : false ≡ true = subst IsOk e ok in let ne
 
 pub range_not_bus : (result : Result (Unit {0}) DeviceFault) → result ≡ Err OutOfRange → result ≡ Err BusFault → ⊥
 range_not_bus result x y = (let no : ⊥ = cc in no)
+
+pub range_not_damaged : (result : Result (Unit {0}) DeviceFault) → result ≡ Err OutOfRange → result ≡ Err Damaged → ⊥
+range_not_damaged result x y = (let no : ⊥ = cc in no)
 
 -- ---- a fault stood
 
@@ -159,6 +162,14 @@ module _ {N : Type 0} (d : Device N) (e : Engine N) where
 
     pub not_bus : {A : Type 0} (look : Result A EngineFault) (result : Result (Unit {0}) DeviceFault) → look ≡ Err fault → result ≡ Err answer → (result ≡ Err BusFault → ⊥) → look ≡ Err engine_fault.Bus → ⊥
     not_bus look result was is ne bad = (let same : fault ≡ engine_fault.Bus = cc in ne (is ∙ ap Err (bus same).0))
+
+    -- what was read is damaged just where that is answered, and it is still in the buffers
+    pub damage_back : (r : Ram) (n : ℕ) (result : Result (Unit {0}) DeviceFault) → result ≡ Err answer → result ≡ Err Damaged → (fault ≡ engine_fault.Damaged → FindsDamage r n (page_in_buffer e.scratch) (page_in_buffer e.page))
+        → FindsDamage r n (page_in_buffer new.engine.scratch) (page_in_buffer new.engine.page)
+    damage_back r n result is bad look =
+        let same : answer ≡ Damaged = cc in
+        let look_is : EngineFault → Type 0 = λ f. f ≡ engine_fault.Damaged → FindsDamage r n (page_in_buffer e.scratch) (page_in_buffer e.page) in
+        by_fault (λ f a z. a ≡ Damaged → look_is f → FindsDamage r n (page_in_buffer z.engine.scratch) (page_in_buffer z.engine.page)) fault answer new of_read damaged bus (λ x found. found refl) (λ x found. (let no : ⊥ = cc in absurd no)) same look
 
     pub refused_memory : (n : ℕ) (bytes : List ℕ) → ram e ≡ ram d.engine → LeavesRead n (Err answer) (ram d.engine) (ram new.engine) (page_in_buffer new.engine.scratch) (page_in_buffer new.engine.page) bytes
     refused_memory n bytes same = by_fault (λ f a z. LeavesRead n (Err a) (ram d.engine) (ram z.engine) (page_in_buffer z.engine.scratch) (page_in_buffer z.engine.page) bytes) fault answer new of_read damaged bus same

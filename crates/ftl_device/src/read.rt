@@ -14,7 +14,7 @@ ghost use Rattle.mapping_cache.specs.Mapping.{HasLimitsOf, known};
 ghost use Rattle.collection.specs.Safe.{ram, image_in, page_in_buffer};
 ghost use Rattle.collection.specs.Truth.{IsTrue};
 ghost use Rattle.collection.specs.Pages.{newest_row};
-ghost use Rattle.collection.specs.Looks.{IsReadFault};
+ghost use Rattle.collection.specs.Looks.{FindsDamage, IsReadFault};
 ghost use Rattle.collection.specs.Stops.{room_of};
 ghost use Rattle.ftl_device.specs.Device.{IsDevice};
 ghost use Rattle.ftl_device.specs.Calls.{IsWell, stop_of, state_in, read_reply_of};
@@ -113,6 +113,10 @@ impl<N: Nand> Device<N> {
         // Whatever the die does: the row that was found, the pages in the buffers that give it and the sector, and the row that is cached.
         ensures memory { LeavesRead sector result (ram self.old.engine) (ram self.new.engine)
             (page_in_buffer self.new.engine.scratch) (page_in_buffer self.new.engine.page) out.new }
+
+        // Damaged is a page that was read for it, and no other.
+        ensures damaged { stop_of self.old.engine.fault ≡ None → result ≡ Err DeviceFault.Damaged →
+            FindsDamage (ram self.old.engine) sector (page_in_buffer self.new.engine.scratch) (page_in_buffer self.new.engine.page) }
 
         // The truth of it, for a die that keeps its promises.
         ensures same { N.view.honest self.old.engine.nand ≡ true → result ≢ Err DeviceFault.BusFault →

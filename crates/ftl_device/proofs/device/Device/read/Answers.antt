@@ -16,8 +16,8 @@ use Rattle.ftl_device.proofs.StoppedLemmas.{stopped_none}
 use Rattle.promises.specs.Step as step
 use Rattle.ftl_device.proofs.LeaveLemmas.{limits_same}
 use Rattle.ftl_device.proofs.ReadLemmas.{read_step, read_done, read_well}
-use Rattle.ftl_device.proofs.ReadRefusals.{going_none, going_stop, not_both, done_no, range_not_bus, stopped_once, faults_once, within_once, memory_once, only_reads_none, up_to, not_within, not_past, within_by, past_read}
-use Rattle.ftl_device.proofs.ReadRefusals.{device_looked, noted, refused_within, bus_back, not_bus, refused_memory}
+use Rattle.ftl_device.proofs.ReadRefusals.{going_none, going_stop, not_both, done_no, range_not_bus, range_not_damaged, stopped_once, faults_once, within_once, memory_once, only_reads_none, up_to, not_within, not_past, within_by, past_read}
+use Rattle.ftl_device.proofs.ReadRefusals.{damage_back, device_looked, noted, refused_within, bus_back, not_bus, refused_memory}
 use Rattle.page_layout.specs.declared.geometry.Geometry.{Geometry}
 use Rattle.page_layout.specs.Geometry.{row_count}
 use Rattle.collection.specs.State.{Ram}
@@ -148,6 +148,9 @@ returns-in_err-going-clause-step g c = λ honest well ne. absurd (not_both _ _ (
 pub returns-in_err-going-clause-mountable : goal.returns-in_err-going-clause-mountable
 returns-in_err-going-clause-mountable g c = λ honest well ne most. absurd (not_both _ _ (going_stop _ _ _ refl c.in_err-going.ensures) well.going)
 
+pub returns-in_err-going-clause-damaged : goal.returns-in_err-going-clause-damaged
+returns-in_err-going-clause-damaged g c = λ none. absurd (not_both _ _ (going_stop _ _ _ refl c.in_err-going.ensures) none)
+
 -- ---- there is no such sector
 
 pub returns-then-sector-sectors-clause-device : goal.returns-then-sector-sectors-clause-device
@@ -207,6 +210,9 @@ returns-then-sector-sectors-clause-cut g c = λ honest none bad. absurd (range_n
 pub returns-then-sector-sectors-clause-step : goal.returns-then-sector-sectors-clause-step
 returns-then-sector-sectors-clause-step g c = λ honest well ne. past_read _ _ _ _ c.sectors.ensures c.if-sector-sectors.true
 
+pub returns-then-sector-sectors-clause-damaged : goal.returns-then-sector-sectors-clause-damaged
+returns-then-sector-sectors-clause-damaged g c = λ none bad. absurd (range_not_damaged _ refl bad)
+
 -- ---- it was read
 
 pub returns-in-Ok-clause-device : goal.returns-in-Ok-clause-device
@@ -223,6 +229,9 @@ returns-in-Ok-clause-within g c = λ within bad. absurd (done_no _ _ refl bad)
 
 pub returns-in-Ok-clause-faults : goal.returns-in-Ok-clause-faults
 returns-in-Ok-clause-faults g c = tt
+
+pub returns-in-Ok-clause-damaged : goal.returns-in-Ok-clause-damaged
+returns-in-Ok-clause-damaged g c = λ none bad. absurd (done_no _ _ refl bad)
 
 pub returns-in-Ok-clause-refused : goal.returns-in-Ok-clause-refused
 returns-in-Ok-clause-refused g c = tt
@@ -351,6 +360,10 @@ returns-in-Err-clause-step g c = λ honest well ne. absurd (ne (ap Err (c.refuse
 
 pub returns-in-Err-clause-mountable : goal.returns-in-Err-clause-mountable
 returns-in-Err-clause-mountable g c = λ honest well ne most. absurd (ne (ap Err (c.refused_read.ensures.bus (c.in-Err.ensures.truth honest well.truth)).0))
+
+pub returns-in-Err-clause-damaged : goal.returns-in-Err-clause-damaged
+returns-in-Err-clause-damaged g c = λ none bad. damage_back c.args.self.now c.read_sector.new.self c.in-Err.fault _ _ c.in-Err.ensures.looks.faults c.refused_read.ensures.damaged c.refused_read.ensures.bus
+    (ram c.args.self.now.engine) c.args.sector _ refl bad (λ is. c.in-Err.ensures.damaged (ap Err is))
 
 -- ---- what the calls want
 
