@@ -1,5 +1,6 @@
 -- What a server asks of its device of sectors.
-use Rattle.std.proofs.Common.{◌≡◌, inl, inr, ◌⊎◌, ℕ, Bool, true, false, List, [], ◌∷◌, ◌++◌, Option, Some, None, Result, Ok, Err, refl, ap}
+use Rattle.std.proofs.Common.{◌≡◌, inl, inr, ◌⊎◌, ℕ, Bool, true, false, List, [], ◌∷◌, ◌++◌, Option, Some, None, Result, Ok, Err, refl, ap, subst, sym}
+use Rattle.std.specs.Prelude.{OnErr, OnOk}
 use Rattle.std.proofs.lemmas.Bool.{cases_Bool, cases_eq}
 use Rattle.nbd_stream.specs.declared.export.Export.{Export}
 use Rattle.nbd_stream.specs.declared.fault.DiskFault.{DiskFault}
@@ -12,10 +13,10 @@ use Rattle.nbd_stream.specs.Through.{Through}
 use Rattle.disk_server.specs.declared.mark.SyncMark.{SyncMark}
 use Rattle.disk_server.specs.declared.synced.SyncedDisk.{SyncedDisk}
 use Rattle.disk_server.specs.Asked.{AsksCall, AsksSectors}
-use Rattle.disk_server.specs.Synced.{ClearsPart, EndsTask, FlushesBy, IsKnownFlushed, RestsSynced, SyncsTask}
+use Rattle.disk_server.specs.Synced.{ClearsDonePart, ClearsPart, ClearsParts, EndsCleared, EndsTask, FlushesBy, IsKnownFlushed, RestsSynced, SettlesDisk, SyncsTask}
 use Rattle.disk_laws.specs.CallsMade.{IsRunOf, this_call}
 use Rattle.disk_laws.specs.Runs.{AsksOneOf}
-use Rattle.disk_laws.specs.Served.{ClosedSessionLaw, ServedSessionLaw, calls_asked, closing_asked, closing_flush, ends_asked, flush_asked, part_asked, parts_asked, reads_made, rest_asked, rounds_asked, syncs_asked, task_asked, tells_asked}
+use Rattle.disk_laws.specs.Served.{ClosedSessionLaw, ServedSessionLaw, calls_asked, closing_asked, closing_flush, done_asked, ends_asked, flush_asked, part_asked, parts_asked, reads_made, rest_asked, rounds_asked, syncs_asked, task_asked, tells_asked}
 use Rattle.disk_laws.proofs.RunOfLemmas.{run_below, run_joined, run_none, run_once, run_unless}
 
 untrue : false ≡ true → ⊥
@@ -49,23 +50,47 @@ module _ {S Y : Type 0} (contents : S → Contents) (honest : S → Bool) (reads
   run_task old new (Trim offset count durable) result is = run_calls old new is.calls
   run_task old new (WriteZeroes offset count durable) result is = run_calls old new is.calls
 
-  run_part : (offset count : ℕ) (old new : S) (is : ClearsPart Does offset count old new) → IsRunOf One (part_asked contents honest reads changes flushes rests synced failed marked next offset count old new is) old new
-  run_part offset count old new (place, taken, low, high, (answer, is)) = run_task old new (Trim place taken false) answer is
+  run_part : (offset count : ℕ) (old new : SyncedDisk S Y) (result : Result (Unit {0}) DiskFault) (is : ClearsPart Does synced failed marked next offset count old result new)
+      → IsRunOf One (part_asked contents honest reads changes flushes rests synced failed marked next offset count old new result is) old.disk new.disk
+  run_part offset count old new result is = run_task old.disk new.disk (Trim is.place is.taken false) is.change.answer is.change.does_so
 
-  run_parts : (offset count : ℕ) (old new : S) (is : Through (ClearsPart Does offset count) old new) → IsRunOf One (parts_asked contents honest reads changes flushes rests synced failed marked next offset count old new is) old new
-  run_parts offset count = run_below (ClearsPart Does offset count) One (λ s. s) (part_asked contents honest reads changes flushes rests synced failed marked next offset count) (run_part offset count)
+  run_done : (offset count : ℕ) (old new : SyncedDisk S Y) (is : Through (ClearsDonePart Does synced failed marked next offset count) old new)
+      → IsRunOf One (done_asked contents honest reads changes flushes rests synced failed marked next offset count old new is) old.disk new.disk
+  run_done offset count =
+      run_below (ClearsDonePart Does synced failed marked next offset count) One (λ (s : SyncedDisk S Y). s.disk) (λ a b part. part_asked contents honest reads changes flushes rests synced failed marked next offset count a b (Ok tt) part)
+      (λ a b part. run_part offset count a b (Ok tt) part)
+
+  run_parts : (offset count : ℕ) (old new : SyncedDisk S Y) (result : Result (Unit {0}) DiskFault) (is : ClearsParts Does synced failed marked next offset count old result new)
+      → IsRunOf One (parts_asked contents honest reads changes flushes rests synced failed marked next offset count old new result is) old.disk new.disk
+  run_parts offset count old new (Ok done) is = run_done offset count old new is
+  run_parts offset count old new (Err e) (mid, parts, last) =
+      run_joined One old.disk mid.disk new.disk (done_asked contents honest reads changes flushes rests synced failed marked next offset count old mid parts)
+      (part_asked contents honest reads changes flushes rests synced failed marked next offset count mid new (Err e) last)
+      (run_done offset count old mid parts)
+      (run_part offset count mid new (Err e) last)
 
   -- ---- a task of the synced disk
 
   same_disk : (old new : SyncedDisk S Y) → new ≡ old → new.disk ≡ old.disk
   same_disk old new same = ap (λ (d : SyncedDisk S Y). d.disk) same
 
-  run_ends : (old new : SyncedDisk S Y) (task : Task) (result : Result (Unit {0}) DiskFault) (is : EndsTask Does synced marked next old task result new) → IsRunOf One (ends_asked contents honest reads changes flushes rests synced failed marked next old new task result is) old.disk new.disk
+  -- the sync behind a range that was cleared asks nothing of the disk
+  settled : (durable : Bool) (mid new : SyncedDisk S Y) (answer result : Result (Unit {0}) DiskFault) → OnOk answer (SettlesDisk synced failed marked next durable mid result new) → OnErr answer ((result ≡ answer) × (new ≡ mid)) → new.disk ≡ mid.disk
+  settled durable mid new (Ok done) result is none = is.same
+  settled durable mid new (Err e) result none is = same_disk mid new is.1
+
+  run_cleared : (offset count : ℕ) (durable : Bool) (old new : SyncedDisk S Y) (result : Result (Unit {0}) DiskFault) (is : EndsCleared Does synced failed marked next durable offset count old result new)
+      → IsRunOf One (parts_asked contents honest reads changes flushes rests synced failed marked next offset count old is.mid is.answer is.parts) old.disk new.disk
+  run_cleared offset count durable old new result is =
+      subst (λ d. IsRunOf One (parts_asked contents honest reads changes flushes rests synced failed marked next offset count old is.mid is.answer is.parts) old.disk d) (sym (settled durable is.mid new is.answer result is.done is.not_done))
+      (run_parts offset count old is.mid is.answer is.parts)
+
+  run_ends : (old new : SyncedDisk S Y) (task : Task) (result : Result (Unit {0}) DiskFault) (is : EndsTask Does synced failed marked next old task result new) → IsRunOf One (ends_asked contents honest reads changes flushes rests synced failed marked next old new task result is) old.disk new.disk
   run_ends old new (Read offset count) result is = run_task old.disk new.disk (Read offset count) result is.0
-  run_ends old new (Write offset count durable) result is = run_task old.disk new.disk (Write offset count false) is.0.0 is.0.1
-  run_ends old new Flush result is = run_none One old.disk new.disk is.0
-  run_ends old new (Trim offset count durable) result is = run_parts offset count old.disk new.disk is.parts
-  run_ends old new (WriteZeroes offset count durable) result is = run_parts offset count old.disk new.disk is.parts
+  run_ends old new (Write offset count durable) result is = run_task old.disk new.disk (Write offset count false) is.answer is.does_so
+  run_ends old new Flush result is = run_none One old.disk new.disk is.same
+  run_ends old new (Trim offset count durable) result is = run_cleared offset count durable old new result is
+  run_ends old new (WriteZeroes offset count durable) result is = run_cleared offset count durable old new result is
 
   run_syncs : (old new : SyncedDisk S Y) (task : Task) (result : Result (Unit {0}) DiskFault) (is : SyncsTask Does synced failed marked next old task result new)
       → IsRunOf One (syncs_asked contents honest reads changes flushes rests synced failed marked next old new task result is) old.disk new.disk
@@ -103,7 +128,7 @@ module _ {S Y : Type 0} (contents : S → Contents) (honest : S → Bool) (reads
   served_session e limit old new unread left before after result (inr begins) = run_rounds e old new begins.transmits.rounds begins.transmits.each
 
   module _ (takes : S → Bool) where
-    run_closing : (old new : SyncedDisk S Y) (result : Result (Unit {0}) DiskFault) (is : FlushesBy Does synced marked next takes old result new) → IsRunOf One (closing_flush contents honest reads changes flushes rests synced failed marked next takes old new result is) old.disk new.disk
+    run_closing : (old new : SyncedDisk S Y) (result : Result (Unit {0}) DiskFault) (is : FlushesBy Does synced failed marked next takes old result new) → IsRunOf One (closing_flush contents honest reads changes flushes rests synced failed marked next takes old new result is) old.disk new.disk
     run_closing old new (Ok done) is = run_flush old.disk new.disk (Ok tt) is.flushed
     run_closing old new (Err e) is = run_flush old.disk new.disk is.answer is.asked
 

@@ -15,7 +15,7 @@ use Rattle.request_stream.specs.declared.reply.ServeFault.{ServeFault}
 use Rattle.disk_server.specs.declared.mark.SyncMark.{SyncMark}
 use Rattle.disk_server.specs.declared.synced.SyncedDisk.{SyncedDisk}
 use Rattle.disk_server.specs.Asked.{AsksCall, AsksSectors}
-use Rattle.disk_server.specs.Synced.{ClearsPart, Closes, EndsTask, FlushesBy, IsKnownFlushed, RestsSynced, SyncsTask}
+use Rattle.disk_server.specs.Synced.{ClearsDonePart, ClearsPart, ClearsParts, Closes, EndsTask, FlushesBy, IsKnownFlushed, RestsSynced, SyncsTask}
 use Rattle.disk_laws.specs.CallsMade.{CallMade, IsRunOf, asked_unless, calls_made, each_asked, this_call}
 use Rattle.disk_laws.specs.Runs.{AsksOneOf}
 
@@ -48,19 +48,24 @@ module _ {S Y : Type 0} (contents : S → Contents) (honest : S → Bool) (reads
   task_asked old new (WriteZeroes offset count durable) result is = calls_asked old new is.calls
 
   -- so does each part of a range that is cleared
-  abbrev pub part_asked : (offset count : ℕ) (old new : S) → ClearsPart DoesTask offset count old new → List (CallMade IsSectorCall)
-  part_asked offset count old new (place, taken, low, high, (answer, is)) = task_asked old new (Trim place taken false) answer is
+  abbrev pub part_asked : (offset count : ℕ) (old new : SyncedDisk S Y) (result : Result (Unit {0}) DiskFault) → ClearsPart DoesTask synced failed marked next offset count old result new → List (CallMade IsSectorCall)
+  part_asked offset count old new result is = task_asked old.disk new.disk (Trim is.place is.taken false) is.change.answer is.change.does_so
 
-  abbrev pub parts_asked : (offset count : ℕ) (old new : S) → Through (ClearsPart DoesTask offset count) old new → List (CallMade IsSectorCall)
-  parts_asked offset count old new parts = each_asked (ClearsPart DoesTask offset count) IsSectorCall (part_asked offset count) (calls_made (ClearsPart DoesTask offset count) old new parts)
+  abbrev pub done_asked : (offset count : ℕ) (old new : SyncedDisk S Y) → Through (ClearsDonePart DoesTask synced failed marked next offset count) old new → List (CallMade IsSectorCall)
+  done_asked offset count old new parts =
+      each_asked (ClearsDonePart DoesTask synced failed marked next offset count) IsSectorCall (λ a b part. part_asked offset count a b (Ok tt) part) (calls_made (ClearsDonePart DoesTask synced failed marked next offset count) old new parts)
+
+  abbrev pub parts_asked : (offset count : ℕ) (old new : SyncedDisk S Y) (result : Result (Unit {0}) DiskFault) → ClearsParts DoesTask synced failed marked next offset count old result new → List (CallMade IsSectorCall)
+  parts_asked offset count old new (Ok done) parts = done_asked offset count old new parts
+  parts_asked offset count old new (Err e) (mid, parts, last) = done_asked offset count old mid parts ++ part_asked offset count mid new (Err e) last
 
   -- WHAT A TASK OF THE SYNCED DISK ASKS of it: a flush nothing; and none asks anything after a sync that failed
-  abbrev pub ends_asked : (old new : SyncedDisk S Y) (task : Task) (result : Result (Unit {0}) DiskFault) → EndsTask DoesTask synced marked next old task result new → List (CallMade IsSectorCall)
+  abbrev pub ends_asked : (old new : SyncedDisk S Y) (task : Task) (result : Result (Unit {0}) DiskFault) → EndsTask DoesTask synced failed marked next old task result new → List (CallMade IsSectorCall)
   ends_asked old new (Read offset count) result is = task_asked old.disk new.disk (Read offset count) result is.0
-  ends_asked old new (Write offset count durable) result is = task_asked old.disk new.disk (Write offset count false) is.0.0 is.0.1
+  ends_asked old new (Write offset count durable) result is = task_asked old.disk new.disk (Write offset count false) is.answer is.does_so
   ends_asked old new Flush result is = []
-  ends_asked old new (Trim offset count durable) result is = parts_asked offset count old.disk new.disk is.parts
-  ends_asked old new (WriteZeroes offset count durable) result is = parts_asked offset count old.disk new.disk is.parts
+  ends_asked old new (Trim offset count durable) result is = parts_asked offset count old is.mid is.answer is.parts
+  ends_asked old new (WriteZeroes offset count durable) result is = parts_asked offset count old is.mid is.answer is.parts
 
   abbrev pub syncs_asked : (old new : SyncedDisk S Y) (task : Task) (result : Result (Unit {0}) DiskFault) → SyncsTask DoesTask synced failed marked next old task result new → List (CallMade IsSectorCall)
   syncs_asked old new task result is = asked_unless old.failed (λ going. ends_asked old new task result (is.ends going))
@@ -91,7 +96,7 @@ module _ {S Y : Type 0} (contents : S → Contents) (honest : S → Bool) (reads
 
   -- AS A DISK IS CLOSED: one flush, unless it is known to be flushed, or a sync failed before
   module _ (takes : S → Bool) where
-    abbrev pub closing_flush : (old new : SyncedDisk S Y) (result : Result (Unit {0}) DiskFault) → FlushesBy DoesTask synced marked next takes old result new → List (CallMade IsSectorCall)
+    abbrev pub closing_flush : (old new : SyncedDisk S Y) (result : Result (Unit {0}) DiskFault) → FlushesBy DoesTask synced failed marked next takes old result new → List (CallMade IsSectorCall)
     closing_flush old new (Ok done) is = flush_asked old.disk new.disk (Ok tt) is.flushed
     closing_flush old new (Err e) is = flush_asked old.disk new.disk is.answer is.asked
 

@@ -13,6 +13,9 @@ use Rattle.page_layout.specs.Counter.{HasRisen, counted}
 use Rattle.disk_server.specs.declared.mark.SyncMark.{SyncMark}
 use
     Rattle.disk_server.specs.Synced.{
+      ClearsDonePart,
+      ClearsPart,
+      ClearsParts,
       CloseLaw,
       Closes,
       CountsRangeChanged,
@@ -24,6 +27,8 @@ use
       IsKnownFlushed,
       IsLasting,
       FailsUnasked,
+      FaultLaw,
+      IsToldOf,
       KeepsCount,
       Marks,
       NoneFailed,
@@ -38,7 +43,9 @@ use
     }
 use Rattle.disk_server.proofs.Joining.{as_task}
 use Rattle.disk_server.proofs.Tasks.{performed}
-use Rattle.disk_server.proofs.SyncLemmas.{no_less, none_then, then_failed, unflushed}
+use Rattle.nbd_stream.specs.Through.{Through}
+use Rattle.nbd_stream.proofs.ThroughLemmas.{joined, none, once}
+use Rattle.disk_server.proofs.SyncLemmas.{no_less, none_then, one_part, part_failed, then_failed, unflushed}
 use Rattle.disk_server.specs.declared.synced.SyncedDisk.{SyncedDisk}
 
 abbrev pub Lasts : {D : Type 0} → (D → Contents) → Type 0
@@ -89,6 +96,53 @@ pub and_synced : {D : Type 0} (contents : D → Contents) (honest calm : D → B
 and_synced contents honest calm task body old new (Ok done) is may never p = p
 and_synced contents honest calm task body old new (Err e) is may never p = failed_then contents honest calm task body old new e is may never p
 
+-- ---- what a call answers
+
+module _ {D Y : Type 0} (failed : Y → ℕ) where
+  -- done, only where the disk was
+  pub told_done : (old new : SyncedDisk D Y) (answer : Result (Unit {0}) DiskFault) → IsToldOf failed answer old (Ok tt) new → answer ≡ Ok tt
+  told_done old new (Ok done) told = refl
+  told_done old new (Err e) told = (let no = told.0 in let never : ⊥ = cc in absurd never)
+
+  -- that no sync failed, or one did
+  pub told_notes : (old new : SyncedDisk D Y) (answer result : Result (Unit {0}) DiskFault) → IsToldOf failed answer old result new → NotesFailedSync failed old result new
+  told_notes old new (Ok done) (Ok did) told = told
+  told_notes old new (Ok done) (Err e) told = inr told.1
+  told_notes old new (Err e) (Ok did) told = told.1
+  told_notes old new (Err e) (Err other) told = inl told.1
+
+  -- of a disk with a range counted as changed, of the disk before
+  pub uncounted : (offset count : ℕ) (old new : SyncedDisk D Y) (result : Result (Unit {0}) DiskFault) → NotesFailedSync failed (after_change offset count old) result new → NotesFailedSync failed old result new
+  uncounted offset count old new (Ok done) none = record { same = none.same; count_same = none.count_same }
+  uncounted offset count old new (Err e) (inl none) = inl (record { same = none.same; count_same = none.count_same })
+  uncounted offset count old new (Err e) (inr one) = inr (record { kept = one.kept; rose = one.rose })
+
+-- ---- parts of a range
+
+module _ {D Y : Type 0} (does : D → Task → Result (Unit {0}) DiskFault → D → Type 0) (synced failed : Y → ℕ) (marked : Y → SyncMark) (next : D → ℕ) (offset count : ℕ) (old mid new : SyncedDisk D Y) where
+  -- the whole as one
+  pub one_alone : (result : Result (Unit {0}) DiskFault) → ClearsPart does synced failed marked next offset count old result new → ClearsParts does synced failed marked next offset count old result new
+  one_alone (Ok done) part = once (ClearsDonePart does synced failed marked next offset count) old new part
+  one_alone (Err e) part = (old, none (ClearsDonePart does synced failed marked next offset count) old old refl, part)
+
+  -- and one more
+  pub part_on : Through (ClearsDonePart does synced failed marked next offset count) old mid → ClearsPart does synced failed marked next offset count mid (Ok tt) new
+      → Through (ClearsDonePart does synced failed marked next offset count) old new
+  part_on before part = joined (ClearsDonePart does synced failed marked next offset count) old mid new before (once (ClearsDonePart does synced failed marked next offset count) mid new part)
+
+module _ {D Y : Type 0} (synced : Y → ℕ) (marked : Y → SyncMark) (next : D → ℕ) (offset count : ℕ) (old new : SyncedDisk D Y) where
+  pub alone_kept : (result : Result (Unit {0}) DiskFault) → SyncsBehindChange synced marked next false (after_change offset count old) result new → KeepsCount synced old new
+  alone_kept (Ok done) is = one_part synced offset count old old new (record { syncs = inl (omega arith); pace_same = refl }) is.synced_if_due
+  alone_kept (Err e) is = part_failed synced offset count old old new (record { syncs = inl (omega arith); pace_same = refl }) is.unsynced
+
+  counts_alone : HasSynced synced false (after_change offset count old) new → CountsRangeChanged synced offset count old new
+  counts_alone (inl due) = inl (no_less (synced old.syncs) (synced old.syncs) (synced new.syncs) (inl (omega arith)) due.1.one)
+  counts_alone (inr none) = inr (omega (arith, none.1.unsynced_same))
+
+  pub alone_counted : (result : Result (Unit {0}) DiskFault) → SyncsBehindChange synced marked next false (after_change offset count old) result new → OnOk result (0 < count → CountsRangeChanged synced offset count old new)
+  alone_counted (Ok done) is = λ some. counts_alone is.synced_if_due
+  alone_counted (Err e) is = tt
+
 -- ---- a task
 
 module _ {D Y : Type 0} (does : D → Task → Result (Unit {0}) DiskFault → D → Type 0) (synced failed : Y → ℕ) (marked : Y → SyncMark) (next : D → ℕ) (old : SyncedDisk D Y) (task : Task) where
@@ -101,7 +155,7 @@ module _ {D Y : Type 0} (does : D → Task → Result (Unit {0}) DiskFault → D
   }
 
   -- and before
-  pub goes : (new : SyncedDisk D Y) (result : Result (Unit {0}) DiskFault) → old.failed ≡ false → EndsTask does synced marked next old task result new → NotesFailedSync failed old result new
+  pub goes : (new : SyncedDisk D Y) (result : Result (Unit {0}) DiskFault) → old.failed ≡ false → EndsTask does synced failed marked next old task result new → NotesFailedSync failed old result new
       → SyncsTask does synced failed marked next old task result new
   goes new result going ends notes = record {
     over = λ over. (let no : true ≡ false = sym over ∙ going in (let never : ⊥ = cc in absurd never));
@@ -158,10 +212,10 @@ module _ {D Y : Type 0} (does : D → Task → Result (Unit {0}) DiskFault → D
       → (marked new.syncs).flushed ≡ (marked old.syncs).flushed
   change_unflushed durable offset count old new result ends = unflushed marked next durable (after_change offset count old) new result ends.marks
 
-  ends_unflushed : (old new : SyncedDisk D Y) (task : Task) (result : Result (Unit {0}) DiskFault) → EndsTask does synced marked next old task result new → (marked new.syncs).flushed ≡ (marked old.syncs).flushed
+  ends_unflushed : (old new : SyncedDisk D Y) (task : Task) (result : Result (Unit {0}) DiskFault) → EndsTask does synced failed marked next old task result new → (marked new.syncs).flushed ≡ (marked old.syncs).flushed
   ends_unflushed old new (Read offset count) result ends = ap (λ y. (marked y).flushed) ends.1.syncs_same
-  ends_unflushed old new (Write offset count durable) result ends = change_unflushed durable offset count old new result ends.1
-  ends_unflushed old new Flush result ends = unflushed marked next true old new result ends.1.marks
+  ends_unflushed old new (Write offset count durable) result ends = change_unflushed durable offset count old new result ends.behind
+  ends_unflushed old new Flush result ends = unflushed marked next true old new result ends.behind.marks
   ends_unflushed old new (Trim offset count durable) result ends = ends.unflushed
   ends_unflushed old new (WriteZeroes offset count durable) result ends = ends.unflushed
 
@@ -177,10 +231,10 @@ module _ {D Y : Type 0} (does : D → Task → Result (Unit {0}) DiskFault → D
   due_marked : (durable : Bool) (old new : SyncedDisk D Y) → durable ≡ true → Marks marked next durable old (Ok tt) new → (marked new.syncs).synced ≡ next new.disk
   due_marked durable old new lasts marks = marked_last marked next durable old new (Ok tt) marks lasts
 
-  ends_marked : (old new : SyncedDisk D Y) (task : Task) → IsLasting task → EndsTask does synced marked next old task (Ok tt) new → (marked new.syncs).synced ≡ next new.disk
+  ends_marked : (old new : SyncedDisk D Y) (task : Task) → IsLasting task → EndsTask does synced failed marked next old task (Ok tt) new → (marked new.syncs).synced ≡ next new.disk
   ends_marked old new (Read offset count) lasts ends = absurd lasts
-  ends_marked old new (Write offset count durable) lasts ends = due_marked durable (after_change offset count old) new lasts ends.1.marks
-  ends_marked old new Flush lasts ends = due_marked true old new refl ends.1.marks
+  ends_marked old new (Write offset count durable) lasts ends = due_marked durable (after_change offset count old) new lasts ends.behind.marks
+  ends_marked old new Flush lasts ends = due_marked true old new refl ends.behind.marks
   ends_marked old new (Trim offset count durable) lasts ends = ends.marked_last lasts
   ends_marked old new (WriteZeroes offset count durable) lasts ends = ends.marked_last lasts
 
@@ -207,7 +261,7 @@ module _ {D Y : Type 0} (does : D → Task → Result (Unit {0}) DiskFault → D
   due_done old new (inr undue) = absurd (undue.0 (inl refl))
 
   pub flush_law : FlushLaw does synced failed marked next
-  flush_law old new is = let ends = is.ends (was_going old new is.over old.failed refl) in (let done = due_done old new ends.1.synced_if_due in (ends.0, done.0, done.1))
+  flush_law old new is = let ends = is.ends (was_going old new is.over old.failed refl) in (let done = due_done old new ends.behind.synced_if_due in (ends.same, done.0, done.1))
 
   -- one that was not due
   unlasting : (durable : Bool) → ¬ (durable ≡ true) → durable ≡ false
@@ -230,7 +284,24 @@ module _ {D Y : Type 0} (does : D → Task → Result (Unit {0}) DiskFault → D
   pub write_law : WriteLaw does synced failed marked next
   write_law old new offset count durable is =
       let ends = is.ends (was_going old new is.over old.failed refl) in
-      (ends.0, synced_or_few durable (after_change offset count old) new ends.1.synced_if_due)
+      let answered = told_done failed (after_change offset count old) new ends.answer ends.told in
+      (subst (λ a. does old.disk (Write offset count false) a new.disk) answered ends.does_so, synced_or_few durable (after_change offset count old) new ends.behind.synced_if_due)
+
+  -- an error before any sync failed
+  none_failed : (old new : SyncedDisk D Y) (e : DiskFault) → new.failed ≡ false → IsToldOf failed (Ok tt) old (Err e) new → ⊥
+  none_failed old new e going told = (let no : true ≡ false = sym told.1.kept ∙ going in cc)
+
+  answer_of : (old new : SyncedDisk D Y) (answer : Result (Unit {0}) DiskFault) (e : DiskFault) → new.failed ≡ false → IsToldOf failed answer old (Err e) new → answer ≡ Err e
+  answer_of old new (Ok done) e going told = absurd (none_failed old new e going told)
+  answer_of old new (Err other) e going told = sym told.0
+
+  pub fault_law : FaultLaw does synced failed marked next
+  fault_law old new e was going = (
+    λ is. none_failed old new e going (is.ends was).told,
+    λ offset count durable is.
+        let ends = is.ends was in
+        subst (λ a. does old.disk (Write offset count false) a new.disk) (answer_of (after_change offset count old) new ends.answer e going ends.told) ends.does_so,
+  )
 
   module _ (takes : D → Bool) (counts : Bool) (old new : SyncedDisk D Y) (is : Closes does synced failed marked next takes counts old (Ok tt) new) (taking : takes new.disk ≡ true) where
     going : old.failed ≡ false

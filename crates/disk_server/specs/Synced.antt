@@ -100,6 +100,12 @@ abbrev pub NotesFailedSync : {D Y : Type 0} → (failed : Y → ℕ) → (old : 
 NotesFailedSync failed old (Ok done) new = NoneFailed failed old new
 NotesFailedSync failed old (Err e) new = NoneFailed failed old new ⊎ OneFailed failed old new
 
+-- WHAT A CALL ANSWERS, by what the disk answered: an error of the disk as it is. Where the disk had none it is done, or a sync behind it failed
+abbrev pub IsToldOf : {D Y : Type 0} → (failed : Y → ℕ) → (answer : Result (Unit {0}) DiskFault) → (old : SyncedDisk D Y) → Result (Unit {0}) DiskFault → (new : SyncedDisk D Y) → Type 0
+IsToldOf failed (Ok done) old (Ok did) new = NoneFailed failed old new
+IsToldOf failed (Ok done) old (Err e) new = (e ≡ fault.Failed) × OneFailed failed old new
+IsToldOf failed (Err e) old result new = (result ≡ Err e) × NoneFailed failed old new
+
 -- NOTHING IS ASKED of the disk, nor of its syncs
 abbrev pub FailsUnasked : {D Y : Type 0} → (old : SyncedDisk D Y) → Result (Unit {0}) DiskFault → (new : SyncedDisk D Y) → Type 0
 FailsUnasked old result new = (result ≡ Err fault.Failed) × (new ≡ old)
@@ -112,42 +118,78 @@ RestsSynced rests old result new =
 
 -- ---- a task
 
--- a disk was asked this, and answered it or failed
-abbrev pub AsksDisk : {D : Type 0} → (does : D → Task → Result (Unit {0}) DiskFault → D → Type 0) → Task → (old new : D) → Type 0
-AsksDisk does task old new = (answer : Result (Unit {0}) DiskFault) × does old task answer new
-
 -- A CHANGE, counted already, and the sync behind it: where one was due it was done, after all that was written before, as its mark tells; after an error there was none
 pub record SyncsBehindChange {D Y : Type 0} (synced : Y → ℕ) (marked : Y → SyncMark) (next : D → ℕ) (durable : Bool) (counted : SyncedDisk D Y) (result : Result (Unit {0}) DiskFault) (new : SyncedDisk D Y) : Type 0 where
   pub synced_if_due : OnOk result (HasSynced synced durable counted new)
   pub unsynced : OnErr result (IsUnsynced synced counted new)
   pub marks : Marks marked next durable counted result new
 
--- so many bytes of a range were cleared, which were not told to last
-abbrev pub ClearsPart : {D : Type 0} → (does : D → Task → Result (Unit {0}) DiskFault → D → Type 0) → (offset count : ℕ) → (old new : D) → Type 0
-ClearsPart does offset count old new = (place taken : ℕ) × (offset ≤ place) × (place + taken ≤ offset + count) × AsksDisk does (Trim place taken false) old new
+-- A CHANGE OF THE DISK, counted already, which is not told that it is to last; its answer, and the sync behind it
+pub record ChangesDisk {D Y : Type 0} (does : D → Task → Result (Unit {0}) DiskFault → D → Type 0) (synced failed : Y → ℕ) (marked : Y → SyncMark) (next : D → ℕ) (durable : Bool) (task : Task)
+    (counted : SyncedDisk D Y) (result : Result (Unit {0}) DiskFault) (new : SyncedDisk D Y) : Type 0 where
+  pub answer : Result (Unit {0}) DiskFault
+  pub does_so : does counted.disk task answer new.disk
+  pub told : IsToldOf failed answer counted result new
+  pub behind : SyncsBehindChange synced marked next durable counted result new
 
--- A RANGE TO BE CLEARED, and the syncs within it and behind it; the last one, where it is to last, was done after all of it
-pub record EndsCleared {D Y : Type 0} (does : D → Task → Result (Unit {0}) DiskFault → D → Type 0) (synced : Y → ℕ) (marked : Y → SyncMark) (next : D → ℕ) (durable : Bool) (offset count : ℕ)
+-- NOTHING IS ASKED OF THE DISK, and a sync is done where one is due
+pub record SettlesDisk {D Y : Type 0} (synced failed : Y → ℕ) (marked : Y → SyncMark) (next : D → ℕ) (durable : Bool) (old : SyncedDisk D Y) (result : Result (Unit {0}) DiskFault) (new : SyncedDisk D Y) : Type 0 where
+  pub same : new.disk ≡ old.disk
+  pub told : IsToldOf failed (Ok tt) old result new
+  pub behind : SyncsBehindChange synced marked next durable old result new
+
+-- the most bytes that are cleared before it is looked whether a sync is due: a megabyte
+abbrev pub part_most : ℕ
+part_most = 1048576
+
+-- A PART OF A RANGE IS CLEARED, a megabyte at most, and synced behind that where a sync is due. A range that would end past the last u64, as on no disk, is one part
+pub record ClearsPart {D Y : Type 0} (does : D → Task → Result (Unit {0}) DiskFault → D → Type 0) (synced failed : Y → ℕ) (marked : Y → SyncMark) (next : D → ℕ) (offset count : ℕ)
     (old : SyncedDisk D Y) (result : Result (Unit {0}) DiskFault) (new : SyncedDisk D Y) : Type 0 where
-  pub parts : Through (ClearsPart does offset count) old.disk new.disk
+  pub place : ℕ
+  pub taken : ℕ
+  pub begins : offset ≤ place
+  pub inside : place + taken ≤ offset + count
+  pub few : (taken ≤ part_most) ⊎ (2 ^ 64 ≤ offset + count)
+  pub change : ChangesDisk does synced failed marked next false (Trim place taken false) (after_change place taken old) result new
+
+abbrev pub ClearsDonePart : {D Y : Type 0} → (does : D → Task → Result (Unit {0}) DiskFault → D → Type 0) → (synced failed : Y → ℕ) → (marked : Y → SyncMark) → (next : D → ℕ) → (offset count : ℕ)
+    → (old new : SyncedDisk D Y) → Type 0
+ClearsDonePart does synced failed marked next offset count old new = ClearsPart does synced failed marked next offset count old (Ok tt) new
+
+-- PARTS, one after another: each is done, but the last one where the answer is an error, which is that part's
+abbrev pub ClearsParts : {D Y : Type 0} → (does : D → Task → Result (Unit {0}) DiskFault → D → Type 0) → (synced failed : Y → ℕ) → (marked : Y → SyncMark) → (next : D → ℕ) → (offset count : ℕ)
+    → (old : SyncedDisk D Y) → Result (Unit {0}) DiskFault → (new : SyncedDisk D Y) → Type 0
+ClearsParts does synced failed marked next offset count old (Ok done) new = Through (ClearsDonePart does synced failed marked next offset count) old new
+ClearsParts {D} {Y} does synced failed marked next offset count old (Err e) new =
+    (mid : SyncedDisk D Y) × Through (ClearsDonePart does synced failed marked next offset count) old mid × ClearsPart does synced failed marked next offset count mid (Err e) new
+
+-- A RANGE TO BE CLEARED, and the syncs within it and behind it: a part of it failed; or all were done, and a sync behind them, where one was due. The last one, where it is to last, was done after all of it
+pub record EndsCleared {D Y : Type 0} (does : D → Task → Result (Unit {0}) DiskFault → D → Type 0) (synced failed : Y → ℕ) (marked : Y → SyncMark) (next : D → ℕ) (durable : Bool) (offset count : ℕ)
+    (old : SyncedDisk D Y) (result : Result (Unit {0}) DiskFault) (new : SyncedDisk D Y) : Type 0 where
+  pub mid : SyncedDisk D Y
+  pub answer : Result (Unit {0}) DiskFault
+  pub parts : ClearsParts does synced failed marked next offset count old answer mid
+  pub done : OnOk answer (SettlesDisk synced failed marked next durable mid result new)
+  pub not_done : OnErr answer ((result ≡ answer) × (new ≡ mid))
   pub ends : OnOk result (EndsSynced synced durable offset count old new)
   pub marked_last : OnOk result (durable ≡ true → (marked new.syncs).synced ≡ next new.disk)
   pub unflushed : (marked new.syncs).flushed ≡ (marked old.syncs).flushed
 
--- WHAT A TASK IS TO A DISK AND ITS SYNCS, where no sync failed before: a read and a write are one of the disk, which is not told that it is to last; a flush asks nothing of the disk, and is a sync
-abbrev pub EndsTask : {D Y : Type 0} → (does : D → Task → Result (Unit {0}) DiskFault → D → Type 0) → (synced : Y → ℕ) → (marked : Y → SyncMark) → (next : D → ℕ)
+-- WHAT A TASK IS TO A DISK AND ITS SYNCS, where no sync failed before: a read and a write are one of the disk, which is not told that it is to last; a flush asks nothing of the disk, and is a sync.
+-- An error is the disk's, or a sync failed
+abbrev pub EndsTask : {D Y : Type 0} → (does : D → Task → Result (Unit {0}) DiskFault → D → Type 0) → (synced failed : Y → ℕ) → (marked : Y → SyncMark) → (next : D → ℕ)
     → (old : SyncedDisk D Y) → Task → Result (Unit {0}) DiskFault → (new : SyncedDisk D Y) → Type 0
-EndsTask does synced marked next old (Read offset count) result new = does old.disk (Read offset count) result new.disk × KeepsSyncs old new
-EndsTask does synced marked next old (Write offset count durable) result new = AsksDisk does (Write offset count false) old.disk new.disk × SyncsBehindChange synced marked next durable (after_change offset count old) result new
-EndsTask does synced marked next old Flush result new = (new.disk ≡ old.disk) × SyncsBehindChange synced marked next true old result new
-EndsTask does synced marked next old (Trim offset count durable) result new = EndsCleared does synced marked next durable offset count old result new
-EndsTask does synced marked next old (WriteZeroes offset count durable) result new = EndsCleared does synced marked next durable offset count old result new
+EndsTask does synced failed marked next old (Read offset count) result new = does old.disk (Read offset count) result new.disk × KeepsSyncs old new
+EndsTask does synced failed marked next old (Write offset count durable) result new = ChangesDisk does synced failed marked next durable (Write offset count false) (after_change offset count old) result new
+EndsTask does synced failed marked next old Flush result new = SettlesDisk synced failed marked next true old result new
+EndsTask does synced failed marked next old (Trim offset count durable) result new = EndsCleared does synced failed marked next durable offset count old result new
+EndsTask does synced failed marked next old (WriteZeroes offset count durable) result new = EndsCleared does synced failed marked next durable offset count old result new
 
 -- WHAT A CALL IS, beside the bytes
 pub record SyncsTask {D Y : Type 0} (does : D → Task → Result (Unit {0}) DiskFault → D → Type 0) (synced failed : Y → ℕ) (marked : Y → SyncMark) (next : D → ℕ)
     (old : SyncedDisk D Y) (task : Task) (result : Result (Unit {0}) DiskFault) (new : SyncedDisk D Y) : Type 0 where
   pub over : old.failed ≡ true → FailsUnasked old result new
-  pub ends : old.failed ≡ false → EndsTask does synced marked next old task result new
+  pub ends : old.failed ≡ false → EndsTask does synced failed marked next old task result new
   pub notes : NotesFailedSync failed old result new
 
 -- ---- as a session ends
@@ -162,24 +204,25 @@ pub record FlushesDisk {D Y : Type 0} (does : D → Task → Result (Unit {0}) D
   pub syncs : SyncsOnceMore synced old new
   pub marks : marked new.syncs ≡ after_sync (next new.disk) (takes new.disk) (marked old.syncs)
 
--- or one of the two failed
-pub record FailsToFlush {D Y : Type 0} (does : D → Task → Result (Unit {0}) DiskFault → D → Type 0) (synced : Y → ℕ) (marked : Y → SyncMark) (old new : SyncedDisk D Y) : Type 0 where
+-- or one of the two failed: the flush, whose error it is, or the sync
+pub record FailsToFlush {D Y : Type 0} (does : D → Task → Result (Unit {0}) DiskFault → D → Type 0) (synced failed : Y → ℕ) (marked : Y → SyncMark) (old : SyncedDisk D Y) (e : DiskFault) (new : SyncedDisk D Y) : Type 0 where
   pub answer : Result (Unit {0}) DiskFault
   pub asked : does old.disk Flush answer new.disk
+  pub told : IsToldOf failed answer old (Err e) new
   pub unsynced : IsUnsynced synced old new
   pub unmarked : marked new.syncs ≡ marked old.syncs
 
-abbrev pub FlushesBy : {D Y : Type 0} → (does : D → Task → Result (Unit {0}) DiskFault → D → Type 0) → (synced : Y → ℕ) → (marked : Y → SyncMark) → (next : D → ℕ) → (takes : D → Bool)
+abbrev pub FlushesBy : {D Y : Type 0} → (does : D → Task → Result (Unit {0}) DiskFault → D → Type 0) → (synced failed : Y → ℕ) → (marked : Y → SyncMark) → (next : D → ℕ) → (takes : D → Bool)
     → (old : SyncedDisk D Y) → Result (Unit {0}) DiskFault → (new : SyncedDisk D Y) → Type 0
-FlushesBy does synced marked next takes old (Ok done) new = FlushesDisk does synced marked next takes old new
-FlushesBy does synced marked next takes old (Err e) new = FailsToFlush does synced marked old new
+FlushesBy does synced failed marked next takes old (Ok done) new = FlushesDisk does synced marked next takes old new
+FlushesBy does synced failed marked next takes old (Err e) new = FailsToFlush does synced failed marked old e new
 
 -- HOW A DISK IS CLOSED: it is flushed, unless it is known to be; after a sync that failed nothing is asked
 pub record Closes {D Y : Type 0} (does : D → Task → Result (Unit {0}) DiskFault → D → Type 0) (synced failed : Y → ℕ) (marked : Y → SyncMark) (next : D → ℕ) (takes : D → Bool) (counts : Bool)
     (old : SyncedDisk D Y) (result : Result (Unit {0}) DiskFault) (new : SyncedDisk D Y) : Type 0 where
   pub over : old.failed ≡ true → FailsUnasked old result new
   pub known : old.failed ≡ false → IsKnownFlushed marked next counts old → (result ≡ Ok tt) × (new ≡ old)
-  pub flushes : old.failed ≡ false → ¬ IsKnownFlushed marked next counts old → FlushesBy does synced marked next takes old result new
+  pub flushes : old.failed ≡ false → ¬ IsKnownFlushed marked next counts old → FlushesBy does synced failed marked next takes old result new
   pub notes : NotesFailedSync failed old result new
 
 -- ---- laws
@@ -221,9 +264,15 @@ FlushLaw {D} {Y} does synced failed marked next = (old new : SyncedDisk D Y) →
 -- those before not more than may be
 abbrev pub WriteLaw : {D Y : Type 0} → (does : D → Task → Result (Unit {0}) DiskFault → D → Type 0) → (synced failed : Y → ℕ) → (marked : Y → SyncMark) → (next : D → ℕ) → Type 0
 WriteLaw {D} {Y} does synced failed marked next = (old new : SyncedDisk D Y) (offset count : ℕ) (durable : Bool) → SyncsTask does synced failed marked next old (Write offset count durable) (Ok tt) new
-    → AsksDisk does (Write offset count false) old.disk new.disk
+    → does old.disk (Write offset count false) (Ok tt) new.disk
     × (((synced new.syncs ≡ counted (synced old.syncs)) × (new.unsynced ≡ 0))
     ⊎ ((durable ≡ false) × (new.syncs ≡ old.syncs) × (new.unsynced ≡ min (old.unsynced + touched old.pace.piece offset count) (2 ^ 64 - 1)) × (new.unsynced ≤ old.pace.most)))
+
+-- AN ERROR BEFORE ANY SYNC FAILED is the disk's: so a flush has none then, and a write the one that the disk had
+abbrev pub FaultLaw : {D Y : Type 0} → (does : D → Task → Result (Unit {0}) DiskFault → D → Type 0) → (synced failed : Y → ℕ) → (marked : Y → SyncMark) → (next : D → ℕ) → Type 0
+FaultLaw {D} {Y} does synced failed marked next = (old new : SyncedDisk D Y) (e : DiskFault) → old.failed ≡ false → new.failed ≡ false
+    → (¬ SyncsTask does synced failed marked next old Flush (Err e) new)
+    × ((offset count : ℕ) (durable : Bool) → SyncsTask does synced failed marked next old (Write offset count durable) (Err e) new → does old.disk (Write offset count false) (Err e) new.disk)
 
 -- ---- what a client is told
 

@@ -1,6 +1,6 @@
 //! What a device of sectors is as bytes, the block device as one, and a disk in a store after a loss of power. Each function does nothing: its contract is
 //! the law.
-ghost use Rattle.disk_server.specs.Synced.{CloseLaw, FlushLaw, AfterFailedSyncLaw, SyncedLastLaw, UnflushedLaw, WriteLaw};
+ghost use Rattle.disk_server.specs.Synced.{CloseLaw, FaultLaw, FlushLaw, AfterFailedSyncLaw, SyncedLastLaw, UnflushedLaw, WriteLaw};
 ghost use Rattle.disk_server.specs.Laws.{BelowLaw, ClosedLaw, HoldsLaw, DurableLaw, DiskLengthLaw, NoSpaceLaw, ReadOnlyFlushLaw, SectorRangeLaw, NoneStaleAfterFlushLaw};
 ghost use Rattle.disk_server.specs.Flat.{FlatLaw};
 ghost use Rattle.disk_server.specs.Guarded.{GuardedByteLaw, GuardedReadLaw, HealedLaw, UnkeptLaw};
@@ -38,7 +38,7 @@ pub fn sequence_laws<N: Nand>()
 {}
 
 /// What a disk joined with its syncs is marked with: no task marks it as flushed; a flush and a durable change that is done are synced last; and one that was closed, and takes changes, is marked as flushed up to
-/// the page that is next. And what is asked: a flush is one sync; a write is one of the disk, and a sync where one is due; once a sync failed nothing is. (This project's.)
+/// the page that is next. And what is asked: a flush is one sync; a write is one of the disk, and a sync where one is due; once a sync failed nothing is. An error before that is the disk's. (This project's.)
 pub fn sync_laws<D: LastingDisk + Sequenced, Y: Syncs>()
     ensures unflushed { UnflushedLaw D.does Y.synced Y.failed Y.marked D.next }
     ensures synced { SyncedLastLaw D.does Y.synced Y.failed Y.marked D.next }
@@ -46,6 +46,7 @@ pub fn sync_laws<D: LastingDisk + Sequenced, Y: Syncs>()
     ensures over { AfterFailedSyncLaw D.does Y.synced Y.failed Y.marked D.next }
     ensures flush { FlushLaw D.does Y.synced Y.failed Y.marked D.next }
     ensures write { WriteLaw D.does Y.synced Y.failed Y.marked D.next }
+    ensures fault { FaultLaw D.does Y.synced Y.failed Y.marked D.next }
 {}
 
 /// What a device shows of which some sectors are lost: each byte is the device's, and of a lost sector none is a byte. So a read is answered without an error only where no sector of its range is lost. (This

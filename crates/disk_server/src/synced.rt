@@ -66,7 +66,7 @@ pub trait Sequenced {
         ensures { result ≡ takes self.now };
 }
 
-// The most bytes that are cleared before it is looked whether a sync is due.
+// The most bytes that are cleared before it is looked whether a sync is due: `part_most`.
 const PART: u32 = 1_048_576;
 
 /// How much may be changed between two syncs: so many pieces of so many bytes. A change counts each piece that it touches. With 0 bytes a piece is a byte. (This project's.)
@@ -104,10 +104,9 @@ pub struct SyncedDisk<D: Disk, Y: Syncs> {
 }
 
 impl<D: LastingDisk + Sequenced, Y: Syncs> SyncedDisk<D, Y> {
-    ghost use Rattle.std.specs.Prelude.{◌≡◌, ◌≤◌, ◌<◌, ◌+◌, true, false, [], length, OnOk, OnErr, IfErr};
+    ghost use Rattle.std.specs.Prelude.{◌≡◌, ◌≤◌, ◌<◌, ◌+◌, true, false, [], length, Ok, OnOk, OnErr, IfErr};
     ghost use Rattle.nbd_stream.specs.Disk.{PerformsTask, answer_from};
-    ghost use Rattle.nbd_stream.specs.Through.{Through};
-    ghost use Rattle.disk_server.specs.Synced.{AsksDisk, ClearsPart, Closes, CountsRangeChanged, HasSynced, IsKnownFlushed, IsUnsynced, KeepsCount, Marks, NotesFailedSync, SyncsOnceMore, after_change, after_sync};
+    ghost use Rattle.disk_server.specs.Synced.{ChangesDisk, ClearsParts, Closes, CountsRangeChanged, HasSynced, IsKnownFlushed, IsToldOf, IsUnsynced, KeepsCount, Marks, NotesFailedSync, SyncsOnceMore, after_change, after_sync};
 
     /// Joins a disk and its syncs. Nothing is asked of either, and nothing counts as changed.
     pub fn new(disk: D, syncs: Y, pace: SyncPace) -> SyncedDisk<D, Y>
@@ -147,7 +146,7 @@ impl<D: LastingDisk + Sequenced, Y: Syncs> SyncedDisk<D, Y> {
         ensures disk { self.new.disk ≡ self.old.disk }
         ensures synced { OnOk result (SyncsOnceMore Y.synced self.old self.new) }
         ensures unsynced { OnErr result (IsUnsynced Y.synced self.old self.new) }
-        ensures notes { NotesFailedSync Y.failed self.old result self.new }
+        ensures told { IsToldOf Y.failed (Ok tt) self.old result self.new }
         ensures marked { OnOk result (Y.marked self.new.syncs ≡ after_sync (D.next self.new.disk) flushed (Y.marked self.old.syncs)) }
         ensures unmarked { OnErr result (Y.marked self.new.syncs ≡ Y.marked self.old.syncs) }
         ensures fault { IfErr result (λ e. e ≡ DiskFault.Failed) }
@@ -170,7 +169,7 @@ impl<D: LastingDisk + Sequenced, Y: Syncs> SyncedDisk<D, Y> {
         ensures disk { self.new.disk ≡ self.old.disk }
         ensures synced { OnOk result (HasSynced Y.synced durable self.old self.new) }
         ensures unsynced { OnErr result (IsUnsynced Y.synced self.old self.new) }
-        ensures notes { NotesFailedSync Y.failed self.old result self.new }
+        ensures told { IsToldOf Y.failed (Ok tt) self.old result self.new }
         ensures marks { Marks Y.marked D.next durable self.old result self.new }
         ensures fault { IfErr result (λ e. e ≡ DiskFault.Failed) }
     {
@@ -184,11 +183,7 @@ impl<D: LastingDisk + Sequenced, Y: Syncs> SyncedDisk<D, Y> {
     fn clear_part(&mut self, offset: u64, count: u32) -> Result<(), DiskFault>
         requires { offset + count ≤ length (D.contents self.old.disk).bytes }
         ensures performs { PerformsTask (λ s. D.contents s.disk) (λ s. D.honest s.disk) (λ _. false) (Task.Trim offset count false) [] self.old (answer_from result []) self.new }
-        ensures synced { OnOk result (HasSynced Y.synced false (after_change offset count self.old) self.new) }
-        ensures unsynced { OnErr result (IsUnsynced Y.synced (after_change offset count self.old) self.new) }
-        ensures notes { NotesFailedSync Y.failed self.old result self.new }
-        ensures marks { Marks Y.marked D.next false (after_change offset count self.old) result self.new }
-        ensures asked { AsksDisk D.does (Task.Trim offset count false) self.old.disk self.new.disk }
+        ensures changes { ChangesDisk D.does Y.synced Y.failed Y.marked D.next false (Task.Trim offset count false) (after_change offset count self.old) result self.new }
     {
         self.count(offset, u64::from(count));
         match self.disk.clear(offset, count, false) {
@@ -204,7 +199,7 @@ impl<D: LastingDisk + Sequenced, Y: Syncs> SyncedDisk<D, Y> {
         ensures syncs { KeepsCount Y.synced self.old self.new }
         ensures counts { OnOk result (0 < count → CountsRangeChanged Y.synced offset count self.old self.new) }
         ensures notes { NotesFailedSync Y.failed self.old result self.new }
-        ensures parts { Through (ClearsPart D.does offset count) self.old.disk self.new.disk }
+        ensures parts { ClearsParts D.does Y.synced Y.failed Y.marked D.next offset count self.old result self.new }
         ensures unflushed { (Y.marked self.new.syncs).flushed ≡ (Y.marked self.old.syncs).flushed }
     {
         if offset.checked_add(u64::from(count)).is_none() {

@@ -1,4 +1,4 @@
-use Rattle.disk_server.proofs.SyncedLemmas.{close_law, flush_law, over_law, synced_law, unflushed_law, write_law}
+use Rattle.disk_server.proofs.SyncedLemmas.{close_law, fault_law, flush_law, over_law, synced_law, unflushed_law, write_law}
 use Rattle.disk_server.proofs.laws.sync_laws.Goals as goal
 
 pub returns : goal.returns
@@ -9,4 +9,5 @@ returns g c = record {
   over = over_law g.D.Disk.does g.Y.Syncs.synced g.Y.Syncs.failed g.Y.Syncs.marked g.D.Sequenced.next;
   flush = flush_law g.D.Disk.does g.Y.Syncs.synced g.Y.Syncs.failed g.Y.Syncs.marked g.D.Sequenced.next;
   write = write_law g.D.Disk.does g.Y.Syncs.synced g.Y.Syncs.failed g.Y.Syncs.marked g.D.Sequenced.next;
+  fault = fault_law g.D.Disk.does g.Y.Syncs.synced g.Y.Syncs.failed g.Y.Syncs.marked g.D.Sequenced.next;
 }

@@ -1,10 +1,8 @@
 use Rattle.std.proofs.Common.{◌∙◌, Ok, Err, [], false, inl, refl, subst, sym}
 use Rattle.nbd_stream.specs.declared.task.Task.TheVariants as task
 use Rattle.nbd_stream.specs.Disk.{PerformsTask, answer_from, error_for}
-use Rattle.nbd_stream.specs.Through.{Through}
-use Rattle.disk_server.specs.Synced.{ClearsPart}
 use Rattle.disk_server.proofs.SyncLemmas.{unflushed}
-use Rattle.disk_server.proofs.SyncedLemmas.{and_synced, as_disk, ends_all, goes, joined_call, lasting_trim, marked_last, notes_then, refused}
+use Rattle.disk_server.proofs.SyncedLemmas.{and_synced, as_disk, ends_all, goes, joined_call, lasting_trim, marked_last, notes_then, refused, told_notes}
 use Rattle.disk_server.proofs.synced.SyncedDiskDisk.clear.Goals as goal
 
 pub returns-then-self-clause-does : goal.returns-then-self-clause-does
@@ -28,15 +26,24 @@ pub returns-in-Ok-clause-does : goal.returns-in-Ok-clause-does
 returns-in-Ok-clause-does g c =
     goes g.D.Disk.does g.Y.Syncs.synced g.Y.Syncs.failed g.Y.Syncs.marked g.D.Sequenced.next c.args.self.now (task.Trim c.args.offset c.args.count c.args.durable) c.settle.new.self c.settle.result c.if-self.false
     (record {
-      parts = subst (λ d. Through (ClearsPart g.D.Disk.does c.args.offset c.args.count) c.args.self.now.disk d) (sym c.settle.ensures.disk) c.in-Ok.ensures.parts;
+      mid = c.clear_parts.new.self;
+      answer = Ok tt;
+      parts = c.in-Ok.ensures.parts;
+      done = record {
+        same = c.settle.ensures.disk;
+        told = c.settle.ensures.told;
+        behind = record { synced_if_due = c.settle.ensures.synced; unsynced = c.settle.ensures.unsynced; marks = c.settle.ensures.marks };
+      };
+      not_done = tt;
       ends = ends_all g.Y.Syncs.synced g.Y.Syncs.marked g.D.Sequenced.next c.args.durable c.args.offset c.args.count c.args.self.now c.clear_parts.new.self c.settle.new.self c.in-Ok.ensures.syncs c.in-Ok.ensures.counts
           c.settle.result c.settle.ensures.synced;
       marked_last = marked_last g.Y.Syncs.marked g.D.Sequenced.next c.args.durable c.clear_parts.new.self c.settle.new.self c.settle.result c.settle.ensures.marks;
       unflushed = unflushed g.Y.Syncs.marked g.D.Sequenced.next c.args.durable c.clear_parts.new.self c.settle.new.self c.settle.result c.settle.ensures.marks ∙ c.in-Ok.ensures.unflushed;
     })
-    (notes_then g.Y.Syncs.failed c.args.self.now c.clear_parts.new.self c.settle.new.self c.settle.result c.in-Ok.ensures.notes c.settle.ensures.notes)
+    (notes_then g.Y.Syncs.failed c.args.self.now c.clear_parts.new.self c.settle.new.self c.settle.result c.in-Ok.ensures.notes
+    (told_notes g.Y.Syncs.failed c.clear_parts.new.self c.settle.new.self (Ok tt) c.settle.result c.settle.ensures.told))
 
 pub returns-in-Err-clause-does : goal.returns-in-Err-clause-does
 returns-in-Err-clause-does g c =
     goes g.D.Disk.does g.Y.Syncs.synced g.Y.Syncs.failed g.Y.Syncs.marked g.D.Sequenced.next c.args.self.now (task.Trim c.args.offset c.args.count c.args.durable) c.clear_parts.new.self (Err c.in-Err.fault) c.if-self.false
-    (record { parts = c.in-Err.ensures.parts; ends = tt; marked_last = tt; unflushed = c.in-Err.ensures.unflushed }) c.in-Err.ensures.notes
+    (record { mid = c.clear_parts.new.self; answer = Err c.in-Err.fault; parts = c.in-Err.ensures.parts; done = tt; not_done = (refl, refl); ends = tt; marked_last = tt; unflushed = c.in-Err.ensures.unflushed }) c.in-Err.ensures.notes
