@@ -70,8 +70,8 @@ module _ {N : Type 0} (die : View N) where
   call_asked : (old new : Device N) → IsDiskCall die old new → Asks old new
   unfolding AsksCall ChangesOne
   call_asked old new (inl (inl asks)) = asks.asked
-  call_asked old new (inl (inr (inl (n, result, inl (command, asks))))) = asks.changes.stays.asked
-  call_asked old new (inl (inr (inl (n, result, inr asks)))) =
+  call_asked old new (inl (inr (inl (result, (n, inl (command, asks)))))) = asks.changes.stays.asked
+  call_asked old new (inl (inr (inl (result, (n, inr asks))))) =
       asks_then die.called old.engine.nand asks.mid.engine.nand new.engine.nand asks.asks.asked (trim_asked n old result new asks)
   call_asked old new (inl (inr (inr (result, asks)))) = asks.upkeeps.stays.asked
   call_asked old new (inr (result, asks)) = asks.upkeeps.stays.asked
@@ -87,11 +87,11 @@ module _ {N : Type 0} (die : View N) where
   call_parts : (old new : Device N) (at : N) (call : IsDiskCall die old new) → IsInCall die old new call at → Split old new at
   unfolding AsksCall ChangesOne IsInCall
   call_parts old new at (inl (inl asks)) way = way_parts die.called old.engine.nand new.engine.nand at asks.asked way
-  call_parts old new at (inl (inr (inl (n, result, inl (command, asks))))) way = way_parts die.called old.engine.nand new.engine.nand at asks.changes.stays.asked way
-  call_parts old new at (inl (inr (inl (n, result, inr asks)))) (inl reading) =
+  call_parts old new at (inl (inr (inl (result, (n, inl (command, asks)))))) way = way_parts die.called old.engine.nand new.engine.nand at asks.changes.stays.asked way
+  call_parts old new at (inl (inr (inl (result, (n, inr asks))))) (inl reading) =
       let parts = way_parts die.called old.engine.nand asks.mid.engine.nand at asks.asks.asked reading in
       (parts.0, asks_then die.called at asks.mid.engine.nand new.engine.nand parts.1 (trim_asked n old result new asks))
-  call_parts old new at (inl (inr (inl (n, result, inr asks)))) (inr trimming) =
+  call_parts old new at (inl (inr (inl (result, (n, inr asks))))) (inr trimming) =
       let parts = trim_parts n (step.Trim n) asks.mid result new asks.trims at trimming in
       (asks_then die.called old.engine.nand asks.mid.engine.nand at asks.asks.asked parts.0, parts.1)
   call_parts old new at (inl (inr (inr (result, asks)))) way = way_parts die.called old.engine.nand new.engine.nand at asks.upkeeps.stays.asked way
@@ -100,8 +100,8 @@ module _ {N : Type 0} (die : View N) where
   call_first : (old new : Device N) (call : IsDiskCall die old new) → IsInCall die old new call old.engine.nand
   unfolding AsksCall ChangesOne IsInCall
   call_first old new (inl (inl asks)) = way_first die.called old.engine.nand new.engine.nand asks.asked
-  call_first old new (inl (inr (inl (n, result, inl (command, asks))))) = way_first die.called old.engine.nand new.engine.nand asks.changes.stays.asked
-  call_first old new (inl (inr (inl (n, result, inr asks)))) = inl (way_first die.called old.engine.nand asks.mid.engine.nand asks.asks.asked)
+  call_first old new (inl (inr (inl (result, (n, inl (command, asks)))))) = way_first die.called old.engine.nand new.engine.nand asks.changes.stays.asked
+  call_first old new (inl (inr (inl (result, (n, inr asks))))) = inl (way_first die.called old.engine.nand asks.mid.engine.nand asks.asks.asked)
   call_first old new (inl (inr (inr (result, asks)))) = way_first die.called old.engine.nand new.engine.nand asks.upkeeps.stays.asked
   call_first old new (inr (result, asks)) = way_first die.called old.engine.nand new.engine.nand asks.upkeeps.stays.asked
 
@@ -115,8 +115,8 @@ module _ {N : Type 0} (die : View N) where
   call_last : (old new : Device N) (call : IsDiskCall die old new) → IsInCall die old new call new.engine.nand
   unfolding AsksCall ChangesOne IsInCall
   call_last old new (inl (inl asks)) = way_last die.called old.engine.nand new.engine.nand asks.asked
-  call_last old new (inl (inr (inl (n, result, inl (command, asks))))) = way_last die.called old.engine.nand new.engine.nand asks.changes.stays.asked
-  call_last old new (inl (inr (inl (n, result, inr asks)))) = trim_last n (step.Trim n) old asks.mid result new asks.trims asks.asks.asked (λ zeros. zeros.3)
+  call_last old new (inl (inr (inl (result, (n, inl (command, asks)))))) = way_last die.called old.engine.nand new.engine.nand asks.changes.stays.asked
+  call_last old new (inl (inr (inl (result, (n, inr asks))))) = trim_last n (step.Trim n) old asks.mid result new asks.trims asks.asks.asked (λ zeros. zeros.3)
   call_last old new (inl (inr (inr (result, asks)))) = way_last die.called old.engine.nand new.engine.nand asks.upkeeps.stays.asked
   call_last old new (inr (result, asks)) = way_last die.called old.engine.nand new.engine.nand asks.upkeeps.stays.asked
 

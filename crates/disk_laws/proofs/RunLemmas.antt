@@ -222,7 +222,7 @@ module _ {N : Type 0} (die : View N) (old : Device N) (log : List Operation) (ne
       sym reads.disk.device.engine.geometry ∙ (ap (λ (s : Flash). s.geometry) leaves.die_same ∙ does.through.was.device.engine.geometry) in
       let second : IsRecordedCall die mid log new = record {
         through = record { was = reads.disk; is = does.through.is; held = held; holds_on = does.through.holds_on };
-        asks = inl (inr (inl (n, result, inl (Trim n, trims))));
+        asks = inl (inr (inl (result, (n, inl (Trim n, trims)))));
         told = does.told;
         records = subst (λ r. Records r log (die.recorded new.engine.nand)) (sym leaves.told_same) does.records;
       } in
@@ -240,8 +240,8 @@ module _ {N : Type 0} (die : View N) (old : Device N) (log : List Operation) (ne
   called_by : IsDiskCall die old new → Called old.engine.geometry (room_of (ram old.engine)) die (die.flash old.engine.nand) log new
   unfolding AsksCall ChangesOne
   called_by (inl (inl asks)) = read die old log new does asks
-  called_by (inl (inr (inl (n, result, inl (command, asks))))) = changed die old log new does n command result asks
-  called_by (inl (inr (inl (n, result, inr asks)))) = cleared n result asks
+  called_by (inl (inr (inl (result, (n, inl (command, asks)))))) = changed die old log new does n command result asks
+  called_by (inl (inr (inl (result, (n, inr asks))))) = cleared n result asks
   called_by (inl (inr (inr (result, asks)))) =
       logged die old log new does _ asks.answer asks.upkeeps.stays.limits (asks.upkeeps.logs (its_die die old log new does) (went_on die old log new does asks.answer asks.upkeeps.refuses))
   called_by (inr (result, asks)) =

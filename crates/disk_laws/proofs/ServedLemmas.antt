@@ -12,17 +12,18 @@ use Rattle.nbd_stream.specs.Exchanges.{NbdExchange, RestsBy, Round, TellsBy, Tol
 use Rattle.nbd_stream.specs.Through.{Through}
 use Rattle.disk_server.specs.declared.mark.SyncMark.{SyncMark}
 use Rattle.disk_server.specs.declared.synced.SyncedDisk.{SyncedDisk}
-use Rattle.disk_server.specs.Asked.{AsksCall, AsksSectors}
+use Rattle.disk_server.specs.Asked.{AsksCall, AsksPiece, AsksSectors, FlushesIf, SetsRange, StepsTo}
 use Rattle.disk_server.specs.Synced.{ClearsDonePart, ClearsPart, ClearsParts, EndsCleared, EndsTask, FlushesBy, IsKnownFlushed, RestsSynced, SettlesDisk, SyncsTask}
 use Rattle.disk_laws.specs.CallsMade.{IsRunOf, this_call}
 use Rattle.disk_laws.specs.Runs.{AsksOneOf}
-use Rattle.disk_laws.specs.Served.{ClosedSessionLaw, ServedSessionLaw, calls_asked, closing_asked, closing_flush, done_asked, ends_asked, flush_asked, part_asked, parts_asked, reads_made, rest_asked, rounds_asked, syncs_asked, task_asked, tells_asked}
+use Rattle.disk_laws.specs.Served.{ClosedSessionLaw, DonePiece, ServedSessionLaw, behind_asked, closing_asked, closing_flush, done_asked, done_pieces, ends_asked, flush_asked, part_asked, parts_asked, piece_asked, pieces_asked}
+use Rattle.disk_laws.specs.Served.{range_asked, reads_made, rest_asked, rounds_asked, syncs_asked, task_asked, tells_asked}
 use Rattle.disk_laws.proofs.RunOfLemmas.{run_below, run_joined, run_none, run_once, run_unless}
 
 untrue : false ≡ true → ⊥
 untrue e = cc
 
-module _ {S Y : Type 0} (contents : S → Contents) (honest : S → Bool) (reads changes : S → S → Type 0) (flushes rests : S → Result (Unit {0}) DiskFault → S → Type 0)
+module _ {S Y : Type 0} (contents : S → Contents) (honest : S → Bool) (reads : S → S → Type 0) (changes flushes rests : S → Result (Unit {0}) DiskFault → S → Type 0)
     (synced failed : Y → ℕ) (marked : Y → SyncMark) (next : S → ℕ) where
   abbrev One : S → S → Type 0
   One = AsksOneOf reads changes flushes rests
@@ -36,19 +37,48 @@ module _ {S Y : Type 0} (contents : S → Contents) (honest : S → Bool) (reads
   unfolding AsksCall
   run_reads = run_below reads One (λ s. s) (λ a b read. this_call One a b (inl (inl read))) (λ a b read. run_once One a b (inl (inl read)))
 
-  run_calls : (old new : S) (is : Through (AsksCall reads changes flushes) old new) → IsRunOf One (calls_asked contents honest reads changes flushes rests synced failed marked next old new is) old new
-  run_calls = run_below (AsksCall reads changes flushes) One (λ s. s) (λ a b call. this_call One a b (inl call)) (λ a b call. run_once One a b (inl call))
-
   run_flush : (old new : S) (result : Result (Unit {0}) DiskFault) (is : flushes old result new) → IsRunOf One (flush_asked contents honest reads changes flushes rests synced failed marked next old new result is) old new
   unfolding AsksCall
   run_flush old new result is = run_once One old new (inl (inr (inr (result, is))))
 
+  run_piece : (old new : S) (result : Result (Unit {0}) DiskFault) (is : AsksPiece reads changes old result new) → IsRunOf One (piece_asked contents honest reads changes flushes rests synced failed marked next old new result is) old new
+  unfolding AsksCall
+  run_piece old new result (inl read) = run_once One old new (inl (inl read.1))
+  run_piece old new result (inr change) = run_once One old new (inl (inr (inl (result, change))))
+
+  abbrev DoneOne : S → S → Type 0
+  DoneOne = DonePiece contents honest reads changes flushes rests synced failed marked next
+
+  run_done_pieces : (old new : S) (is : Through DoneOne old new) → IsRunOf One (done_pieces contents honest reads changes flushes rests synced failed marked next old new is) old new
+  run_done_pieces = run_below DoneOne One (λ s. s) (λ a b piece. piece_asked contents honest reads changes flushes rests synced failed marked next a b (Ok tt) piece) (λ a b piece. run_piece a b (Ok tt) piece)
+
+  run_pieces : (old new : S) (result : Result (Unit {0}) DiskFault) (is : StepsTo (AsksPiece reads changes) old result new) → IsRunOf One (pieces_asked contents honest reads changes flushes rests synced failed marked next old new result is) old new
+  run_pieces old new (Ok done) is = run_done_pieces old new is
+  run_pieces old new (Err e) (mid, before, last) =
+      run_joined One old mid new (done_pieces contents honest reads changes flushes rests synced failed marked next old mid before)
+      (piece_asked contents honest reads changes flushes rests synced failed marked next mid new (Err e) last)
+      (run_done_pieces old mid before)
+      (run_piece mid new (Err e) last)
+
+  run_behind : (durable : Bool) (old new : S) (answer result : Result (Unit {0}) DiskFault) (is : OnOk answer (FlushesIf flushes durable old result new)) → OnErr answer ((result ≡ answer) × (new ≡ old))
+      → IsRunOf One (behind_asked contents honest reads changes flushes rests synced failed marked next durable old new answer result is) old new
+  run_behind true old new (Ok done) result is not_done = run_flush old new result is
+  run_behind false old new (Ok done) result is not_done = run_none One old new is.1
+  run_behind durable old new (Err e) result is not_done = run_none One old new not_done.1
+
+  run_range : (durable : Bool) (old new : S) (result : Result (Unit {0}) DiskFault) (is : SetsRange reads changes flushes durable old result new) → IsRunOf One (range_asked contents honest reads changes flushes rests synced failed marked next durable old new result is) old new
+  run_range durable old new result is =
+      run_joined One old is.mid new (pieces_asked contents honest reads changes flushes rests synced failed marked next old is.mid is.answer is.pieces)
+      (behind_asked contents honest reads changes flushes rests synced failed marked next durable is.mid new is.answer result is.done)
+      (run_pieces old is.mid is.answer is.pieces)
+      (run_behind durable is.mid new is.answer result is.done is.not_done)
+
   run_task : (old new : S) (task : Task) (result : Result (Unit {0}) DiskFault) (is : Does old task result new) → IsRunOf One (task_asked contents honest reads changes flushes rests synced failed marked next old new task result is) old new
   run_task old new (Read offset count) result is = run_reads old new is
-  run_task old new (Write offset count durable) result is = run_calls old new is
+  run_task old new (Write offset count durable) result is = run_range durable old new result is
   run_task old new Flush result is = run_flush old new result is
-  run_task old new (Trim offset count durable) result is = run_calls old new is.calls
-  run_task old new (WriteZeroes offset count durable) result is = run_calls old new is.calls
+  run_task old new (Trim offset count durable) result is = run_range durable old new result is.calls
+  run_task old new (WriteZeroes offset count durable) result is = run_range durable old new result is.calls
 
   run_part : (offset count : ℕ) (old new : SyncedDisk S Y) (result : Result (Unit {0}) DiskFault) (is : ClearsPart Does synced failed marked next offset count old result new)
       → IsRunOf One (part_asked contents honest reads changes flushes rests synced failed marked next offset count old new result is) old.disk new.disk

@@ -87,8 +87,8 @@ module _ {N : Type 0} (die : View N) where
     goes : (call : IsDiskCall die old new) → Goes old new call
     unfolding AsksCall ChangesOne
     goes (inl (inl read)) = of_read (inl (inl read)) read
-    goes (inl (inr (inl (n, result, inl (command, asks))))) = of_change (inl (inr (inl (n, result, inl (command, asks))))) n command result asks
-    goes (inl (inr (inl (n, result, inr asks)))) = of_clear (inl (inr (inl (n, result, inr asks)))) n result asks
+    goes (inl (inr (inl (result, (n, inl (command, asks)))))) = of_change (inl (inr (inl (result, (n, inl (command, asks)))))) n command result asks
+    goes (inl (inr (inl (result, (n, inr asks))))) = of_clear (inl (inr (inl (result, (n, inr asks))))) n result asks
     goes (inl (inr (inr (result, asks)))) = of_flush (inl (inr (inr (result, asks)))) result asks
     goes (inr (result, asks)) = of_turn (inr (result, asks)) result asks
 
@@ -96,8 +96,8 @@ module _ {N : Type 0} (die : View N) where
   disk_on : (old new : Device N) → IsDisk die old → IsDiskCall die old new → IsDisk die new
   unfolding AsksCall ChangesOne
   disk_on old new was (inl (inl read)) = read.disk
-  disk_on old new was (inl (inr (inl (n, result, inl (command, asks))))) = asks.disk
-  disk_on old new was (inl (inr (inl (n, result, inr asks)))) = elim asks.trims [
+  disk_on old new was (inl (inr (inl (result, (n, inl (command, asks)))))) = asks.disk
+  disk_on old new was (inl (inr (inl (result, (n, inr asks))))) = elim asks.trims [
     | inl zeros ↦ subst (IsDisk die) (sym zeros.3) asks.asks.disk
     | inr trims ↦ trims.1.disk
   ]

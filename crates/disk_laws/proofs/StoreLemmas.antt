@@ -22,7 +22,7 @@ use Rattle.disk_laws.proofs.SessionLemmas.{session}
 
 -- ---- guarded
 
-module _ {S : Type 0} (reads changes : S → S → Type 0) (flushes rests : S → Result (Unit {0}) DiskFault → S → Type 0) where
+module _ {S : Type 0} (reads : S → S → Type 0) (changes flushes rests : S → Result (Unit {0}) DiskFault → S → Type 0) where
   abbrev Below : S → S → Type 0
   Below = AsksOneOf reads changes flushes rests
 
@@ -32,8 +32,8 @@ module _ {S : Type 0} (reads changes : S → S → Type 0) (flushes rests : S �
     unfolding AsksCall sectors_asked
     one_guarded old new (inl (inl (inl same))) = run_none Below old.sectors new.sectors (ap (λ (d : GuardedSectors S K). d.sectors) same)
     one_guarded old new (inl (inl (inr asked))) = run_once Below old.sectors new.sectors (inl (inl asked.0))
-    one_guarded old new (inl (inr (inl (inl same)))) = run_none Below old.sectors new.sectors same
-    one_guarded old new (inl (inr (inl (inr asked)))) = run_once Below old.sectors new.sectors (inl (inr (inl asked)))
+    one_guarded old new (inl (inr (inl (result, inl over)))) = run_none Below old.sectors new.sectors (ap (λ (d : GuardedSectors S K). d.sectors) over.1.1)
+    one_guarded old new (inl (inr (inl (result, inr asked)))) = run_once Below old.sectors new.sectors (inl (inr (inl (asked.0, asked.1))))
     one_guarded old new (inl (inr (inr (result, inl over)))) = run_none Below old.sectors new.sectors (ap (λ (d : GuardedSectors S K). d.sectors) over.1.1)
     one_guarded old new (inl (inr (inr (result, inr asked)))) = run_once Below old.sectors new.sectors (inl (inr (inr (result, asked.1))))
     one_guarded old new (inr (result, inl over)) = run_none Below old.sectors new.sectors (ap (λ (d : GuardedSectors S K). d.sectors) over.1.1)
@@ -97,9 +97,9 @@ module _ {S : Type 0} (held : S → Held) (honest full : S → Bool) (failed : S
     unfolding AsksCall changes_in ChangesOne device_asked
     one_reopened (inl (inl (inl gone))) = absurd (none_there last (sym gone.1.device_is ∙ there))
     one_reopened (inl (inl (inr is))) = led is.device is.left (inl (inl is.asked)) is.was (left_there (terms_of old) old.next is.left is.there)
-    one_reopened (inl (inr (inl (n, result, inl (command, is))))) =
-        asked_one (changes_of held honest failed n command) (λ d left answer asks. inl (inr (inl (n, answer, inl (command, asks))))) fault.NoSpace result is
-    one_reopened (inl (inr (inl (n, result, inr is)))) = asked_one (clears_of held honest failed n) (λ d left answer asks. inl (inr (inl (n, answer, inr asks)))) fault.NoSpace result is
+    one_reopened (inl (inr (inl (result, (n, inl (command, is)))))) =
+        asked_one (changes_of held honest failed n command) (λ d left answer asks. inl (inr (inl (answer, (n, inl (command, asks)))))) fault.NoSpace result is
+    one_reopened (inl (inr (inl (result, (n, inr is))))) = asked_one (clears_of held honest failed n) (λ d left answer asks. inl (inr (inl (answer, (n, inr asks))))) fault.NoSpace result is
     one_reopened (inl (inr (inr (result, is)))) = asked_one (flushes_of held honest failed) (λ d left answer asks. inl (inr (inr (answer, asks)))) fault.Failed result is
     one_reopened (inr (result, is)) = asked_one (rests_of held honest failed) (λ d left answer asks. inr (answer, asks)) fault.Failed result is
 

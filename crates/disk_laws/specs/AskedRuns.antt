@@ -32,8 +32,8 @@ IsInTrim die n command old result new (inr (others, asks)) at = IsOnTheWay die.c
 unfoldable pub IsInCall : {N : Type 0} → (die : View N) → (old new : Device N) → IsDiskCall die old new → (at : N) → Type 0
 unfolding AsksCall ChangesOne
 IsInCall die old new (inl (inl asks)) at = IsOnTheWay die.called old.engine.nand new.engine.nand asks.asked at
-IsInCall die old new (inl (inr (inl (n, result, inl (command, asks))))) at = IsOnTheWay die.called old.engine.nand new.engine.nand asks.changes.stays.asked at
-IsInCall die old new (inl (inr (inl (n, result, inr asks)))) at =
+IsInCall die old new (inl (inr (inl (result, (n, inl (command, asks)))))) at = IsOnTheWay die.called old.engine.nand new.engine.nand asks.changes.stays.asked at
+IsInCall die old new (inl (inr (inl (result, (n, inr asks))))) at =
     IsOnTheWay die.called old.engine.nand asks.mid.engine.nand asks.asks.asked at ⊎ IsInTrim die n (step.Trim n) asks.mid result new asks.trims at
 IsInCall die old new (inl (inr (inr (result, asks)))) at = IsOnTheWay die.called old.engine.nand new.engine.nand asks.upkeeps.stays.asked at
 IsInCall die old new (inr (result, asks)) at = IsOnTheWay die.called old.engine.nand new.engine.nand asks.upkeeps.stays.asked at

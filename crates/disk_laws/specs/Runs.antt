@@ -24,7 +24,7 @@ abbrev pub image_on : {N : Type 0} → View N → Device N → Image
 image_on die d = (die.flash d.engine.nand).image
 
 -- WHAT IS ASKED OF A DEVICE OF SECTORS by who serves it as a disk, by its words: a read or a change of a sector, a flush, or a rest
-abbrev pub AsksOneOf : {S : Type 0} → (reads changes : S → S → Type 0) → (flushes rests : S → Result (Unit {0}) DiskFault → S → Type 0) → (old new : S) → Type 0
+abbrev pub AsksOneOf : {S : Type 0} → (reads : S → S → Type 0) → (changes flushes rests : S → Result (Unit {0}) DiskFault → S → Type 0) → (old new : S) → Type 0
 AsksOneOf reads changes flushes rests old new = AsksCall reads changes flushes old new ⊎ ((result : Result (Unit {0}) DiskFault) × rests old result new)
 
 -- ONE CALL of the block device: a read, a change of a sector (it is set; or cleared, by a read and, where that did not give zeros, a trim), a flush, or a turn

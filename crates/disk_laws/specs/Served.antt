@@ -1,5 +1,5 @@
 -- WHAT A SERVER ASKS OF ITS DEVICE OF SECTORS, read off what it was asked: in a session with one client, and as it closes the disk behind that.
-use Rattle.std.specs.Prelude.{◌⊎◌, ℕ, Bool, false, List, [], ◌∷◌, ◌++◌, Option, Some, None, Result, Ok, Err}
+use Rattle.std.specs.Prelude.{◌⊎◌, ℕ, Bool, true, false, List, [], ◌∷◌, ◌++◌, Option, Some, None, Result, Ok, Err, OnOk}
 use mathlib.Core.Logic.{inl, inr}
 use Rattle.nbd_stream.specs.declared.export.Export.{Export}
 use Rattle.nbd_stream.specs.declared.fault.DiskFault.{DiskFault}
@@ -14,12 +14,12 @@ use Rattle.nbd_stream.specs.Transmission.{Serves}
 use Rattle.request_stream.specs.declared.reply.ServeFault.{ServeFault}
 use Rattle.disk_server.specs.declared.mark.SyncMark.{SyncMark}
 use Rattle.disk_server.specs.declared.synced.SyncedDisk.{SyncedDisk}
-use Rattle.disk_server.specs.Asked.{AsksCall, AsksSectors}
+use Rattle.disk_server.specs.Asked.{AsksCall, AsksPiece, AsksSectors, FlushesIf, SetsRange, StepsTo}
 use Rattle.disk_server.specs.Synced.{ClearsDonePart, ClearsPart, ClearsParts, Closes, EndsTask, FlushesBy, IsKnownFlushed, RestsSynced, SyncsTask}
 use Rattle.disk_laws.specs.CallsMade.{CallMade, IsRunOf, asked_unless, calls_made, each_asked, this_call}
 use Rattle.disk_laws.specs.Runs.{AsksOneOf}
 
-module _ {S Y : Type 0} (contents : S → Contents) (honest : S → Bool) (reads changes : S → S → Type 0) (flushes rests : S → Result (Unit {0}) DiskFault → S → Type 0)
+module _ {S Y : Type 0} (contents : S → Contents) (honest : S → Bool) (reads : S → S → Type 0) (changes flushes rests : S → Result (Unit {0}) DiskFault → S → Type 0)
     (synced failed : Y → ℕ) (marked : Y → SyncMark) (next : S → ℕ) where
   -- one call of the device of sectors, and what a task asks
   abbrev pub IsSectorCall : S → S → Type 0
@@ -28,24 +28,55 @@ module _ {S Y : Type 0} (contents : S → Contents) (honest : S → Bool) (reads
   abbrev pub DoesTask : S → Task → Result (Unit {0}) DiskFault → S → Type 0
   DoesTask = AsksSectors contents honest reads changes flushes
 
-  -- A TASK'S CALLS: its reads, its calls, or its one flush
+  -- A TASK'S CALLS: its reads, its one flush, or those of its range
   abbrev pub reads_made : (old new : S) → Through reads old new → List (CallMade IsSectorCall)
   unfolding AsksCall
   reads_made old new is = each_asked reads IsSectorCall (λ a b read. this_call IsSectorCall a b (inl (inl read))) (calls_made reads old new is)
-
-  abbrev pub calls_asked : (old new : S) → Through (AsksCall reads changes flushes) old new → List (CallMade IsSectorCall)
-  calls_asked old new is = each_asked (AsksCall reads changes flushes) IsSectorCall (λ a b call. this_call IsSectorCall a b (inl call)) (calls_made (AsksCall reads changes flushes) old new is)
 
   abbrev pub flush_asked : (old new : S) (result : Result (Unit {0}) DiskFault) → flushes old result new → List (CallMade IsSectorCall)
   unfolding AsksCall
   flush_asked old new result is = this_call IsSectorCall old new (inl (inr (inr (result, is))))
 
+  -- those of a range: a read or a change for each step, and the flush behind them, where there is one
+  abbrev pub read_asked : (old new : S) → reads old new → List (CallMade IsSectorCall)
+  unfolding AsksCall
+  read_asked old new is = this_call IsSectorCall old new (inl (inl is))
+
+  abbrev pub change_asked : (old new : S) (result : Result (Unit {0}) DiskFault) → changes old result new → List (CallMade IsSectorCall)
+  unfolding AsksCall
+  change_asked old new result is = this_call IsSectorCall old new (inl (inr (inl (result, is))))
+
+  abbrev pub piece_asked : (old new : S) (result : Result (Unit {0}) DiskFault) → AsksPiece reads changes old result new → List (CallMade IsSectorCall)
+  piece_asked old new result (inl read) = read_asked old new read.1
+  piece_asked old new result (inr change) = change_asked old new result change
+
+  abbrev pub DonePiece : S → S → Type 0
+  DonePiece old new = AsksPiece reads changes old (Ok tt) new
+
+  abbrev pub done_pieces : (old new : S) → Through DonePiece old new → List (CallMade IsSectorCall)
+  done_pieces old new is = each_asked DonePiece IsSectorCall (λ a b piece. piece_asked a b (Ok tt) piece) (calls_made DonePiece old new is)
+
+  abbrev pub pieces_asked : (old new : S) (result : Result (Unit {0}) DiskFault) → StepsTo (AsksPiece reads changes) old result new → List (CallMade IsSectorCall)
+  pieces_asked old new (Ok done) is = done_pieces old new is
+  pieces_asked old new (Err e) (mid, before, last) = done_pieces old mid before ++ piece_asked mid new (Err e) last
+
+  abbrev pub flush_behind : (durable : Bool) (old new : S) (result : Result (Unit {0}) DiskFault) → FlushesIf flushes durable old result new → List (CallMade IsSectorCall)
+  flush_behind true old new result is = flush_asked old new result is
+  flush_behind false old new result is = []
+
+  abbrev pub behind_asked : (durable : Bool) (old new : S) (answer result : Result (Unit {0}) DiskFault) → OnOk answer (FlushesIf flushes durable old result new) → List (CallMade IsSectorCall)
+  behind_asked durable old new (Ok done) result is = flush_behind durable old new result is
+  behind_asked durable old new (Err e) result is = []
+
+  abbrev pub range_asked : (durable : Bool) (old new : S) (result : Result (Unit {0}) DiskFault) → SetsRange reads changes flushes durable old result new → List (CallMade IsSectorCall)
+  range_asked durable old new result is = pieces_asked old is.mid is.answer is.pieces ++ behind_asked durable is.mid new is.answer result is.done
+
   abbrev pub task_asked : (old new : S) (task : Task) (result : Result (Unit {0}) DiskFault) → DoesTask old task result new → List (CallMade IsSectorCall)
   task_asked old new (Read offset count) result is = reads_made old new is
-  task_asked old new (Write offset count durable) result is = calls_asked old new is
+  task_asked old new (Write offset count durable) result is = range_asked durable old new result is
   task_asked old new Flush result is = flush_asked old new result is
-  task_asked old new (Trim offset count durable) result is = calls_asked old new is.calls
-  task_asked old new (WriteZeroes offset count durable) result is = calls_asked old new is.calls
+  task_asked old new (Trim offset count durable) result is = range_asked durable old new result is.calls
+  task_asked old new (WriteZeroes offset count durable) result is = range_asked durable old new result is.calls
 
   -- so does each part of a range that is cleared
   abbrev pub part_asked : (offset count : ℕ) (old new : SyncedDisk S Y) (result : Result (Unit {0}) DiskFault) → ClearsPart DoesTask synced failed marked next offset count old result new → List (CallMade IsSectorCall)
@@ -108,14 +139,14 @@ module _ {S Y : Type 0} (contents : S → Contents) (honest : S → Bool) (reads
 -- ---- laws
 
 -- ALL THAT A SERVER ASKS of its device of sectors, in a session with one client, is the calls that its requests and rests are, one after another, and no other change of it
-abbrev pub ServedSessionLaw : {S Y : Type 0} → (S → Contents) → (honest : S → Bool) → (reads changes : S → S → Type 0) → (flushes rests : S → Result (Unit {0}) DiskFault → S → Type 0)
+abbrev pub ServedSessionLaw : {S Y : Type 0} → (S → Contents) → (honest : S → Bool) → (reads : S → S → Type 0) → (changes flushes rests : S → Result (Unit {0}) DiskFault → S → Type 0)
     → (synced failed : Y → ℕ) → (marked : Y → SyncMark) → (next : S → ℕ) → Type 0
 ServedSessionLaw {S} {Y} contents honest reads changes flushes rests synced failed marked next = (e : Export) (limit : ℕ) (old new : SyncedDisk S Y) (unread left before after : Option (List ℕ)) (result : Result StreamEnd ServeFault)
     (is : Serves (λ s. contents s.disk) (λ s. honest s.disk) (λ _. false) (SyncsTask (AsksSectors contents honest reads changes flushes) synced failed marked next) (RestsSynced rests) e limit old new unread left before after result)
     → IsRunOf (AsksOneOf reads changes flushes rests) (session_asked contents honest reads changes flushes rests synced failed marked next e limit old new unread left before after result is) old.disk new.disk
 
 -- and as it closes the disk behind that one flush, or nothing
-abbrev pub ClosedSessionLaw : {S Y : Type 0} → (S → Contents) → (honest : S → Bool) → (reads changes : S → S → Type 0) → (flushes rests : S → Result (Unit {0}) DiskFault → S → Type 0)
+abbrev pub ClosedSessionLaw : {S Y : Type 0} → (S → Contents) → (honest : S → Bool) → (reads : S → S → Type 0) → (changes flushes rests : S → Result (Unit {0}) DiskFault → S → Type 0)
     → (synced failed : Y → ℕ) → (marked : Y → SyncMark) → (next : S → ℕ) → (takes : S → Bool) → Type 0
 ClosedSessionLaw {S} {Y} contents honest reads changes flushes rests synced failed marked next takes = (counts : Bool) (old new : SyncedDisk S Y) (result : Result (Unit {0}) DiskFault)
     (closes : Closes (AsksSectors contents honest reads changes flushes) synced failed marked next takes counts old result new)

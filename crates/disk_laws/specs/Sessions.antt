@@ -19,7 +19,7 @@ use Rattle.disk_laws.specs.CallsMade.{CallMade, IsRunOf, calls_made, each_asked,
 use Rattle.disk_laws.specs.Runs.{AsksOneOf, DeviceCalls, IsDiskCall, calls_of}
 
 -- what is asked of a guarded device, and of one that is opened anew where its store was full
-abbrev pub AsksGuarded : {S K : Type 0} → (reads changes : S → S → Type 0) → (flushes rests : S → Result (Unit {0}) DiskFault → S → Type 0) → (old new : GuardedSectors S K) → Type 0
+abbrev pub AsksGuarded : {S K : Type 0} → (reads : S → S → Type 0) → (changes flushes rests : S → Result (Unit {0}) DiskFault → S → Type 0) → (old new : GuardedSectors S K) → Type 0
 AsksGuarded reads changes flushes rests = AsksOneOf (ReadsGuarded reads) (ChangesGuarded changes) (PassesOn flushes) (PassesOn rests)
 
 abbrev pub AsksReopened : {S : Type 0} → (S → Held) → (honest full : S → Bool) → (failed : S → ℕ) → (old new : Reopened S) → Type 0
@@ -34,13 +34,13 @@ AsksStored held honest full failed = AsksGuarded (ReadsDevice (reads_of held hon
 -- ---- what is asked below
 
 -- WHAT A CALL OF A GUARDED DEVICE ASKS OF IT: the very call that is passed on, or nothing
-unfoldable pub sectors_asked : {S K : Type 0} → (reads changes : S → S → Type 0) → (flushes rests : S → Result (Unit {0}) DiskFault → S → Type 0) → (old new : GuardedSectors S K) → AsksGuarded reads changes flushes rests old new
+unfoldable pub sectors_asked : {S K : Type 0} → (reads : S → S → Type 0) → (changes flushes rests : S → Result (Unit {0}) DiskFault → S → Type 0) → (old new : GuardedSectors S K) → AsksGuarded reads changes flushes rests old new
     → List (CallMade (AsksOneOf reads changes flushes rests))
 unfolding AsksCall
 sectors_asked reads changes flushes rests old new (inl (inl (inl same))) = []
 sectors_asked reads changes flushes rests old new (inl (inl (inr asked))) = this_call (AsksOneOf reads changes flushes rests) old.sectors new.sectors (inl (inl asked.0))
-sectors_asked reads changes flushes rests old new (inl (inr (inl (inl same)))) = []
-sectors_asked reads changes flushes rests old new (inl (inr (inl (inr asked)))) = this_call (AsksOneOf reads changes flushes rests) old.sectors new.sectors (inl (inr (inl asked)))
+sectors_asked reads changes flushes rests old new (inl (inr (inl (result, inl over)))) = []
+sectors_asked reads changes flushes rests old new (inl (inr (inl (result, inr asked)))) = this_call (AsksOneOf reads changes flushes rests) old.sectors new.sectors (inl (inr (inl (asked.0, asked.1))))
 sectors_asked reads changes flushes rests old new (inl (inr (inr (result, inl over)))) = []
 sectors_asked reads changes flushes rests old new (inl (inr (inr (result, inr asked)))) = this_call (AsksOneOf reads changes flushes rests) old.sectors new.sectors (inl (inr (inr (result, asked.1))))
 sectors_asked reads changes flushes rests old new (inr (result, inl over)) = []
@@ -58,10 +58,10 @@ unfoldable pub device_asked : {S : Type 0} → (held : S → Held) → (honest f
 unfolding AsksCall changes_in ChangesOne
 device_asked held honest full failed old new (inl (inl (inl gone))) = []
 device_asked held honest full failed old new (inl (inl (inr is))) = this_call (IsDiskCall (view_in held honest failed)) is.device is.left (inl (inl is.asked))
-device_asked held honest full failed old new (inl (inr (inl (n, result, inl (command, is))))) =
-    one_asked held honest full failed (changes_of held honest failed n command) (λ d left answer asks. inl (inr (inl (n, answer, inl (command, asks))))) fault.NoSpace old result new is
-device_asked held honest full failed old new (inl (inr (inl (n, result, inr is)))) =
-    one_asked held honest full failed (clears_of held honest failed n) (λ d left answer asks. inl (inr (inl (n, answer, inr asks)))) fault.NoSpace old result new is
+device_asked held honest full failed old new (inl (inr (inl (result, (n, inl (command, is)))))) =
+    one_asked held honest full failed (changes_of held honest failed n command) (λ d left answer asks. inl (inr (inl (answer, (n, inl (command, asks)))))) fault.NoSpace old result new is
+device_asked held honest full failed old new (inl (inr (inl (result, (n, inr is))))) =
+    one_asked held honest full failed (clears_of held honest failed n) (λ d left answer asks. inl (inr (inl (answer, (n, inr asks))))) fault.NoSpace old result new is
 device_asked held honest full failed old new (inl (inr (inr (result, is)))) =
     one_asked held honest full failed (flushes_of held honest failed) (λ d left answer asks. inl (inr (inr (answer, asks)))) fault.Failed old result new is
 device_asked held honest full failed old new (inr (result, is)) =
@@ -71,7 +71,7 @@ device_asked held honest full failed old new (inr (result, is)) =
 abbrev pub devices_asked : {S : Type 0} → (held : S → Held) → (honest full : S → Bool) → (failed : S → ℕ) → List (CallMade (AsksReopened held honest full failed)) → List (CallMade (IsDiskCall (view_in held honest failed)))
 devices_asked held honest full failed calls = each_asked (AsksReopened held honest full failed) (IsDiskCall (view_in held honest failed)) (device_asked held honest full failed) calls
 
-abbrev pub guarded_asked : {S K : Type 0} → (reads changes : S → S → Type 0) → (flushes rests : S → Result (Unit {0}) DiskFault → S → Type 0) → (old new : GuardedSectors S K)
+abbrev pub guarded_asked : {S K : Type 0} → (reads : S → S → Type 0) → (changes flushes rests : S → Result (Unit {0}) DiskFault → S → Type 0) → (old new : GuardedSectors S K)
     → Through (AsksGuarded reads changes flushes rests) old new → List (CallMade (AsksOneOf reads changes flushes rests))
 guarded_asked reads changes flushes rests old new asked =
     each_asked (AsksGuarded reads changes flushes rests) (AsksOneOf reads changes flushes rests) (sectors_asked reads changes flushes rests) (calls_made (AsksGuarded reads changes flushes rests) old new asked)
@@ -85,7 +85,7 @@ stored_asked held honest full failed old new asked =
 -- ---- laws
 
 -- A GUARDED DEVICE IS ASKED just what is passed on to it, call by call, and nothing else
-abbrev pub GuardedSessionLaw : {S : Type 0} → (K : Type 0) → (reads changes : S → S → Type 0) → (flushes rests : S → Result (Unit {0}) DiskFault → S → Type 0) → Type 0
+abbrev pub GuardedSessionLaw : {S : Type 0} → (K : Type 0) → (reads : S → S → Type 0) → (changes flushes rests : S → Result (Unit {0}) DiskFault → S → Type 0) → Type 0
 GuardedSessionLaw {S} K reads changes flushes rests = (old new : GuardedSectors S K) (asked : Through (AsksGuarded reads changes flushes rests) old new)
     → IsRunOf (AsksOneOf reads changes flushes rests) (guarded_asked reads changes flushes rests old new asked) old.sectors new.sectors
 

@@ -13,7 +13,7 @@ use Rattle.nbd_stream.specs.declared.reply.RequestError.TheVariants.{InputOutput
 use Rattle.nbd_stream.specs.declared.task.Task.{Task}
 use Rattle.nbd_stream.specs.Disk.{Contents, Idles, MayFailWith, PerformsTask, TaskSteps, answer_from, error_for}
 use Rattle.disk_server.specs.Asked.{HasZeros, SparesZeros}
-use Rattle.disk_server.specs.Disk.{contents_of, holds}
+use Rattle.disk_server.specs.Disk.{ReadsAsDevice, contents_of, holds}
 use Rattle.disk_server.specs.Opened.{is_honest_in, view_in}
 use Rattle.nbd_stream.specs.declared.task.Task.TheVariants.{Read}
 use Rattle.disk_server.specs.Reopened.{AnewLaw, AreReopenedParts, GoneLaw, HasDevice, IsAnew, TermsLaw, IsGone, IsOpenedFrom, ReadsDevice, Reopened, Reopens, SettlesCall, Terms, bytes_by, contents_in, holds_by, holds_in, reads_of, terms_of}
@@ -213,15 +213,18 @@ parts_on size count capacity device d left was parts sizes counts = record {
 }
 
 -- what was given of a sector, by the device that was there
-pub given_of : {S : Type 0} (held : S → Held) (honest : S → Bool) (failed : S → ℕ) (n size : ℕ) (before after : Option (Device (DriverState (FileState S)))) (d left : Device (DriverState (FileState S))) (answer : Result (List ℕ) RequestError) → before ≡ Some d → after ≡ Some left
-    → PerformsTask (contents_of (view_in held honest failed)) (holds (is_honest_in honest)) (λ x. false) (Read (n * size) size) [] d answer left
-    → (x : Device (DriverState (FileState S))) → before ≡ Some x → (y : Device (DriverState (FileState S))) × (after ≡ Some y) × PerformsTask (contents_of (view_in held honest failed)) (holds (is_honest_in honest)) (λ z. false) (Read (n * size) size) [] x answer y
-given_of held honest failed n size before after d left answer was is p = λ x there. (
+pub given_of : {S : Type 0} (held : S → Held) (honest : S → Bool) (failed : S → ℕ) (n size : ℕ) (before after : Option (Device (DriverState (FileState S)))) (d left : Device (DriverState (FileState S)))
+    (result : Result (Unit {0}) DiskFault) (bytes : List ℕ) → before ≡ Some d → after ≡ Some left
+    → PerformsTask (contents_of (view_in held honest failed)) (holds (is_honest_in honest)) (λ x. false) (Read (n * size) size) [] d (answer_from result bytes) left → ReadsAsDevice n d result bytes left
+    → (x : Device (DriverState (FileState S))) → before ≡ Some x
+    → (y : Device (DriverState (FileState S))) × (after ≡ Some y) × PerformsTask (contents_of (view_in held honest failed)) (holds (is_honest_in honest)) (λ z. false) (Read (n * size) size) [] x (answer_from result bytes) y × ReadsAsDevice n x result bytes y
+given_of held honest failed n size before after d left result bytes was is p answers = λ x there. (
   left,
   is,
   subst
       (λ y. PerformsTask (contents_of (view_in held honest failed)) (holds (is_honest_in honest)) (λ z. false) (Read (n * size) size) [] y
-      answer left) (some_same d x (sym was ∙ there)) p,
+      (answer_from result bytes) left) (some_same d x (sym was ∙ there)) p,
+  subst (λ y. ReadsAsDevice n y result bytes left) (some_same d x (sym was ∙ there)) answers,
 )
 
 -- the terms stay

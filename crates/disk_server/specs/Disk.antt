@@ -14,7 +14,7 @@ use Rattle.collection.specs.Stops.{room_of}
 use Rattle.collection.specs.Room.{wanted}
 use Rattle.collection.specs.declared.engine.room.Reserve.TheVariants as reserve
 use Rattle.collection.specs.Collect.{HasAiling, HasNoneAiling}
-use Rattle.collection.specs.Safe.{ram}
+use Rattle.collection.specs.Safe.{page_in_buffer, ram}
 use Rattle.nbd_stream.specs.declared.fault.DiskFault.{DiskFault}
 use Rattle.nbd_stream.specs.declared.fault.DiskFault.TheVariants as fault
 use Rattle.nbd_stream.specs.declared.task.Task.TheVariants.{Read}
@@ -26,6 +26,7 @@ use Rattle.ftl_device.specs.declared.fault.DeviceFault.TheVariants.{OutOfRange, 
 use Rattle.ftl_device.specs.Device.{IsDevice}
 use Rattle.ftl_device.specs.Changes.{Changes, Upkeeps}
 use Rattle.ftl_device.specs.Calls.{array_in, stop_of, HasFallen, HasRescued, HasWorked, IsQuiet, IsWell}
+use Rattle.ftl_device.specs.Read.{LeavesRead}
 use Rattle.ftl_device.specs.Turn.{HasTurned}
 
 -- IT HOLDS ITS ARRAY: its die is honest, and no fault has stopped it
@@ -119,6 +120,12 @@ pub record AsksRead {N : Type 0} (view : View N) (old new : Device N) : Type 0 w
   pub back : holds view.honest new ≡ true → holds view.honest old ≡ true
   pub leaves : holds view.honest old ≡ true → holds view.honest new ≡ true → LeavesDie view old new
 
+-- WHAT A READ ANSWERS, whatever the die does: it is done just where the device's is, and gives what the pages in its buffers say
+pub record ReadsAsDevice {N : Type 0} (n : ℕ) (old : Device N) (result : Result (Unit {0}) DiskFault) (bytes : List ℕ) (new : Device N) : Type 0 where
+  pub answer : Result (Unit {0}) DeviceFault
+  pub told : result ≡ read_answer answer
+  pub leaves : LeavesRead n answer (ram old.engine) (ram new.engine) (page_in_buffer new.engine.scratch) (page_in_buffer new.engine.page) bytes
+
 -- or a sector to be cleared: a read that gave zeros, and nothing else; or a read that did not, or failed, and then a trim
 pub record AsksClear {N : Type 0} (view : View N) (n : ℕ) (old : Device N) (result : Result (Unit {0}) DiskFault) (new : Device N)
     : Type 0 where
@@ -130,9 +137,9 @@ pub record AsksClear {N : Type 0} (view : View N) (n : ℕ) (old : Device N) (re
   pub trims : ((answer ≡ Ok tt) × (given ≡ replicate old.engine.geometry.data_bytes 0) × (result ≡ Ok tt) × (new ≡ mid))
       ⊎ (((answer ≡ Ok tt → given ≢ replicate old.engine.geometry.data_bytes 0) × AsksChange view n (step.Trim n) mid result new))
 
--- ONE CHANGE OF A SECTOR, of any sector and with any answer: it is set, or cleared
-unfoldable pub ChangesOne : {N : Type 0} → View N → (old new : Device N) → Type 0
-ChangesOne view old new = (n : ℕ) × (result : Result (Unit {0}) DiskFault)
+-- ONE CHANGE OF A SECTOR, of any sector: it is set, or cleared
+unfoldable pub ChangesOne : {N : Type 0} → View N → (old : Device N) → Result (Unit {0}) DiskFault → (new : Device N) → Type 0
+ChangesOne view old result new = (n : ℕ)
     × (((command : Command) × AsksChange view n command old result new) ⊎ AsksClear view n old result new)
 
 -- or a flush

@@ -1,5 +1,5 @@
 -- A DEVICE OF WHICH SOME SECTORS ARE LOST: they are not read until they are written again, or trimmed.
-use Rattle.std.specs.Prelude.{◌≡◌, ◌≢◌, ◌⊎◌, ◌≤◌, ◌<◌, ◌+◌, ◌-◌, ◌/◌, ℕ, Bool, true, false, List, [], ◌∷◌, get_or, length, slice_index, slice_set, Result, Err, if◌then◌else◌}
+use Rattle.std.specs.Prelude.{◌≡◌, ◌≢◌, ◌⊎◌, ◌≤◌, ◌<◌, ◌+◌, ◌-◌, ◌/◌, ℕ, Bool, true, false, List, [], ◌∷◌, get_or, length, slice_index, slice_set, Result, Ok, Err, if◌then◌else◌}
 use Rattle.page_layout.specs.Counter.{HasRisen}
 use Rattle.nbd_stream.specs.declared.task.Task.TheVariants.{Read}
 use Rattle.nbd_stream.specs.Disk.{Contents, bytes_given}
@@ -59,9 +59,15 @@ IsRefusedUnasked old result new = (result ≡ Err fault.Failed) × (new ≡ old)
 abbrev pub ReadsGuarded : {S K : Type 0} → (reads : S → S → Type 0) → (old new : GuardedSectors S K) → Type 0
 ReadsGuarded reads old new = (new ≡ old) ⊎ (reads old.sectors new.sectors × KeepsList old new)
 
--- a change is one of the device, or none
-abbrev pub ChangesGuarded : {S K : Type 0} → (changes : S → S → Type 0) → (old new : GuardedSectors S K) → Type 0
-ChangesGuarded changes old new = (new.sectors ≡ old.sectors) ⊎ changes old.sectors new.sectors
+-- WHAT A CHANGE ANSWERS, by the device's answer: the same; or it was done, and the list behind it was not kept
+abbrev pub IsAnswerOf : {S K : Type 0} → (answer result : Result (Unit {0}) DiskFault) → (new : GuardedSectors S K) → Type 0
+IsAnswerOf answer result new = (result ≡ answer) ⊎ ((answer ≡ Ok tt) × (result ≡ Err fault.Failed) × (new.failed ≡ true))
+
+-- a change is one of the device, whose fault is told; after a list that was not kept nothing is asked
+abbrev pub ChangesGuarded : {S K : Type 0} → (changes : S → Result (Unit {0}) DiskFault → S → Type 0) → (old : GuardedSectors S K) → Result (Unit {0}) DiskFault → (new : GuardedSectors S K) → Type 0
+ChangesGuarded changes old result new =
+    ((old.failed ≡ true) × IsRefusedUnasked old result new)
+    ⊎ ((answer : Result (Unit {0}) DiskFault) × changes old.sectors answer new.sectors × IsAnswerOf answer result new)
 
 -- A FLUSH AND A REST ARE ONE OF THE DEVICE, as this says of such a one, and the list stays; after a list that was not kept nothing is asked
 abbrev pub PassesOn : {S K : Type 0} → (is : S → Result (Unit {0}) DiskFault → S → Type 0) → GuardedSectors S K → Result (Unit {0}) DiskFault → GuardedSectors S K → Type 0

@@ -8,11 +8,10 @@ use Rattle.file_die.specs.Store.{Held}
 use Rattle.ftl_device.specs.declared.device.Device.{Device}
 use Rattle.nbd_stream.specs.declared.fault.DiskFault.{DiskFault}
 use Rattle.nbd_stream.specs.declared.fault.DiskFault.TheVariants as fault
-use Rattle.nbd_stream.specs.declared.reply.RequestError.{RequestError}
 use Rattle.nbd_stream.specs.declared.task.Task.TheVariants.{Read}
-use Rattle.nbd_stream.specs.Disk.{Contents, PerformsTask}
+use Rattle.nbd_stream.specs.Disk.{Contents, PerformsTask, answer_from}
 use Rattle.disk_server.specs.declared.opened.OpenStoreFault.{OpenStoreFault}
-use Rattle.disk_server.specs.Disk.{AsksChange, AsksClear, AsksFlush, AsksRead, AsksTurn, contents_of, holds, takes_changes}
+use Rattle.disk_server.specs.Disk.{ReadsAsDevice, AsksChange, AsksClear, AsksFlush, AsksRead, AsksTurn, contents_of, holds, takes_changes}
 use Rattle.disk_server.specs.Opened.{IsUnstarted, SyncsWhen, bytes_of, flash_in, flash_as_opened, is_honest_in, view_in}
 
 -- its device, where one is there; its sectors; what was next as its device stopped; whether it was opened anew; and how it is: with a cache of so many entries, with this share, and by when its die syncs its store
@@ -162,10 +161,10 @@ pub record ReadsOne {S : Type 0} (reads : Device (DriverState (FileState S)) →
 abbrev pub ReadsDevice : {S : Type 0} → (reads : Device (DriverState (FileState S)) → Device (DriverState (FileState S)) → Type 0) → (old new : Reopened S) → Type 0
 ReadsDevice reads old new = ((old.device ≡ None) × HasDevice (terms_of old) old.reopened old.next None new) ⊎ ReadsOne reads old new
 
--- WHAT IS GIVEN OF A SECTOR: by the device that is there, opened anew or not, its bytes as such a one gives them
-abbrev pub ReopenedGivesSector : {S : Type 0} → (S → Held) → (honest : S → Bool) → (failed : S → ℕ) → (n : ℕ) → (old : Reopened S) → (answer : Result (List ℕ) RequestError) → (new : Reopened S) → Type 0
-ReopenedGivesSector {S} held honest failed n old answer new = (d : Device (DriverState (FileState S))) → old.device ≡ Some d → (left : Device (DriverState (FileState S))) × (new.device ≡ Some left)
-    × PerformsTask (contents_of (view_in held honest failed)) (holds (is_honest_in honest)) (λ x. false) (Read (n * old.size) old.size) [] d answer left
+-- WHAT IS GIVEN OF A SECTOR: by the device that is there, opened anew or not, its bytes as such a one gives them, and its answer
+abbrev pub ReopenedGivesSector : {S : Type 0} → (S → Held) → (honest : S → Bool) → (failed : S → ℕ) → (n : ℕ) → (old : Reopened S) → Result (Unit {0}) DiskFault → (bytes : List ℕ) → (new : Reopened S) → Type 0
+ReopenedGivesSector {S} held honest failed n old result bytes new = (d : Device (DriverState (FileState S))) → old.device ≡ Some d → (left : Device (DriverState (FileState S))) × (new.device ≡ Some left)
+    × PerformsTask (contents_of (view_in held honest failed)) (holds (is_honest_in honest)) (λ x. false) (Read (n * old.size) old.size) [] d (answer_from result bytes) left × ReadsAsDevice n d result bytes left
 
 -- ---- the calls of the device over the die of a store
 
@@ -178,8 +177,8 @@ abbrev pub clears_of : {S : Type 0} → (S → Held) → (honest : S → Bool) �
 clears_of held honest failed n = AsksClear (view_in held honest failed) n
 
 -- ONE CHANGE OF THE DEVICE THAT IS THERE, of any sector, and what it comes to
-unfoldable pub changes_in : {S : Type 0} → (S → Held) → (honest full : S → Bool) → (failed : S → ℕ) → (old new : Reopened S) → Type 0
-changes_in held honest full failed old new = (n : ℕ) × (result : Result (Unit {0}) DiskFault)
+unfoldable pub changes_in : {S : Type 0} → (S → Held) → (honest full : S → Bool) → (failed : S → ℕ) → (old : Reopened S) → Result (Unit {0}) DiskFault → (new : Reopened S) → Type 0
+changes_in held honest full failed old result new = (n : ℕ)
     × (((command : Command) × AsksDevice held honest full failed (changes_of held honest failed n command) fault.NoSpace old result new) ⊎ AsksDevice held honest full failed (clears_of held honest failed n) fault.NoSpace old result new)
 
 -- a rest

@@ -92,7 +92,7 @@ impl<N: Nand> Sectors for DeviceDisk<N> {
     ghost use Rattle.ftl_device.specs.Calls.{stop_of};
     ghost use Rattle.nbd_stream.specs.Disk.{Idles, PerformsTask, answer_from};
     ghost use Rattle.disk_server.specs.Asked.{SparesZeros};
-    ghost use Rattle.disk_server.specs.Disk.{contents_of, holds, takes_changes, AsksChange, AsksClear, AsksFlush, AsksRead, AsksTurn, ChangesOne, KeepsOnError};
+    ghost use Rattle.disk_server.specs.Disk.{contents_of, holds, takes_changes, ReadsAsDevice, AsksChange, AsksClear, AsksFlush, AsksRead, AsksTurn, ChangesOne, KeepsOnError};
 
     ghost contents = { contents_of N.view };
 
@@ -140,6 +140,7 @@ impl<N: Nand> Sectors for DeviceDisk<N> {
         ensures stopped { IsSome (stop_of self.old.engine.fault) → (result ≡ Err DiskFault.Failed) × (self.new ≡ self.old) }
         ensures refused { OnErr result (buffer.new ≡ buffer.old) }
         ensures reads { AsksRead N.view self.old self.new }
+        ensures answers { ReadsAsDevice sector self.old result buffer.new self.new }
     {
         read_answer(self.device.read(sector as u32, buffer))
     }
@@ -162,7 +163,7 @@ impl<N: Nand> Sectors for DeviceDisk<N> {
 
         // Whatever the die does.
         ensures asked { AsksChange N.view sector (Write sector bytes.now) self.old result self.new }
-        ensures changes { ChangesOne N.view self.old self.new }
+        ensures changes { ChangesOne N.view self.old result self.new }
     {
         change_answer(self.device.write(sector as u32, bytes))
     }
@@ -182,7 +183,7 @@ impl<N: Nand> Sectors for DeviceDisk<N> {
 
         // Whatever the die does.
         ensures asked { AsksChange N.view sector (Trim sector) self.old result self.new }
-        ensures changes { ChangesOne N.view self.old self.new }
+        ensures changes { ChangesOne N.view self.old result self.new }
     {
         change_answer(self.device.trim(sector as u32))
     }
@@ -204,7 +205,7 @@ impl<N: Nand> Sectors for DeviceDisk<N> {
 
         // Whatever the die does.
         ensures asked { AsksClear N.view sector self.old result self.new }
-        ensures changes { ChangesOne N.view self.old self.new }
+        ensures changes { ChangesOne N.view self.old result self.new }
     {
         // (asked for a clause of `sector_count` alone, `whole`: its bytes are those of its sectors)
         let _count = self.sector_count();

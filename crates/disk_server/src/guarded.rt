@@ -138,7 +138,7 @@ impl<S: Lasting, K: KeepsLost> Sectors for GuardedSectors<S, K> {
     /// A read of the device, or nothing.
     ghost reads = { ReadsGuarded S.reads };
 
-    /// A change of the device, or nothing.
+    /// A change of the device, whose fault is told, or nothing.
     ghost changes = { ChangesGuarded S.changes };
 
     /// A flush of the device, and nothing else.
@@ -189,7 +189,7 @@ impl<S: Lasting, K: KeepsLost> Sectors for GuardedSectors<S, K> {
         ensures count { S.count self.new.sectors ≡ S.count self.old.sectors }
         ensures performs { PerformsTask (guarded_contents S.contents S.size) (λ d. S.honest d.sectors) (λ _. false)
             (Task.Write (sector * S.size self.old.sectors) (S.size self.old.sectors) false) bytes.now self.old (answer_from result []) self.new }
-        ensures changes { ChangesGuarded S.changes self.old self.new }
+        ensures changes { ChangesGuarded S.changes self.old result self.new }
         ensures heals { OnOk result (HealsIfListed K.kept sector self.old self.new) }
         ensures kept { OnErr result (KeepsOrFails K.failed self.old self.new) }
         ensures over { self.old.failed ≡ true → IsRefusedUnasked self.old result self.new }
@@ -220,7 +220,7 @@ impl<S: Lasting, K: KeepsLost> Sectors for GuardedSectors<S, K> {
         ensures count { S.count self.new.sectors ≡ S.count self.old.sectors }
         ensures performs { PerformsTask (guarded_contents S.contents S.size) (λ d. S.honest d.sectors) (λ _. false)
             (Task.Trim (sector * S.size self.old.sectors) (S.size self.old.sectors) false) [] self.old (answer_from result []) self.new }
-        ensures changes { ChangesGuarded S.changes self.old self.new }
+        ensures changes { ChangesGuarded S.changes self.old result self.new }
         ensures heals { OnOk result (HealsIfListed K.kept sector self.old self.new) }
         ensures kept { OnErr result (KeepsOrFails K.failed self.old self.new) }
         ensures over { self.old.failed ≡ true → IsRefusedUnasked self.old result self.new }
@@ -253,10 +253,15 @@ impl<S: Lasting, K: KeepsLost> Sectors for GuardedSectors<S, K> {
         ensures performs { PerformsTask (guarded_contents S.contents S.size) (λ d. S.honest d.sectors) (λ _. false)
             (Task.Trim (sector * S.size self.old.sectors) (S.size self.old.sectors) false) [] self.old (answer_from result []) self.new }
         ensures spares { SparesZeros (guarded_contents S.contents S.size) (λ d. S.honest d.sectors) (ReadsGuarded S.reads) (sector * S.size self.old.sectors) (S.size self.old.sectors) self.old self.new }
-        ensures changes { ChangesGuarded S.changes self.old self.new }
+        ensures changes { ChangesGuarded S.changes self.old result self.new }
         ensures heals { OnOk result (HealsIfListed K.kept sector self.old self.new) }
         ensures kept { OnErr result (KeepsOrFails K.failed self.old self.new) }
         ensures over { self.old.failed ≡ true → IsRefusedUnasked self.old result self.new }
+        ensures asked { self.old.failed ≡ false → is_listed self.old sector ≡ false →
+            PerformsTask S.contents S.honest S.calm (Task.Trim (sector * S.size self.old.sectors) (S.size self.old.sectors) false) [] self.old.sectors (answer_from result []) self.new.sectors }
+        ensures listed { self.old.failed ≡ false →
+            PerformsTask S.contents S.honest S.calm (Task.Trim (sector * S.size self.old.sectors) (S.size self.old.sectors) false) [] self.old.sectors (answer_from result []) self.new.sectors
+            ⊎ HasRisen (K.failed self.old.keeper) (K.failed self.new.keeper) }
     {
         if self.failed {
             return Err(DiskFault::Failed);

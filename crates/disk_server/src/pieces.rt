@@ -2,8 +2,7 @@
 ghost use Rattle.std.specs.Prelude.{◌≡◌, ◌<◌, ◌≤◌, ◌+◌, ◌%◌, ◌==◌, false, [], length};
 ghost use Rattle.std.specs.List.{list_all};
 ghost use Rattle.nbd_stream.specs.Disk.{PerformsTask, answer_from};
-ghost use Rattle.nbd_stream.specs.Through.{Through};
-ghost use Rattle.disk_server.specs.Asked.{AsksCall, SparesZeros};
+ghost use Rattle.disk_server.specs.Asked.{AsksPiece, SparesZeros, StepsTo};
 
 use crate::sectors::Sectors;
 use nbd_stream::{DiskFault, Task};
@@ -65,7 +64,7 @@ pub(crate) fn write_piece<S: Sectors>(
     requires within { offset + length bytes.now ≤ length (S.contents sectors.old).bytes }
     ensures size { S.size sectors.new ≡ S.size sectors.old }
     ensures performs { PerformsTask S.contents S.honest S.calm (Task.Write offset (length bytes.now) false) bytes.now sectors.old (answer_from result []) sectors.new }
-    ensures asks { Through (AsksCall S.reads S.changes S.flushes) sectors.old sectors.new }
+    ensures asks { StepsTo (AsksPiece S.reads S.changes) sectors.old result sectors.new }
 {
     let size = sectors.sector_bytes();
     let count = sectors.sector_count();
@@ -106,7 +105,7 @@ pub(crate) fn clear_piece<S: Sectors>(
     ensures size { S.size sectors.new ≡ S.size sectors.old }
     ensures performs { PerformsTask S.contents S.honest S.calm (Task.Trim offset taken false) [] sectors.old (answer_from result []) sectors.new }
     ensures spares { SparesZeros S.contents S.honest S.reads offset taken sectors.old sectors.new }
-    ensures asks { Through (AsksCall S.reads S.changes S.flushes) sectors.old sectors.new }
+    ensures asks { StepsTo (AsksPiece S.reads S.changes) sectors.old result sectors.new }
 {
     let size = sectors.sector_bytes();
     let count = sectors.sector_count();

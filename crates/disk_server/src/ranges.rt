@@ -2,7 +2,7 @@
 ghost use Rattle.std.specs.Prelude.{◌≡◌, ◌<◌, ◌≤◌, ◌+◌, ◌*◌, ◌^◌, false, [], length};
 ghost use Rattle.nbd_stream.specs.Disk.{PerformsTask, answer_from};
 ghost use Rattle.nbd_stream.specs.Through.{Through};
-ghost use Rattle.disk_server.specs.Asked.{AsksCall, SparesZeros};
+ghost use Rattle.disk_server.specs.Asked.{AsksPiece, SetsRange, SparesZeros, StepsTo};
 
 use crate::pieces::{clear_piece, piece_length, read_piece, write_piece};
 use crate::sectors::Sectors;
@@ -54,7 +54,7 @@ fn write_pieces<S: Sectors>(
     requires within { offset + length bytes.now ≤ length (S.contents sectors.old).bytes }
     ensures size { S.size sectors.new ≡ S.size sectors.old }
     ensures performs { PerformsTask S.contents S.honest S.calm (Task.Write offset (length bytes.now) false) bytes.now sectors.old (answer_from result []) sectors.new }
-    ensures asks { Through (AsksCall S.reads S.changes S.flushes) sectors.old sectors.new }
+    ensures asks { StepsTo (AsksPiece S.reads S.changes) sectors.old result sectors.new }
 {
     let size = sector_length(sectors);
     let mut done = 0;
@@ -79,7 +79,7 @@ fn clear_pieces<S: Sectors>(
     ensures size { S.size sectors.new ≡ S.size sectors.old }
     ensures performs { PerformsTask S.contents S.honest S.calm (Task.Trim offset count false) [] sectors.old (answer_from result []) sectors.new }
     ensures spares { SparesZeros S.contents S.honest (Through S.reads) offset count sectors.old sectors.new }
-    ensures asks { Through (AsksCall S.reads S.changes S.flushes) sectors.old sectors.new }
+    ensures asks { StepsTo (AsksPiece S.reads S.changes) sectors.old result sectors.new }
 {
     let size = sector_length(sectors);
     let mut done = 0;
@@ -104,7 +104,7 @@ pub(crate) fn write_range<S: Sectors>(
     requires within { offset + length bytes.now ≤ length (S.contents sectors.old).bytes }
     ensures size { S.size sectors.new ≡ S.size sectors.old }
     ensures performs { PerformsTask S.contents S.honest S.calm (Task.Write offset (length bytes.now) durable) bytes.now sectors.old (answer_from result []) sectors.new }
-    ensures asks { Through (AsksCall S.reads S.changes S.flushes) sectors.old sectors.new }
+    ensures asks { SetsRange S.reads S.changes S.flushes durable sectors.old result sectors.new }
 {
     match write_pieces(sectors, buffer, offset, bytes) {
         Ok(()) if durable => sectors.flush(),
@@ -126,7 +126,7 @@ pub(crate) fn clear_range<S: Sectors>(
     ensures size { S.size sectors.new ≡ S.size sectors.old }
     ensures performs { PerformsTask S.contents S.honest S.calm (Task.Trim offset count durable) [] sectors.old (answer_from result []) sectors.new }
     ensures spares { durable ≡ false → SparesZeros S.contents S.honest (Through S.reads) offset count sectors.old sectors.new }
-    ensures asks { Through (AsksCall S.reads S.changes S.flushes) sectors.old sectors.new }
+    ensures asks { SetsRange S.reads S.changes S.flushes durable sectors.old result sectors.new }
 {
     match clear_pieces(sectors, buffer, offset, count) {
         Ok(()) if durable => sectors.flush(),

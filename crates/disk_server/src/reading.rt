@@ -62,7 +62,13 @@ impl<S: Sectors> Disk for ReadOnlyDisk<S> {
     // Reads of sectors, and nothing else.
     ghost leaves = { Through S.reads };
 
-    fn read(&mut self, offset: u64, buffer: &mut [u8]) -> Result<(), DiskFault> {
+    fn read(&mut self, offset: u64, buffer: &mut [u8]) -> Result<(), DiskFault>
+        requires { offset + length buffer.old ≤ length (S.contents self.old).bytes }
+        ensures performs { PerformsTask S.contents S.honest (λ _. false) (Task.Read offset (length buffer.old)) [] self.old (answer_from result buffer.new) self.new }
+        ensures asked { PerformsTask S.contents S.honest S.calm (Task.Read offset (length buffer.old)) [] self.old (answer_from result buffer.new) self.new }
+        ensures leaves { Through S.reads self.old self.new }
+        ensures does { Through S.reads self.old self.new }
+    {
         self.disk.read(offset, buffer)
     }
 

@@ -219,7 +219,7 @@ impl<S: Store + TellsFull + Drop> Sectors for ReopenedDevice<S> {
         ensures count { self.new.count ≡ self.old.count }
         ensures performs { PerformsTask (contents_in S.held S.honest S.failed) (holds_in S.honest) (λ _. false) (Task.Read (sector * self.old.size) self.old.size) [] self.old (answer_from result buffer.new) self.new }
         ensures reads { ReadsDevice (reads_of S.held S.honest S.failed) self.old self.new }
-        ensures given { ReopenedGivesSector S.held S.honest S.failed sector self.old (answer_from result buffer.new) self.new }
+        ensures given { ReopenedGivesSector S.held S.honest S.failed sector self.old result buffer.new self.new }
     {
         let Some(mut device) = self.device.take() else {
             return Err(DiskFault::Failed);
@@ -241,7 +241,7 @@ impl<S: Store + TellsFull + Drop> Sectors for ReopenedDevice<S> {
         ensures count { self.new.count ≡ self.old.count }
         ensures performs { PerformsTask (contents_in S.held S.honest S.failed) (holds_in S.honest) (λ _. false) (Task.Write (sector * self.old.size) self.old.size false) bytes.now self.old (answer_from result []) self.new }
         ensures asked { AsksDevice S.held S.honest S.full S.failed (changes_of S.held S.honest S.failed sector (Write sector bytes.now)) fault.NoSpace self.old result self.new }
-        ensures changes { changes_in S.held S.honest S.full S.failed self.old self.new }
+        ensures changes { changes_in S.held S.honest S.full S.failed self.old result self.new }
     {
         let Some(mut device) = self.device.take() else {
             return Err(DiskFault::Failed);
@@ -261,7 +261,7 @@ impl<S: Store + TellsFull + Drop> Sectors for ReopenedDevice<S> {
         ensures count { self.new.count ≡ self.old.count }
         ensures performs { PerformsTask (contents_in S.held S.honest S.failed) (holds_in S.honest) (λ _. false) (Task.Trim (sector * self.old.size) self.old.size false) [] self.old (answer_from result []) self.new }
         ensures asked { AsksDevice S.held S.honest S.full S.failed (changes_of S.held S.honest S.failed sector (Trim sector)) fault.NoSpace self.old result self.new }
-        ensures changes { changes_in S.held S.honest S.full S.failed self.old self.new }
+        ensures changes { changes_in S.held S.honest S.full S.failed self.old result self.new }
     {
         let Some(mut device) = self.device.take() else {
             return Err(DiskFault::Failed);
@@ -283,7 +283,7 @@ impl<S: Store + TellsFull + Drop> Sectors for ReopenedDevice<S> {
         ensures performs { PerformsTask (contents_in S.held S.honest S.failed) (holds_in S.honest) (λ _. false) (Task.Trim (sector * self.old.size) self.old.size false) [] self.old (answer_from result []) self.new }
         ensures spares { SparesZeros (contents_in S.held S.honest S.failed) (holds_in S.honest) (ReadsDevice (reads_of S.held S.honest S.failed)) (sector * self.old.size) self.old.size self.old self.new }
         ensures asked { AsksDevice S.held S.honest S.full S.failed (clears_of S.held S.honest S.failed sector) fault.NoSpace self.old result self.new }
-        ensures changes { changes_in S.held S.honest S.full S.failed self.old self.new }
+        ensures changes { changes_in S.held S.honest S.full S.failed self.old result self.new }
     {
         let Some(mut device) = self.device.take() else {
             return Err(DiskFault::Failed);

@@ -12,7 +12,7 @@ use std::marker::Model;
 /// device. (This project's.)
 ///
 /// A request is done sector by sector, in rising order, up to the first that fails: each byte of the range then is as it was or as it was to be. A
-/// part of a sector is read, changed and written, and a whole one that is to be zeros is trimmed; where it reads as zeros already nothing is asked but that read. What is to last is flushed after the last sector.
+/// part of a sector is read, changed and written, and a whole one that is to be zeros is trimmed; where it reads as zeros already nothing is asked but that read. What is to last is flushed after the last sector, and nothing else is. The first fault of a sector is told as it is.
 #[derive(Drop)]
 pub struct SectorDisk<S: Sectors> {
     sectors: S,

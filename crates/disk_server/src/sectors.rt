@@ -26,8 +26,8 @@ pub trait Sectors {
     /// What a read of a sector leaves, beside the bytes: of the device before, and the device after.
     ghost reads: { Self → Self → Type 0 };
 
-    /// What a change of a sector is, beside the bytes: of the device before, and the device after.
-    ghost changes: { Self → Self → Type 0 };
+    /// What a change of a sector is, beside the bytes: of the device before, the answer, and the device after.
+    ghost changes: { Self → Result (Unit {0}) DiskFault → Self → Type 0 };
 
     /// What a flush of it is, beside that it leaves the sectors: of the device before, the answer, and the device after.
     ghost flushes: { Self → Result (Unit {0}) DiskFault → Self → Type 0 };
@@ -69,7 +69,7 @@ pub trait Sectors {
         ensures size { size self.new ≡ size self.old }
         ensures count { count self.new ≡ count self.old }
         ensures performs { PerformsTask contents honest calm (Task.Write (sector * size self.old) (size self.old) false) bytes.now self.old (answer_from result []) self.new }
-        ensures changes { changes self.old self.new };
+        ensures changes { changes self.old result self.new };
 
     /// Sets the bytes of a sector to zeros: they are not needed.
     ///
@@ -81,7 +81,7 @@ pub trait Sectors {
         ensures size { size self.new ≡ size self.old }
         ensures count { count self.new ≡ count self.old }
         ensures performs { PerformsTask contents honest calm (Task.Trim (sector * size self.old) (size self.old) false) [] self.old (answer_from result []) self.new }
-        ensures changes { changes self.old self.new };
+        ensures changes { changes self.old result self.new };
 
     /// Sets the bytes of a sector to zeros, as `trim_sector`. Where it has zeros already nothing is asked but a read, for which the buffer has room.
     ///
@@ -95,7 +95,7 @@ pub trait Sectors {
         ensures count { count self.new ≡ count self.old }
         ensures performs { PerformsTask contents honest calm (Task.Trim (sector * size self.old) (size self.old) false) [] self.old (answer_from result []) self.new }
         ensures spares { SparesZeros contents honest reads (sector * size self.old) (size self.old) self.old self.new }
-        ensures changes { changes self.old self.new };
+        ensures changes { changes self.old result self.new };
 
     /// Makes all sectors last. A device that takes no change any more is flushed too: what it was given before is to last.
     ///

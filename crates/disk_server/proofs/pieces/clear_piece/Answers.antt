@@ -2,7 +2,7 @@ use Rattle.std.proofs.Common.{◌≡◌, ◌≤◌, ◌∙◌, ◌+◌, ◌-◌,
 use Rattle.std.proofs.lemmas.List.{length-replicate}
 use Rattle.nbd_stream.specs.Disk.{PerformsTask, answer_from}
 use Rattle.nbd_stream.specs.declared.task.Task.TheVariants.{Write}
-use Rattle.disk_server.proofs.ChangeLemmas.{a_change, a_read, read_then_change}
+use Rattle.disk_server.proofs.ChangeLemmas.{a_change, a_failed_read, a_read, read_then_change}
 use Rattle.disk_server.proofs.ClearLemmas.{all_zeros, no_zeros, zeros_read}
 use Rattle.disk_server.proofs.Joining.{piece_clears, piece_given, piece_written, range_long, writes_trim}
 use Rattle.disk_server.proofs.pieces.clear_piece.Goals as goal
@@ -64,13 +64,13 @@ returns-else-are_zeros-clause-performs g c =
     )
 
 pub returns-then-taken-size-clause-asks : goal.returns-then-taken-size-clause-asks
-returns-then-taken-size-clause-asks g c = a_change g.S.Sectors.reads g.S.Sectors.changes g.S.Sectors.flushes c.args.sectors.now c.args.sectors.now c.clear_sector.new.self c.clear_sector.ensures.changes
+returns-then-taken-size-clause-asks g c = a_change g.S.Sectors.reads g.S.Sectors.changes c.args.sectors.now c.clear_sector.new.self c.clear_sector.result c.clear_sector.ensures.changes
 
 pub returns-then-are_zeros-clause-asks : goal.returns-then-are_zeros-clause-asks
-returns-then-are_zeros-clause-asks g c = a_read g.S.Sectors.reads g.S.Sectors.changes g.S.Sectors.flushes c.args.sectors.now c.args.sectors.now c.read_sector.new.self c.in-Ok.ensures.reads
+returns-then-are_zeros-clause-asks g c = a_read g.S.Sectors.reads g.S.Sectors.changes c.args.sectors.now c.read_sector.new.self c.in-Ok.ensures.reads
 
 pub returns-else-are_zeros-clause-asks : goal.returns-else-are_zeros-clause-asks
-returns-else-are_zeros-clause-asks g c = read_then_change g.S.Sectors.reads g.S.Sectors.changes g.S.Sectors.flushes c.args.sectors.now c.read_sector.new.self c.write_sector.new.self c.in-Ok.ensures.reads c.write_sector.ensures.changes
+returns-else-are_zeros-clause-asks g c = read_then_change g.S.Sectors.reads g.S.Sectors.changes c.args.sectors.now c.read_sector.new.self c.write_sector.new.self c.write_sector.result c.in-Ok.ensures.reads c.write_sector.ensures.changes
 
 pub returns-in-Err-clause-asks : goal.returns-in-Err-clause-asks
-returns-in-Err-clause-asks g c = a_read g.S.Sectors.reads g.S.Sectors.changes g.S.Sectors.flushes c.args.sectors.now c.args.sectors.now c.read_sector.new.self c.in-Err.ensures.reads
+returns-in-Err-clause-asks g c = a_failed_read g.S.Sectors.reads g.S.Sectors.changes c.args.sectors.now c.read_sector.new.self c.in-Err.fault c.in-Err.ensures.performs.fault c.in-Err.ensures.reads

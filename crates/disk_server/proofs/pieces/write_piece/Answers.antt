@@ -1,7 +1,7 @@
 use Rattle.std.proofs.Common.{◌≡◌, ◌∙◌, ◌+◌, ◌-◌, ◌*◌, ◌%◌, ℕ, [], false, ap, length, sym, subst, arith}
 use Rattle.nbd_stream.specs.Disk.{PerformsTask, answer_from}
 use Rattle.nbd_stream.specs.declared.task.Task.TheVariants.{Write}
-use Rattle.disk_server.proofs.ChangeLemmas.{a_change, a_read, read_then_change}
+use Rattle.disk_server.proofs.ChangeLemmas.{a_change, a_failed_read, read_then_change}
 use Rattle.disk_server.proofs.Joining.{piece_written}
 use Rattle.disk_server.proofs.pieces.write_piece.Goals as goal
 
@@ -23,10 +23,10 @@ returns-in-Ok-clause-performs g c =
     )
 
 pub returns-then-bytes-size-clause-asks : goal.returns-then-bytes-size-clause-asks
-returns-then-bytes-size-clause-asks g c = a_change g.S.Sectors.reads g.S.Sectors.changes g.S.Sectors.flushes c.args.sectors.now c.args.sectors.now c.write_sector.new.self c.write_sector.ensures.changes
+returns-then-bytes-size-clause-asks g c = a_change g.S.Sectors.reads g.S.Sectors.changes c.args.sectors.now c.write_sector.new.self c.write_sector.result c.write_sector.ensures.changes
 
 pub returns-in-Ok-clause-asks : goal.returns-in-Ok-clause-asks
-returns-in-Ok-clause-asks g c = read_then_change g.S.Sectors.reads g.S.Sectors.changes g.S.Sectors.flushes c.args.sectors.now c.read_sector.new.self c.write_sector-in-Ok.new.self c.in-Ok.ensures.reads c.write_sector-in-Ok.ensures.changes
+returns-in-Ok-clause-asks g c = read_then_change g.S.Sectors.reads g.S.Sectors.changes c.args.sectors.now c.read_sector.new.self c.write_sector-in-Ok.new.self c.write_sector-in-Ok.result c.in-Ok.ensures.reads c.write_sector-in-Ok.ensures.changes
 
 pub returns-in-Err-clause-asks : goal.returns-in-Err-clause-asks
-returns-in-Err-clause-asks g c = a_read g.S.Sectors.reads g.S.Sectors.changes g.S.Sectors.flushes c.args.sectors.now c.args.sectors.now c.read_sector.new.self c.in-Err.ensures.reads
+returns-in-Err-clause-asks g c = a_failed_read g.S.Sectors.reads g.S.Sectors.changes c.args.sectors.now c.read_sector.new.self c.in-Err.fault c.in-Err.ensures.performs.fault c.in-Err.ensures.reads

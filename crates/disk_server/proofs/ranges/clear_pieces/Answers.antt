@@ -1,9 +1,9 @@
-use Rattle.std.proofs.Common.{◌≡◌, ◌≤◌, ◌+◌, ◌∙◌, ℕ, Err, [], false, length, refl, subst, sym, rules, arith}
+use Rattle.std.proofs.Common.{◌≡◌, ◌≤◌, ◌+◌, ◌∙◌, ℕ, Err, Ok, [], false, length, refl, subst, sym, rules, arith}
 use Rattle.nbd_stream.specs.declared.task.Task.TheVariants.{Trim}
 use Rattle.nbd_stream.specs.Disk.{PerformsTask, answer_from, error_for}
 use Rattle.nbd_stream.proofs.ThroughLemmas.{joined, none, once}
-use Rattle.disk_server.specs.Asked.{AsksCall}
-use Rattle.disk_server.proofs.ChangeLemmas.{calls_on}
+use Rattle.disk_server.specs.Asked.{AsksPiece, StepsTo}
+use Rattle.disk_server.proofs.ChangeLemmas.{steps_on}
 use Rattle.disk_server.proofs.ClearLemmas.{zeros_left}
 use Rattle.disk_server.proofs.FaultLemmas.{is_handed_on}
 use Rattle.disk_server.proofs.Joining.{writes_trim}
@@ -17,7 +17,7 @@ loop-done-init g c = (
   refl,
   nothing_set g.S.Sectors.contents g.S.Sectors.honest g.S.Sectors.calm c.args.offset c.args.sectors.now,
   λ h zeros. none g.S.Sectors.reads c.args.sectors.now c.args.sectors.now refl,
-  none (AsksCall g.S.Sectors.reads g.S.Sectors.changes g.S.Sectors.flushes) c.args.sectors.now c.args.sectors.now refl,
+  none (λ a b. AsksPiece g.S.Sectors.reads g.S.Sectors.changes a (Ok tt) b) c.args.sectors.now c.args.sectors.now refl,
 )
 
 pub loop-done-preserved : goal.loop-done-preserved
@@ -36,7 +36,7 @@ loop-done-preserved g c =
           joined g.S.Sectors.reads c.args.sectors.now c.loop-done.sectors c.clear_piece.new.sectors (inv.4 before zeros)
           (once g.S.Sectors.reads c.loop-done.sectors c.clear_piece.new.sectors (c.in_ok-clear_piece.ensures.spares h
           (zeros_left g.S.Sectors.contents g.S.Sectors.honest g.S.Sectors.calm c.args.offset c.args.count k m c.args.sectors.now c.loop-done.sectors within c.requires.within inv.3 before zeros)))),
-      calls_on g.S.Sectors.reads g.S.Sectors.changes g.S.Sectors.flushes c.args.sectors.now c.loop-done.sectors c.clear_piece.new.sectors inv.5 c.in_ok-clear_piece.ensures.asks,
+      steps_on g.S.Sectors.reads g.S.Sectors.changes c.args.sectors.now c.loop-done.sectors c.clear_piece.new.sectors (Ok tt) inv.5 c.in_ok-clear_piece.ensures.asks,
     )
 
 pub returns-in_err-clear_piece-clause-performs : goal.returns-in_err-clear_piece-clause-performs
@@ -63,7 +63,9 @@ returns-in_err-clear_piece-clause-spares g c = λ h zeros.
     (zeros_left g.S.Sectors.contents g.S.Sectors.honest g.S.Sectors.calm c.args.offset c.args.count k m c.args.sectors.now c.loop-done.sectors within c.requires.within inv.3 before zeros)))
 
 pub returns-in_err-clear_piece-clause-asks : goal.returns-in_err-clear_piece-clause-asks
-returns-in_err-clear_piece-clause-asks g c = calls_on g.S.Sectors.reads g.S.Sectors.changes g.S.Sectors.flushes c.args.sectors.now c.loop-done.sectors c.clear_piece.new.sectors c.loop-done.invariant.5 c.in_err-clear_piece.ensures.asks
+returns-in_err-clear_piece-clause-asks g c =
+    subst (λ r. StepsTo (AsksPiece g.S.Sectors.reads g.S.Sectors.changes) c.args.sectors.now r c.clear_piece.new.sectors) (sym (is_handed_on c.from_residual.result c.in_err-clear_piece.field-0.0 c.from_residual.ensures.1))
+    (steps_on g.S.Sectors.reads g.S.Sectors.changes c.args.sectors.now c.loop-done.sectors c.clear_piece.new.sectors (Err c.in_err-clear_piece.field-0.0) c.loop-done.invariant.5 c.in_err-clear_piece.ensures.asks)
 
 pub returns-clause-asks : goal.returns-clause-asks
 returns-clause-asks g c = c.loop-done.invariant.5

@@ -1,9 +1,9 @@
-use Rattle.std.proofs.Common.{◌≡◌, ◌≤◌, ◌+◌, ◌∙◌, ℕ, [], false, length, refl, subst, sym, rules, arith}
+use Rattle.std.proofs.Common.{◌≡◌, ◌≤◌, ◌+◌, ◌∙◌, ℕ, Err, Ok, [], false, length, refl, subst, sym, rules, arith}
 use Rattle.nbd_stream.specs.declared.task.Task.TheVariants.{Write}
 use Rattle.nbd_stream.specs.Disk.{PerformsTask, answer_from, error_for}
 use Rattle.nbd_stream.proofs.ThroughLemmas.{none}
-use Rattle.disk_server.specs.Asked.{AsksCall}
-use Rattle.disk_server.proofs.ChangeLemmas.{calls_on}
+use Rattle.disk_server.specs.Asked.{AsksPiece, StepsTo}
+use Rattle.disk_server.proofs.ChangeLemmas.{steps_on}
 use Rattle.disk_server.proofs.FaultLemmas.{is_handed_on}
 use Rattle.disk_server.proofs.Fronts.{front_stopped, front_written, nothing_set}
 use Rattle.disk_server.proofs.ranges.write_pieces.Goals as goal
@@ -20,7 +20,7 @@ loop-done-preserved g c =
       c.in_ok-write_piece.ensures.size ∙ inv.2,
       front_written g.S.Sectors.contents g.S.Sectors.honest g.S.Sectors.calm c.args.bytes.now c.args.offset k m _
           c.args.sectors.now c.loop-done.sectors c.write_piece.new.sectors within c.requires.within inv.3 c.in_ok-write_piece.ensures.performs,
-      calls_on g.S.Sectors.reads g.S.Sectors.changes g.S.Sectors.flushes c.args.sectors.now c.loop-done.sectors c.write_piece.new.sectors inv.4 c.in_ok-write_piece.ensures.asks,
+      steps_on g.S.Sectors.reads g.S.Sectors.changes c.args.sectors.now c.loop-done.sectors c.write_piece.new.sectors (Ok tt) inv.4 c.in_ok-write_piece.ensures.asks,
     )
 
 pub returns-in_err-write_piece-clause-performs : goal.returns-in_err-write_piece-clause-performs
@@ -37,10 +37,12 @@ returns-in_err-write_piece-clause-performs g c =
 
 pub loop-done-init : goal.loop-done-init
 loop-done-init g c =
-    (omega arith, refl, refl, nothing_set g.S.Sectors.contents g.S.Sectors.honest g.S.Sectors.calm c.args.offset c.args.sectors.now, none (AsksCall g.S.Sectors.reads g.S.Sectors.changes g.S.Sectors.flushes) c.args.sectors.now c.args.sectors.now refl)
+    (omega arith, refl, refl, nothing_set g.S.Sectors.contents g.S.Sectors.honest g.S.Sectors.calm c.args.offset c.args.sectors.now, none (λ a b. AsksPiece g.S.Sectors.reads g.S.Sectors.changes a (Ok tt) b) c.args.sectors.now c.args.sectors.now refl)
 
 pub returns-in_err-write_piece-clause-asks : goal.returns-in_err-write_piece-clause-asks
-returns-in_err-write_piece-clause-asks g c = calls_on g.S.Sectors.reads g.S.Sectors.changes g.S.Sectors.flushes c.args.sectors.now c.loop-done.sectors c.write_piece.new.sectors c.loop-done.invariant.4 c.in_err-write_piece.ensures.asks
+returns-in_err-write_piece-clause-asks g c =
+    subst (λ r. StepsTo (AsksPiece g.S.Sectors.reads g.S.Sectors.changes) c.args.sectors.now r c.write_piece.new.sectors) (sym (is_handed_on c.from_residual.result c.in_err-write_piece.field-0.0 c.from_residual.ensures.1))
+    (steps_on g.S.Sectors.reads g.S.Sectors.changes c.args.sectors.now c.loop-done.sectors c.write_piece.new.sectors (Err c.in_err-write_piece.field-0.0) c.loop-done.invariant.4 c.in_err-write_piece.ensures.asks)
 
 pub returns-clause-asks : goal.returns-clause-asks
 returns-clause-asks g c = c.loop-done.invariant.4

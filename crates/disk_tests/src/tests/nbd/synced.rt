@@ -46,7 +46,7 @@ impl Sectors for PlainSectors {
 
     ghost reads = { λ old new. Unit {0} };
 
-    ghost changes = { λ old new. Unit {0} };
+    ghost changes = { λ old result new. Unit {0} };
 
     ghost flushes = { λ old result new. new.bytes ≡ old.bytes };
 

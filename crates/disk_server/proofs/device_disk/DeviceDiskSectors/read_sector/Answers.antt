@@ -43,3 +43,6 @@ returns-clause-reads g c =
     (page_in_buffer c.read.new.self.engine.scratch) (page_in_buffer c.read.new.self.engine.page) c.read.new.out c.self.invariant c.read.ensures.only_reads.honest_is
     c.read.ensures.stopped c.read.ensures.memory c.read.ensures.only_reads c.read.ensures.asked c.read.ensures.limits (invariant_of-self g c)
     c.read.ensures.same c.read.ensures.told c.read.ensures.mountable)
+
+pub returns-clause-answers : goal.returns-clause-answers
+returns-clause-answers g c = rw (← c.self.view_is) (record { answer = c.read.result; told = c.read_answer.ensures; leaves = c.read.ensures.memory })

@@ -2,6 +2,7 @@ use Rattle.std.proofs.Common.{◌*◌, ◌+◌, ◌∙◌, ◌≤◌, inr, lengt
 use Rattle.disk_server.specs.Asked.{SparesZeros}
 use Rattle.disk_server.specs.Guarded.{ReadsGuarded, guarded_contents}
 use Rattle.disk_server.proofs.Bytes.{sector_fits}
+use Rattle.disk_server.proofs.GuardLemmas.{asked, asked_or, changed_so}
 use Rattle.disk_server.proofs.GuardedLemmas.{listed_zeros, shown_zeros, zeros_failed, zeros_shown}
 use Rattle.disk_server.proofs.guarded.GuardedSectorsSectors.clear_sector.Given.{Over}
 use Rattle.disk_server.proofs.guarded.GuardedSectorsSectors.clear_sector.Goals.{After-know}
@@ -45,3 +46,12 @@ returns-in-Err-clause-spares g c = λ h zeros.
     let fits = sector_within g (goal.at.returns-in-Err-clause-spares g c).After-know in
     let unlisted = sym c.is_listed.ensures ∙ c.if-is_listed.false in
     inr (c.in-Err.ensures.spares h (shown_zeros size n c.args.self.now.lost.items _ fits unlisted zeros), record { keeper_same = refl; lost_same = refl; failed_same = refl })
+
+pub returns-in-Ok-clause-asked : goal.returns-in-Ok-clause-asked
+returns-in-Ok-clause-asked g c going unlisted = asked _ _ _ _ _ _ _ _ c.heal.result (c.heal.ensures.unlisted unlisted).0 c.heal.ensures.sectors c.in-Ok.ensures.performs
+
+pub returns-in-Ok-clause-listed : goal.returns-in-Ok-clause-listed
+returns-in-Ok-clause-listed g c going = asked_or _ _ _ _ _ _ _ _ c.heal.result _ _ c.heal.ensures.sectors c.heal.ensures.failed c.in-Ok.ensures.performs
+
+pub returns-in-Ok-clause-changes : goal.returns-in-Ok-clause-changes
+returns-in-Ok-clause-changes g c = changed_so g.S.Sectors.changes c.args.self.now c.heal.new.self c.clear_sector.new.self c.heal.result _ c.heal.ensures.sectors c.in-Ok.ensures.changes c.heal.ensures.failed c.heal.ensures.fault

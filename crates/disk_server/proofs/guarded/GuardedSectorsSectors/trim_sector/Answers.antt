@@ -1,5 +1,5 @@
 use Rattle.std.proofs.Common.{refl}
-use Rattle.disk_server.proofs.GuardLemmas.{asked, asked_or}
+use Rattle.disk_server.proofs.GuardLemmas.{asked, asked_or, changed_so}
 use Rattle.disk_server.proofs.GuardedLemmas.{zeros_failed, zeros_shown}
 use Rattle.disk_server.proofs.guarded.GuardedSectorsSectors.trim_sector.Goals as goal
 
@@ -19,3 +19,6 @@ returns-in-Ok-clause-asked g c going unlisted = asked _ _ _ _ _ _ _ _ c.heal.res
 
 pub returns-in-Ok-clause-listed : goal.returns-in-Ok-clause-listed
 returns-in-Ok-clause-listed g c going = asked_or _ _ _ _ _ _ _ _ c.heal.result _ _ c.heal.ensures.sectors c.heal.ensures.failed c.in-Ok.ensures.performs
+
+pub returns-in-Ok-clause-changes : goal.returns-in-Ok-clause-changes
+returns-in-Ok-clause-changes g c = changed_so g.S.Sectors.changes c.args.self.now c.heal.new.self c.trim_sector.new.self c.heal.result _ c.heal.ensures.sectors c.in-Ok.ensures.changes c.heal.ensures.failed c.heal.ensures.fault

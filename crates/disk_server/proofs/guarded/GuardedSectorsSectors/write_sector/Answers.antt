@@ -1,6 +1,6 @@
 use Rattle.std.proofs.Common.{◌*◌, false, inl, refl}
 use Rattle.nbd_stream.specs.declared.task.Task.TheVariants as task
-use Rattle.disk_server.proofs.GuardLemmas.{asked, asked_or}
+use Rattle.disk_server.proofs.GuardLemmas.{asked, asked_or, changed_so}
 use Rattle.disk_server.proofs.GuardedLemmas.{change_shown, failed_shown}
 use Rattle.disk_server.proofs.guarded.GuardedSectorsSectors.write_sector.Goals as goal
 
@@ -26,3 +26,6 @@ returns-in-Err-clause-performs g c =
     c.args.self.now (λ l. refl) (λ l. refl) c.know.ensures.some c.requires.whole (g.S.Sectors.count c.args.self.now.sectors) c.requires.within c.know.ensures.whole
     (record { sectors = c.write_sector.new.self; keeper = c.args.self.now.keeper; lost = c.args.self.now.lost; failed = c.args.self.now.failed })
     _ c.in-Err.ensures.size refl c.in-Err.ensures.performs
+
+pub returns-in-Ok-clause-changes : goal.returns-in-Ok-clause-changes
+returns-in-Ok-clause-changes g c = changed_so g.S.Sectors.changes c.args.self.now c.heal.new.self c.write_sector.new.self c.heal.result _ c.heal.ensures.sectors c.in-Ok.ensures.changes c.heal.ensures.failed c.heal.ensures.fault

@@ -32,4 +32,4 @@ returns-clause-given g c =
     (λ k. PerformsTask (at g.S.Store.held g.S.Store.honest g.S.Store.failed) (going g.S.Store.held g.S.Store.honest g.S.Store.failed) (λ x. false) (Read (c.args.sector * k) k) []
     c.in-Some.device (answer_from c.read_sector-answer.result c.read_sector-answer.new.buffer) c.read_sector-answer.new.self)
     (c.self.invariant.sized _ was) c.read_sector-answer.ensures.performs in
-    rw (← c.self.view_is) (given_of g.S.Store.held g.S.Store.honest g.S.Store.failed c.args.sector _ _ _ c.in-Some.device c.read_sector-answer.new.self _ was c.replace.ensures.after asked)
+    rw (← c.self.view_is) (given_of g.S.Store.held g.S.Store.honest g.S.Store.failed c.args.sector _ _ _ c.in-Some.device c.read_sector-answer.new.self c.read_sector-answer.result c.read_sector-answer.new.buffer was c.replace.ensures.after asked c.read_sector-answer.ensures.answers)
