@@ -90,7 +90,7 @@ fn pieces_of(piece: u32, offset: u64, count: u64) -> u64
 /// A disk that keeps nothing back, and a way to make last what it writes. Each flush and each durable change that is answered without an error ends with a sync, and so does each change that is
 /// answered without an error once too much was changed since the last one. **A flush asks nothing of the disk**: what it answered lasts in what it is kept in, once that is synced. So the disk
 /// itself is flushed as it is closed, and not before. With each sync goes the sequence of the disk's next page, as its mark. A range is cleared a megabyte at a time, and it is looked after each
-/// whether a sync is due. What a sync makes last no contract of the disk can say: that it is of what the disk is kept in, is for whoever joins the two.
+/// whether a sync is due. A call that fails has the disk's own error, or `Failed` where a sync failed. What a sync makes last no contract of the disk can say: that it is of what the disk is kept in, is for whoever joins the two.
 ///
 /// **After a sync that failed nothing is asked of the disk or of its syncs any more, and each call answers `Failed`**: what was written before it may be lost, and the next
 /// sync may be answered without an error all the same, as by Linux. (This project's.)
