@@ -1,12 +1,15 @@
 -- A mark that is torn as it is written.
 use Rattle.std.proofs.Common.{rules, ◌≡◌, inl, inr, ℕ, zero, suc, ◌<◌, ◌≤◌, ◌-◌, ◌^◌, ◌+◌, ◌⊎◌, List, [], ◌∷◌, ◌++◌, length, refl, sym, ◌∙◌, ap, subst, arith}
-use Rattle.std.specs.Prelude.{take, drop, Option, Some, None}
+use Rattle.std.specs.Prelude.{take, drop, slice_get, true, false, Option, Some, None}
 use Rattle.std.specs.Int.{w64, to_le_bytes, from_le_bytes}
 use Rattle.std.proofs.lemmas.Nat.{from_le_bytes-to_le_bytes_8}
 use Rattle.std.proofs.lemmas.Bool.{cases_lt}
+use Rattle.std.proofs.lemmas.List.{length-drop, take_all}
+use Rattle.file_die.specs.Bytes.{AreAlike}
+use Rattle.file_die.proofs.BytesLemmas.{get_drop, length_over, over_after, over_before, over_within, take_alike}
 use Rattle.disk_server.specs.declared.mark.SyncMark.{SyncMark}
 use Rattle.disk_commands.specs.declared.mark.FoundMark.{FoundMark}
-use Rattle.disk_commands.specs.Mark.{HasSlots, IsEither, IsNumberText, IsSlotRead, IsSlotText, IsSmall, IsTornBeside, SlotLaw, TornFileLaw, TornSlotLaw, found_in, number_text, slot_text, torn_slot}
+use Rattle.disk_commands.specs.Mark.{HasSlots, IsEither, IsNumberText, IsSlotRead, IsSlotText, IsSmall, IsTornBeside, MarkBackLaw, SlotLaw, SlotPlaceLaw, TornFileLaw, TornSlotLaw, first_slot, found_in, number_text, second_slot, slot_text, torn_slot, with_slot}
 
 -- ---- a list that is written over another one, up to a place
 
@@ -134,3 +137,68 @@ by_place bytes kept old new count found small_kept small small_new (inr at) has 
 pub torn_files : TornFileLaw
 torn_files bytes kept old new count found small_kept small small_new long at (inl read) = by_place bytes kept old new count found small_kept small small_new at read.1
 torn_files bytes kept old new count found small_kept small small_new long at (inr other) = absurd (other.0 long)
+
+-- ---- a mark that is written into its file
+
+whole : (n : ℕ) (xs ys : List ℕ) → length xs ≡ n → length ys ≡ n → AreAlike n xs ys → xs ≡ ys
+whole n xs ys long_x long_y alike = sym (take_all n xs (omega (arith, long_x))) ∙ (take_alike n xs ys alike ∙ take_all n ys (omega (arith, long_y)))
+
+slot_long : (m : SyncMark) → length (slot_text m) ≡ 32
+slot_long m = refl
+
+second_long : (bytes : List ℕ) → length bytes ≡ 4128 → length (drop 4096 bytes) ≡ 32
+second_long bytes long = omega (arith, length-drop 4096 bytes, long)
+
+module _ (bytes : List ℕ) (m : SyncMark) (long : length bytes ≡ 4128) where
+  fits_second : 4096 + length (slot_text m) ≤ length bytes
+  fits_second = omega (arith, slot_long m, long)
+
+  fits_first : 0 + length (slot_text m) ≤ length bytes
+  fits_first = omega (arith, slot_long m, long)
+
+  long_second : length (with_slot bytes true m) ≡ 4128
+  long_second = length_over 4096 (slot_text m) bytes fits_second ∙ long
+
+  long_first : length (with_slot bytes false m) ≡ 4128
+  long_first = length_over 0 (slot_text m) bytes fits_first ∙ long
+
+  second_new : second_slot (with_slot bytes true m) ≡ slot_text m
+  second_new = whole 32 (drop 4096 (with_slot bytes true m)) (slot_text m) (second_long (with_slot bytes true m) long_second) (slot_long m)
+      (λ i lt. get_drop 4096 (with_slot bytes true m) i ∙ over_within 4096 (slot_text m) bytes i (omega (arith, long)) (omega (arith, lt, slot_long m)))
+
+  first_kept : first_slot (with_slot bytes true m) ≡ first_slot bytes
+  first_kept = take_alike 32 (with_slot bytes true m) bytes (λ i lt. over_before 4096 (slot_text m) bytes i (omega (arith, long)) (omega (arith, lt)))
+
+  first_new : first_slot (with_slot bytes false m) ≡ slot_text m
+  first_new = take_alike 32 (with_slot bytes false m) (slot_text m) (λ i lt.
+      let here : i ≡ 0 + i = omega arith in
+      ap (slice_get (with_slot bytes false m)) here ∙ over_within 0 (slot_text m) bytes i (omega (arith, long)) (omega (arith, lt, slot_long m)))
+      ∙ take_all 32 (slot_text m) (omega (arith, slot_long m))
+
+  second_kept : second_slot (with_slot bytes false m) ≡ second_slot bytes
+  second_kept = whole 32 (drop 4096 (with_slot bytes false m)) (drop 4096 bytes) (second_long (with_slot bytes false m) long_first) (second_long bytes long)
+      (λ i lt. get_drop 4096 (with_slot bytes false m) i
+      ∙ (over_after 0 (slot_text m) bytes (4096 + i) (omega (arith, long)) (omega (arith, slot_long m)) ∙ sym (get_drop 4096 bytes i)))
+
+pub slot_placed : SlotPlaceLaw
+slot_placed bytes true m long = (second_new bytes m long, first_kept bytes m long)
+slot_placed bytes false m long = (first_new bytes m long, second_kept bytes m long)
+
+-- what is found is that mark, or the one of the other slot, which was so before
+told_other : (m : SyncMark) (found : FoundMark) (was now : List ℕ) (other : Option SyncMark) → now ≡ was → IsSlotRead now other
+    → (found.mark ≡ m) ⊎ ((n : SyncMark) × (other ≡ Some n) × (found.mark ≡ n) × (m.synced ≤ n.synced)) → (found.mark ≡ m) ⊎ ((n : SyncMark) × IsSlotText was n × (found.mark ≡ n) × (m.synced ≤ n.synced))
+told_other m found was now other same read (inl is) = inl is
+told_other m found was now other same read (inr h) = inr (h.0, subst (λ l. IsSlotText l h.0) same (subst (IsSlotRead now) h.1 read), h.2, h.3)
+
+pub found_back : MarkBackLaw
+found_back bytes true m found small long (inr other) = absurd (other.0 (long_second bytes m long))
+found_back bytes false m found small long (inr other) = absurd (other.0 (long_first bytes m long))
+found_back bytes true m found small long (inl read) =
+    let has = read.1 in
+    let is : has.second ≡ Some m = slot_back m has.second small (subst (λ l. IsSlotRead l has.second) (second_new bytes m long) has.second_is) in
+    told_other m found (first_slot bytes) (first_slot (with_slot bytes true m)) has.first (first_kept bytes m long) has.first_is (later_first m has.first found (has.is ∙ ap (found_in has.first) is))
+found_back bytes false m found small long (inl read) =
+    let has = read.1 in
+    let is : has.first ≡ Some m = slot_back m has.first small (subst (λ l. IsSlotRead l has.first) (first_new bytes m long) has.first_is) in
+    told_other m found (second_slot bytes) (second_slot (with_slot bytes false m)) has.second (second_kept bytes m long) has.second_is
+    (later_second m has.second found (has.is ∙ ap (λ o. found_in o has.second) is))

@@ -1,6 +1,7 @@
 -- THE MARK BESIDE A DISK: up to which sequence all pages were synced, and up to which all were as the disk had been flushed. It stands in one of two slots of a file.
-use Rattle.std.specs.Prelude.{◌≡◌, ◌≢◌, ◌⊎◌, ◌<◌, ◌≤◌, ◌-◌, ◌^◌, ℕ, nat_lt, Bool, true, false, List, ◌++◌, length, take, drop, Option, Some, None, if◌then◌else◌}
+use Rattle.std.specs.Prelude.{◌≡◌, ◌≢◌, ◌⊎◌, ◌<◌, ◌≤◌, ◌-◌, ◌^◌, ℕ, nat_lt, Bool, true, false, not, List, ◌++◌, length, take, drop, Option, Some, None, if◌then◌else◌}
 use Rattle.std.specs.Int.{w64, to_le_bytes}
+use Rattle.file_die.specs.Bytes.{over}
 use Rattle.disk_server.specs.declared.mark.SyncMark.{SyncMark}
 use Rattle.disk_commands.specs.declared.mark.FoundMark.{FoundMark}
 
@@ -110,3 +111,22 @@ IsTornBeside bytes kept old new count =
 abbrev pub TornFileLaw : Type 0
 TornFileLaw = (bytes : List ℕ) (kept old new : SyncMark) (count : ℕ) (found : FoundMark) → IsSmall kept → IsSmall old → IsSmall new → length bytes ≡ file_length → IsTornBeside bytes kept old new count
     → IsMarkRead (Some bytes) found → (kept.synced ≤ found.mark.synced) × ((found.mark.synced ≡ kept.synced) ⊎ IsEither old.synced new.synced found.mark.synced)
+
+-- the second slot of a file, or the first
+abbrev pub slot_of_file : (second : Bool) → List ℕ → List ℕ
+slot_of_file true bytes = second_slot bytes
+slot_of_file false bytes = first_slot bytes
+
+-- a mark is written where a slot begins
+abbrev pub with_slot : (bytes : List ℕ) → (second : Bool) → SyncMark → List ℕ
+with_slot bytes second m = over (slot_at second) (slot_text m) bytes
+
+-- IT STANDS IN THAT SLOT then, and the other one is as it was
+abbrev pub SlotPlaceLaw : Type 0
+SlotPlaceLaw = (bytes : List ℕ) (second : Bool) (m : SyncMark) → length bytes ≡ file_length
+    → (slot_of_file second (with_slot bytes second m) ≡ slot_text m) × (slot_of_file (not second) (with_slot bytes second m) ≡ slot_of_file (not second) bytes)
+
+-- SO IT IS FOUND, or a mark that is no earlier, and stood in the other slot
+abbrev pub MarkBackLaw : Type 0
+MarkBackLaw = (bytes : List ℕ) (second : Bool) (m : SyncMark) (found : FoundMark) → IsSmall m → length bytes ≡ file_length → IsMarkRead (Some (with_slot bytes second m)) found
+    → (found.mark ≡ m) ⊎ ((other : SyncMark) × IsSlotText (slot_of_file (not second) bytes) other × (found.mark ≡ other) × (m.synced ≤ other.synced))
