@@ -125,6 +125,10 @@ pub record IsShapeText (text : List ℕ) (t : DiskText) : Type 0 where
   pub reads : read text ≡ Some body
   pub tells : TellsText body t
 
+-- WHAT IS WRITTEN OF A SHAPE TELLS IT, and whether a list of lost sectors stands beside the disk; a mark counts there
+abbrev pub ShapeToldLaw : Type 0
+ShapeToldLaw = (s : DiskShape) (lost : Bool) → IsCacheSize s.cache → IsShareFor s.geometry s.cache s.share → TellsText (shape_data s lost) (record { shape = s; marked = true; lost = lost })
+
 -- ---- why it is none
 
 -- what the value says of its members

@@ -44,7 +44,9 @@ pub use opening::{die_bytes, dump_bytes};
 pub use printed::{Form, Info};
 pub use program::run;
 pub use program_words::GrammarFault;
-pub use shape_text::{DiskText, Member, ShapeFault, read_shape, write_listed_shape, write_shape};
+pub use shape_text::{
+    DiskText, Member, ShapeFault, read_shape, shape_laws, write_listed_shape, write_shape,
+};
 pub use shape_words::{GeometryWordFault, geometry_from};
 pub use shapes::{Code, DiskShape, SizeFault, cache_for, shape_for, share_for};
 pub use sizes::{SizeWordFault, size_from, size_laws};

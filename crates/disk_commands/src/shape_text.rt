@@ -2,7 +2,7 @@
 ghost use Rattle.std.specs.Prelude.{◌≡◌, ◌≢◌, false, None, Some, IfOk, IfErr, IfSome, OnOk, codes, string_bytes};
 ghost use Rattle.serde_json.specs.View.{view};
 ghost use Rattle.disk_commands.specs.declared.shape_text.Member.{Member};
-ghost use Rattle.disk_commands.specs.ShapeText.{IsGeometryTold, IsNoShape, IsShapeText, IsTextMember, IsCacheSize, TellsLater, TellsLaterBy, TellsNone};
+ghost use Rattle.disk_commands.specs.ShapeText.{IsGeometryTold, IsNoShape, IsShapeText, IsTextMember, IsCacheSize, ShapeToldLaw, TellsLater, TellsLaterBy, TellsNone};
 ghost use Rattle.disk_commands.specs.ShapeText.{TellsShape, TellsText, code_words, flag_at, geometry_words, listed_text, number_at, shape_data};
 ghost use Rattle.disk_commands.specs.ShapeText.{shape_text, members_of, member_count, text_at, shape_version_of};
 ghost use Rattle.disk_commands.specs.Shapes.{IsShareFor};
@@ -173,6 +173,11 @@ pub fn write_listed_shape(alloc: Global, shape: &DiskShape) -> Result<String, Al
     text.push('\n')?;
     Ok(text)
 }
+
+/// The object that is written of a shape tells that shape, whether a list of lost sectors stands beside the disk, and that a mark counts. (This project.)
+pub fn shape_laws()
+    ensures { ShapeToldLaw }
+{}
 
 // The number of a member.
 fn number(value: &Value, member: Member) -> Result<u64, ShapeFault>
