@@ -167,7 +167,7 @@ fn put<'a, F: DiskFiles>(
 /// # Errors
 ///
 /// The first of this order: as `shape_of` where the words ask for no shape; as `bad_asked` where they name no bad blocks of it; `Exists` where something stands at DISK or beside it; `Read` or `Length` of the dump; `Write`, `InUse`
-/// or `OutOfMemory` where no die could be made there; `Open` where the dump mounts with no cache, or `Create` where the die was not formatted; `Exists`, `Write` or `OutOfMemory`
+/// or `OutOfMemory` where no die could be made there; `Open` where the dump mounts with no cache, or a load or a reset failed; `Create` where the die was not formatted, `Write` where its bad blocks were not marked; `OutOfMemory` in each; `Exists`, `Write` or `OutOfMemory`
 /// where it could not be put in its place. After each of these no disk is at DISK that was not there before. (This project's.)
 pub(crate) fn create_command<'a, F: DiskFiles>(
     alloc: Global,

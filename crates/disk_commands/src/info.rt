@@ -76,9 +76,10 @@ pub(crate) fn print_text<'a, W: Write>(text: &str, out: &mut W) -> Result<(), Di
 ///
 /// # Errors
 ///
-/// The first of this order: `Read`, `DiskShape` or `OutOfMemory` where the file beside DISK tells no shape; `Read`, `InUse`, `Length` or `OutOfMemory` where DISK was not
-/// opened; `Open` where it holds no disk; `OutOfMemory` for the states of its blocks or for what is printed. After each of these nothing was printed. Then `Write` of `-` where `out` failed: a
-/// beginning of it stands there, or nothing, and never all of it. (This project's.)
+/// The first of this order: `Read`, `InUse` or `OutOfMemory` where DISK was not opened and locked; `Read`, `Shape` or `OutOfMemory` where the file beside it tells no shape; `Length`, `Read`, `Write` or
+/// `OutOfMemory` where its pages were not taken; `Read` or `OutOfMemory` where its mark was not read; `ReadList`, `List` or `OutOfMemory` where the list of its lost sectors was not; `Open` or
+/// `OutOfMemory` where it holds no disk; `OutOfMemory` for its lost sectors, the states of its blocks or what is printed. After each of these nothing was printed. Then `Write` of `-` where `out`
+/// failed: a beginning of it stands there, or nothing, and never all of it. (This project's.)
 pub(crate) fn info_command<'a, F: DiskFiles, W: Write>(
     alloc: Global,
     words: InfoWords<'a>,

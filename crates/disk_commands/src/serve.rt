@@ -186,10 +186,9 @@ fn serve_client<'a, S: Lasting + Drop, Y: Syncs + Drop, I: Incoming, O: Outgoing
 ///
 /// # Errors
 ///
-/// The first of this order: `Read`, `DiskShape` or `OutOfMemory` where the file beside DISK tells no shape; `Read`, `InUse`, `Length` or `OutOfMemory` where DISK was not opened;
-/// `Read` or `OutOfMemory` where its mark was not read; `ReadList` or `List` where the list of its lost sectors was not read; `Open` where it holds no disk; `WriteList` where that list was not kept;
-/// `Open` where the disk was not opened; `Read`, `Write` or `OutOfMemory` where its mark cannot be kept, `Device` where the first sync failed; `Write` of `-` where lost sectors were not named;
-/// `OutOfMemory` for the memory of a request. After each of these nothing was sent. Then `Device` where the flush at the end failed, or a sync;
+/// The first of this order: as `info` where the disk was not opened or its store not mounted; `Read` or `OutOfMemory` where there is no place for the list of its lost sectors; `WriteList` where that
+/// list was not kept; `Open` or `OutOfMemory` where the disk was not opened; any fault of a file where its mark cannot be kept, `Device` where the first sync failed; `Write` of `-` or `OutOfMemory`
+/// where lost sectors, or what was wrong with pages, were not told; `OutOfMemory` for the device and for the memory of a request. After each of these nothing was sent. Then `Device` where the flush at the end failed, or a sync;
 /// `BadFrame` where the client sent what is no request, `Stream` where `input` or `out` failed. (This project's.)
 pub(crate) fn serve_command<'a, F: DiskFiles, I: Incoming, O: Outgoing, E: Write>(
     alloc: Global,

@@ -48,7 +48,7 @@ pub enum DiskCommandFault<'a> {
     Shape(&'a str, ShapeFault),
     /// The file has so many bytes, and not as many as its shape says.
     Length(&'a str, u64, u64),
-    /// The die holds no device that may be started.
+    /// The store of the file has no disk: its pages were not mounted, a load or a reset failed, or the flush of what a stop had left.
     Open(&'a str, OpenStoreFault),
     /// The die was not formatted.
     Create(&'a str, CreateFault),
@@ -64,13 +64,13 @@ pub enum DiskCommandFault<'a> {
     ReadList(&'a str),
     /// It could not be written.
     WriteList(&'a str),
-    /// A file, or standard output where it is `-`, could not be written.
+    /// A file, or standard output or standard error where it is `-`, could not be written.
     Write(&'a str),
     /// The client sent what is no request.
     BadFrame,
     /// Standard input or output failed.
     Stream,
-    /// The die failed while it was served: what was answered without an error stands.
+    /// The sync before a disk is served failed, or the flush or the sync at its end.
     Device(&'a str),
 }
 
