@@ -4,3 +4,5 @@ pub mod Names
 pub mod Parts
 -- what naming two files together asks
 pub mod Pairs
+-- how a part is named
+pub mod PartNames

@@ -10,6 +10,7 @@
 
 mod first_error;
 mod handle;
+pub mod laws;
 mod names;
 mod pair;
 mod parts;

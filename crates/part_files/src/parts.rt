@@ -1,5 +1,6 @@
 //! A file that is made beside its place.
-ghost use Rattle.std.specs.Prelude.{◌≡◌, ◌≢◌, false, IfErr, OnErr, OnOk};
+ghost use Rattle.std.specs.Prelude.{◌≡◌, ◌≢◌, false, IfErr, IfOk, OnErr, OnOk, string_bytes};
+ghost use Rattle.part_files.specs.PartNames.{IsPartName};
 ghost use Rattle.part_files.specs.Names.{and_one};
 ghost use Rattle.part_files.specs.Names.NameCall.{Rename};
 ghost use Rattle.part_files.specs.Parts.{Drops, GivesBack, MakesNone, MakesPart, Publishes, PublishesNot, Remakes, RemakesNot, Replaces, Settles, TakesName, TakesNot};
@@ -12,7 +13,9 @@ use std::alloc::{AllocError, Global};
 /// # Errors
 ///
 /// Where a growth was refused.
-pub fn part_name(alloc: Global, path: &str, program: &str) -> Result<String, AllocError> {
+pub fn part_name(alloc: Global, path: &str, program: &str) -> Result<String, AllocError>
+    ensures { IfOk result (λ part. IsPartName path.now program.now (string_bytes part)) }
+{
     match path.rsplit_once('/') {
         Some((folder, name)) => format!(in alloc; "{folder}/.{name}.{program}-part"),
         None => format!(in alloc; ".{path}.{program}-part"),
