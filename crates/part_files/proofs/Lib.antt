@@ -1,2 +1,5 @@
 pub mod CallLemmas
 pub mod NameLemmas
+pub mod FolderLemmas
+pub mod MeansLemmas
+pub mod PairLemmas

@@ -6,3 +6,7 @@ pub mod Parts
 pub mod Pairs
 -- how a part is named
 pub mod PartNames
+-- which file each name has, and what calls do to that
+pub mod Folder
+-- what becomes of names by what is asked of them
+pub mod FolderLaws

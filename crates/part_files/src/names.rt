@@ -18,16 +18,17 @@ pub enum PartFault {
     Failed,
 }
 
-/// The names of files, and what was asked of them. A call that is not done changes none of them. (This project's.)
+/// The names of files, and what was asked of them. It is believed of a system that a call that is not done changes none of them, but that `make` may leave a new file. (This project's.)
 pub trait Names {
-    ghost use Rattle.std.specs.Prelude.{◌≡◌, List, Option, is_ok};
-    ghost use Rattle.part_files.specs.Names.{AskedOfNames, and_one};
-    ghost use Rattle.part_files.specs.Names.NameCall.{Make, Claim, Remove, Link, Rename, SyncFolder};
+    ghost use Rattle.std.specs.Prelude.{◌≡◌, List, Option};
+    ghost use Rattle.part_files.specs.Names.{AskedOfNames, and_one, call_came, look_came};
+    ghost use Rattle.part_files.specs.Names.NameCall.{Make, Claim, Remove, Link, Rename, SyncFolder, LetGo, IsThere, IsOneFile, HasOneName};
+    ghost use Rattle.part_files.specs.Names.Came.{Done};
 
     /// A file that is open for reading and writing, and locked as long as it is.
     type File: Drop;
 
-    /// What was asked so far, in order. Of the system's names it isn't known.
+    /// What was asked so far, in order, and what each call came to. Of the system's names it isn't known.
     ghost asked: { Self → Option (List AskedOfNames) };
 
     /// A new file of a name that no file has, locked, and seen to have that name still.
@@ -36,7 +37,7 @@ pub trait Names {
     ///
     /// `Exists` where something has the name, which is not opened; `InUse` where another run has claimed the new file before it was locked; else as the system refused it.
     fn make(&mut self, name: &str) -> Result<Self::File, PartFault>
-        ensures { asked self.new ≡ and_one (asked self.old) (Make name.now) (is_ok result) };
+        ensures { asked self.new ≡ and_one (asked self.old) (Make name.now) (call_came result) };
 
     /// The file that has a name, locked, once it is seen to have that name still. It is neither made nor cut.
     ///
@@ -44,7 +45,7 @@ pub trait Names {
     ///
     /// `InUse` where another run has it locked, or has removed it meanwhile; else as the system refused it, also where what has the name is no regular file.
     fn claim(&mut self, name: &str) -> Result<Self::File, PartFault>
-        ensures { asked self.new ≡ and_one (asked self.old) (Claim name.now) (is_ok result) };
+        ensures { asked self.new ≡ and_one (asked self.old) (Claim name.now) (call_came result) };
 
     /// Removes a name. A file that has another one, or is open, stays.
     ///
@@ -52,7 +53,7 @@ pub trait Names {
     ///
     /// As the system refused it.
     fn remove(&mut self, name: &str) -> Result<(), PartFault>
-        ensures { asked self.new ≡ and_one (asked self.old) (Remove name.now) (is_ok result) };
+        ensures { asked self.new ≡ and_one (asked self.old) (Remove name.now) (call_came result) };
 
     /// Gives the file of a name one more, which no file has.
     ///
@@ -60,7 +61,7 @@ pub trait Names {
     ///
     /// `Exists` where something has that name; else as the system refused it, also where its files have one name each.
     fn link(&mut self, from: &str, to: &str) -> Result<(), PartFault>
-        ensures { asked self.new ≡ and_one (asked self.old) (Link from.now to.now) (is_ok result) };
+        ensures { asked self.new ≡ and_one (asked self.old) (Link from.now to.now) (call_came result) };
 
     /// Gives the file of a name another one in place of it. A file that had that one loses it.
     ///
@@ -68,7 +69,7 @@ pub trait Names {
     ///
     /// As the system refused it.
     fn rename(&mut self, from: &str, to: &str) -> Result<(), PartFault>
-        ensures { asked self.new ≡ and_one (asked self.old) (Rename from.now to.now) (is_ok result) };
+        ensures { asked self.new ≡ and_one (asked self.old) (Rename from.now to.now) (call_came result) };
 
     /// Syncs the folder of a name, so that the names in it outlive a loss of power.
     ///
@@ -76,7 +77,11 @@ pub trait Names {
     ///
     /// As the system refused it: some cannot sync a folder.
     fn sync_folder(&mut self, name: &str) -> Result<(), PartFault>
-        ensures { asked self.new ≡ and_one (asked self.old) (SyncFolder name.now) (is_ok result) };
+        ensures { asked self.new ≡ and_one (asked self.old) (SyncFolder name.now) (call_came result) };
+
+    /// Lets a file go, and its lock with it.
+    fn let_go(&mut self, file: Self::File)
+        ensures { asked self.new ≡ and_one (asked self.old) LetGo Done };
 
     /// Whether something has a name, a link too.
     ///
@@ -84,7 +89,7 @@ pub trait Names {
     ///
     /// As the system refused to tell.
     fn is_there(&mut self, name: &str) -> Result<bool, PartFault>
-        ensures { asked self.new ≡ asked self.old };
+        ensures { asked self.new ≡ and_one (asked self.old) (IsThere name.now) (look_came result) };
 
     /// Whether two names are those of one file.
     ///
@@ -92,7 +97,7 @@ pub trait Names {
     ///
     /// As the system refused to tell.
     fn is_one_file(&mut self, first: &str, second: &str) -> Result<bool, PartFault>
-        ensures { asked self.new ≡ asked self.old };
+        ensures { asked self.new ≡ and_one (asked self.old) (IsOneFile first.now second.now) (look_came result) };
 
     /// Whether a file has a name, and has no other one.
     ///
@@ -100,5 +105,5 @@ pub trait Names {
     ///
     /// As the system refused to tell.
     fn has_one_name(&mut self, name: &str) -> Result<bool, PartFault>
-        ensures { asked self.new ≡ asked self.old };
+        ensures { asked self.new ≡ and_one (asked self.old) (HasOneName name.now) (look_came result) };
 }

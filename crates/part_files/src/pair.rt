@@ -1,6 +1,7 @@
 //! Two files that get their names together: one, and a second one beside it that tells of it.
-ghost use Rattle.std.specs.Prelude.{◌≡◌, OnErr, OnOk};
-ghost use Rattle.part_files.specs.Pairs.{MayRemove, NamesBeside, NamesBesideNot, PublishesPair, PublishesNoPair, TakesBack};
+ghost use Rattle.std.specs.Prelude.{IfErr, IfOk, OnOk};
+ghost use Rattle.part_files.specs.Parts.{PublishesNot};
+ghost use Rattle.part_files.specs.Pairs.{ClearsBeside, ClearsNot, LooksBegun, LooksNot, NamesBeside, PublishesPair, PublishesNoPair, TakesBack, TakesNotBack};
 
 use crate::names::{Names, PartFault};
 use crate::parts::{publish_new, take_name};
@@ -25,7 +26,8 @@ pub struct Pair<'a> {
 ///
 /// As the system refused to tell. (This project's.)
 pub fn is_begun<N: Names>(names: &mut N, pair: &Pair<'_>) -> Result<bool, PartFault>
-    ensures { N.asked names.new ≡ N.asked names.old }
+    ensures begun { IfOk result (λ begun. LooksBegun pair.now begun (N.asked names.old) (N.asked names.new)) }
+    ensures refused { IfErr result (λ fault. LooksNot pair.now fault (N.asked names.old) (N.asked names.new)) }
 {
     if names.is_there(pair.path)? {
         return Ok(false);
@@ -38,7 +40,8 @@ pub fn is_begun<N: Names>(names: &mut N, pair: &Pair<'_>) -> Result<bool, PartFa
 
 // Removes the name beside a path, where a run that was killed has given it.
 fn clear_beside<N: Names>(names: &mut N, pair: &Pair<'_>) -> Result<(), PartFault>
-    ensures { MayRemove pair.now.beside.now (N.asked names.old) (N.asked names.new) }
+    ensures cleared { OnOk result (ClearsBeside pair.now (N.asked names.old) (N.asked names.new)) }
+    ensures refused { IfErr result (λ fault. ClearsNot pair.now fault (N.asked names.old) (N.asked names.new)) }
 {
     if is_begun(names, pair)? {
         names.remove(pair.beside)?;
@@ -52,21 +55,22 @@ fn clear_beside<N: Names>(names: &mut N, pair: &Pair<'_>) -> Result<(), PartFaul
 ///
 /// `InUse` where another run is at the part; else as the system refused it. (This project's.)
 pub fn clear_begun<N: Names>(names: &mut N, pair: &Pair<'_>) -> Result<(), PartFault>
-    ensures { TakesBack pair.now.part.now pair.now.beside.now (N.asked names.old) (N.asked names.new) }
+    ensures taken_back { OnOk result (TakesBack pair.now (N.asked names.old) (N.asked names.new)) }
+    ensures refused { IfErr result (λ fault. TakesNotBack pair.now fault (N.asked names.old) (N.asked names.new)) }
 {
     if !is_begun(names, pair)? {
         return Ok(());
     }
     let held = names.claim(pair.part)?;
     let done = clear_beside(names, pair);
-    drop(held);
+    names.let_go(held);
     done
 }
 
 // Names the file beside a path, which keeps the name of its part where it can have two.
 fn name_beside<N: Names>(names: &mut N, part: &str, beside: &str) -> Result<(), PartFault>
     ensures named { OnOk result (NamesBeside part.now beside.now (N.asked names.old) (N.asked names.new)) }
-    ensures refused { OnErr result (NamesBesideNot part.now beside.now (N.asked names.old) (N.asked names.new)) }
+    ensures refused { IfErr result (λ fault. PublishesNot part.now beside.now fault (N.asked names.old) (N.asked names.new)) }
 {
     match names.link(part, beside) {
         Ok(()) => {
@@ -87,8 +91,8 @@ fn name_beside<N: Names>(names: &mut N, part: &str, beside: &str) -> Result<(), 
 /// `Exists` where something has one of the names; else as the system refused it. Neither is named then, where the system could take back the first, and the part of the file has its
 /// own name. (This project's.)
 pub fn publish_pair<N: Names>(names: &mut N, pair: &Pair<'_>) -> Result<(), PartFault>
-    ensures named { OnOk result (PublishesPair pair.now.part.now pair.now.path.now pair.now.beside_part.now pair.now.beside.now (N.asked names.old) (N.asked names.new)) }
-    ensures refused { OnErr result (PublishesNoPair pair.now.part.now pair.now.path.now pair.now.beside_part.now pair.now.beside.now (N.asked names.old) (N.asked names.new)) }
+    ensures named { OnOk result (PublishesPair pair.now (N.asked names.old) (N.asked names.new)) }
+    ensures refused { IfErr result (λ fault. PublishesNoPair pair.now fault (N.asked names.old) (N.asked names.new)) }
 {
     name_beside(names, pair.beside_part, pair.beside)?;
     match publish_new(names, pair.part, pair.path) {

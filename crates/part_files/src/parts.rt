@@ -1,9 +1,10 @@
 //! A file that is made beside its place.
-ghost use Rattle.std.specs.Prelude.{◌≡◌, ◌≢◌, false, IfErr, IfOk, OnErr, OnOk, string_bytes};
+ghost use Rattle.std.specs.Prelude.{◌≡◌, ◌≢◌, IfErr, IfOk, OnOk, string_bytes};
 ghost use Rattle.part_files.specs.PartNames.{IsPartName};
 ghost use Rattle.part_files.specs.Names.{and_one};
 ghost use Rattle.part_files.specs.Names.NameCall.{Rename};
-ghost use Rattle.part_files.specs.Parts.{Drops, GivesBack, MakesNone, MakesPart, Publishes, PublishesNot, Remakes, RemakesNot, Replaces, Settles, TakesName, TakesNot};
+ghost use Rattle.part_files.specs.Names.Came.{Refused};
+ghost use Rattle.part_files.specs.Parts.{Drops, GivesBack, MakesNone, MakesPart, Publishes, PublishesNot, Remade, RemadeNot, Remakes, RemakesNot, Replaces, Settles, TakesName, TakesNot, taken_fault};
 
 use crate::names::{Names, PartFault};
 use std::alloc::{AllocError, Global};
@@ -24,7 +25,7 @@ pub fn part_name(alloc: Global, path: &str, program: &str) -> Result<String, All
 
 // What is told of a part that was found, where another run is at it meanwhile.
 fn as_taken(fault: PartFault) -> PartFault
-    ensures { result ≢ PartFault.Exists }
+    ensures { result ≡ taken_fault fault }
 {
     match fault {
         PartFault::Exists => PartFault::InUse,
@@ -32,17 +33,23 @@ fn as_taken(fault: PartFault) -> PartFault
     }
 }
 
-// Makes a part anew, where one was found.
+// Takes its name from a part that was found, and makes it.
+fn remake<N: Names>(names: &mut N, part: &str) -> Result<N::File, PartFault>
+    ensures made { OnOk result (Remade part.now (N.asked names.old) (N.asked names.new)) }
+    ensures none { IfErr result (λ fault. RemadeNot part.now fault (N.asked names.old) (N.asked names.new)) }
+{
+    names.remove(part)?;
+    names.make(part)
+}
+
+// Makes a part anew, where one was found. Until it is made nobody else can claim what was found.
 fn make_anew<N: Names>(names: &mut N, part: &str) -> Result<N::File, PartFault>
     ensures made { OnOk result (Remakes part.now (N.asked names.old) (N.asked names.new)) }
-    ensures none { OnErr result (RemakesNot part.now (N.asked names.old) (N.asked names.new)) }
-    ensures fault { IfErr result (λ fault. fault ≢ PartFault.Exists) }
+    ensures none { IfErr result (λ fault. RemakesNot part.now fault (N.asked names.old) (N.asked names.new)) }
 {
-    let found = names.claim(part).map_err(as_taken)?;
-    names.remove(part).map_err(as_taken)?;
-    let made = names.make(part).map_err(as_taken);
-    // until now nobody else could claim what was found
-    drop(found);
+    let found = names.claim(part)?;
+    let made = remake(names, part);
+    names.let_go(found);
     made
 }
 
@@ -54,11 +61,11 @@ fn make_anew<N: Names>(names: &mut N, part: &str) -> Result<N::File, PartFault>
 /// `InUse` where another run is at it; else as the system refused it. Then no part was made. (This project's.)
 pub fn new_part<N: Names>(names: &mut N, part: &str) -> Result<N::File, PartFault>
     ensures made { OnOk result (MakesPart part.now (N.asked names.old) (N.asked names.new)) }
-    ensures none { OnErr result (MakesNone part.now (N.asked names.old) (N.asked names.new)) }
+    ensures none { IfErr result (λ fault. MakesNone part.now fault (N.asked names.old) (N.asked names.new)) }
     ensures fault { IfErr result (λ fault. fault ≢ PartFault.Exists) }
 {
     match names.make(part) {
-        Err(PartFault::Exists) => make_anew(names, part),
+        Err(PartFault::Exists) => make_anew(names, part).map_err(as_taken),
         made => made,
     }
 }
@@ -75,7 +82,7 @@ fn settle<N: Names>(names: &mut N, part: &str, path: &str)
 // Replaces the new file that has taken a name by the part, or removes it.
 fn replace_made<N: Names>(names: &mut N, part: &str, path: &str) -> Result<(), PartFault>
     ensures named { OnOk result (Replaces part.now path.now (N.asked names.old) (N.asked names.new)) }
-    ensures given_back { OnErr result (GivesBack part.now path.now (N.asked names.old) (N.asked names.new)) }
+    ensures given_back { IfErr result (λ fault. GivesBack part.now path.now fault (N.asked names.old) (N.asked names.new)) }
 {
     match names.rename(part, path) {
         Ok(()) => {
@@ -92,24 +99,24 @@ fn replace_made<N: Names>(names: &mut N, part: &str, path: &str) -> Result<(), P
 // Takes a name with a new file, and replaces that one.
 pub(crate) fn take_name<N: Names>(names: &mut N, part: &str, path: &str) -> Result<(), PartFault>
     ensures taken { OnOk result (TakesName part.now path.now (N.asked names.old) (N.asked names.new)) }
-    ensures not_taken { OnErr result (TakesNot part.now path.now (N.asked names.old) (N.asked names.new)) }
+    ensures not_taken { IfErr result (λ fault. TakesNot part.now path.now fault (N.asked names.old) (N.asked names.new)) }
 {
     let taken = names.make(path)?;
     let done = replace_made(names, part, path);
-    drop(taken);
+    names.let_go(taken);
     done
 }
 
-/// Gives a part a name that no file has, and has the folder synced after each change of names, where the system can: by a link, and then the part loses its own name. Where no
-/// link could be had, as on file systems whose files have one name each, a new empty file takes the name, and the part replaces that one; there a run that is killed between
-/// these two leaves the empty file. No file that was there is replaced.
+/// Gives a part a name that no file has: by a link, and then the part loses its own name. Where no link could be had, as on file systems whose files have one name each, a new
+/// empty file takes the name, and the part replaces that one while it is locked; there a run that is killed between these two leaves the empty file. The folder is synced once
+/// the part has the name, and once it has lost its own, where the system can. No file that was there is replaced.
 ///
 /// # Errors
 ///
-/// `Exists` where something has the name; else as the system refused it. The part has its own name then. (This project's.)
+/// `Exists` where something has the name; else as the system refused the call that ended it. The part has its own name then. (This project's.)
 pub fn publish_new<N: Names>(names: &mut N, part: &str, path: &str) -> Result<(), PartFault>
     ensures named { OnOk result (Publishes part.now path.now (N.asked names.old) (N.asked names.new)) }
-    ensures refused { OnErr result (PublishesNot part.now path.now (N.asked names.old) (N.asked names.new)) }
+    ensures refused { IfErr result (λ fault. PublishesNot part.now path.now fault (N.asked names.old) (N.asked names.new)) }
 {
     match names.link(part, path) {
         Ok(()) => {
@@ -129,7 +136,7 @@ pub fn publish_new<N: Names>(names: &mut N, part: &str, path: &str) -> Result<()
 /// As the system refused it: the name is as it was, and the part has its own. (This project's.)
 pub fn publish_over<N: Names>(names: &mut N, part: &str, path: &str) -> Result<(), PartFault>
     ensures named { OnOk result (Replaces part.now path.now (N.asked names.old) (N.asked names.new)) }
-    ensures refused { OnErr result (N.asked names.new ≡ and_one (N.asked names.old) (Rename part.now path.now) false) }
+    ensures refused { IfErr result (λ fault. N.asked names.new ≡ and_one (N.asked names.old) (Rename part.now path.now) (Refused fault)) }
 {
     names.rename(part, path)?;
     let _ = names.sync_folder(path);

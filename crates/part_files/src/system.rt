@@ -178,6 +178,10 @@ impl<R: Files<File = File>> Names for SystemNames<'_, R> {
         sync_folder_of(self.rt, name).map_err(part_fault)
     }
 
+    fn let_go(&mut self, file: File) {
+        drop(file);
+    }
+
     fn is_there(&mut self, name: &str) -> Result<bool, PartFault> {
         match self.found(name) {
             Ok(found) => Ok(found.is_some()),

@@ -110,6 +110,8 @@ impl Names for Folder {
         Err(PartFault::Failed)
     }
 
+    fn let_go(&mut self, _file: OpenFile) {}
+
     fn is_there(&mut self, name: &str) -> Result<bool, PartFault> {
         Ok(self.get(name) != 0)
     }

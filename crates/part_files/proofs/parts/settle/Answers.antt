@@ -1,4 +1,3 @@
-use Rattle.std.proofs.Common.{rules, ◌≡◌, Bool}
 use Rattle.part_files.proofs.CallLemmas.{settled}
 use Rattle.part_files.proofs.parts.settle.Goals as goal
 
