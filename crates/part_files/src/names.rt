@@ -35,7 +35,8 @@ pub trait Names {
     ///
     /// # Errors
     ///
-    /// `Exists` where something has the name, which is not opened; `InUse` where another run has claimed the new file before it was locked; else as the system refused it.
+    /// `Exists` where something has the name, which is not opened; `InUse` where another run has claimed the new file before it was locked, which is left to it; else as the system refused it: a new file that
+    /// could not be locked is removed again, where the system does that.
     fn make(&mut self, name: &str) -> Result<Self::File, PartFault>
         ensures { asked self.new ≡ and_one (asked self.old) (Make name.now) (call_came result) };
 

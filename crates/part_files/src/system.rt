@@ -83,12 +83,17 @@ impl<'a, R: Files<File = File>> SystemNames<'a, R> {
         }
     }
 
-    // A file that was opened, locked, whose name still is its own.
-    fn held(&self, name: &str, opened: io::Result<File>) -> Result<File, PartFault> {
-        let file = self.settled(opened)?;
-        self.lock(&file)?;
-        self.want_named(name, &file)?;
-        Ok(file)
+    // Locks a file that was opened, and sees that its name still is its own.
+    fn hold(&self, name: &str, file: &File) -> Result<(), PartFault> {
+        self.lock(file)?;
+        self.want_named(name, file)
+    }
+
+    // Removes a new file that could not be locked, if it has its name still. One that another run has locked is left to that run.
+    fn take_back(&self, name: &str, file: &File, fault: PartFault) {
+        if fault != PartFault::InUse && self.want_named(name, file).is_ok() {
+            let _ = fs::remove_file(self.rt, name);
+        }
     }
 }
 
@@ -150,13 +155,24 @@ impl<R: Files<File = File>> Names for SystemNames<'_, R> {
     ghost asked = { λ _. None };
 
     fn make(&mut self, name: &str) -> Result<File, PartFault> {
-        self.held(name, options_anew().open(self.rt, name))
+        let file = self.settled(options_anew().open(self.rt, name))?;
+        match self.hold(name, &file) {
+            Ok(()) => Ok(file),
+            Err(fault) => {
+                self.take_back(name, &file, fault);
+                Err(fault)
+            }
+        }
     }
 
     fn claim(&mut self, name: &str) -> Result<File, PartFault> {
         match options_as_it_is().open(self.rt, name) {
             Err(error) if error.kind() == ErrorKind::NotFound => Err(PartFault::InUse),
-            opened => self.held(name, opened),
+            opened => {
+                let file = self.settled(opened)?;
+                self.hold(name, &file)?;
+                Ok(file)
+            }
         }
     }
 
