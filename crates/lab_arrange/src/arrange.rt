@@ -26,7 +26,9 @@ pub enum ArrangeFault {
 /// No dump in order was made: why, and the file of pages.
 #[derive(Drop)]
 pub struct Unarranged<T> {
+    /// Why.
     pub fault: ArrangeFault,
+    /// The file of pages, as far as it was written.
     pub target: T,
 }
 

@@ -45,10 +45,15 @@ fn words_value(alloc: Global, words: &[&str]) -> Result<Value, AllocError>
 /// The run that a report is of: the program with its version, its words, the files that it read and those that it wrote.
 #[derive(Clone, Copy)]
 pub struct Run<'a> {
+    /// The program's name.
     pub program: &'a str,
+    /// The program's version.
     pub version: &'a str,
+    /// The words of the command line, the program's name first.
     pub words: &'a [&'a str],
+    /// The files that were read, in the order in which they were opened.
     pub read: &'a [Noted<'a>],
+    /// The files that were written, in the order in which they got their names.
     pub wrote: &'a [Noted<'a>],
 }
 

@@ -6,6 +6,7 @@ use crate::content::Content;
 pub struct Noted<'a> {
     /// Its name, as the words of the run give it.
     pub name: &'a str,
+    /// How many bytes it has, and their SHA-256.
     pub content: Content,
 }
 
@@ -14,6 +15,7 @@ pub struct Noted<'a> {
 pub struct FileNote {
     /// Its name, as the words of the run gave it.
     pub name: String,
+    /// How many bytes it has, and their SHA-256.
     pub content: Content,
 }
 

@@ -24,8 +24,8 @@ const MOST_PAGE: usize = 4352;
 /// by what is said for the geometry, then by the arrangement.
 #[derive(Clone, Copy, Debug, PartialEq, Eq, PartialOrd, Ord)]
 pub struct ArrangedFit {
-    /// The pages of those that were looked at that are sound and in their turn: the first one of its block, or behind one that is not erased and has
-    /// no later sequence.
+    /// The pages of those that were looked at that are sound and in their turn: the first one of its block, or behind one that is not
+    /// sound nor erased, or has an earlier sequence.
     pub in_turn: Reverse<u32>,
     /// The geometry, and what the dump says for it when it is put in order.
     pub fit: Fit,
