@@ -134,11 +134,11 @@ def says_text(row, kind, number, sequence, newer):
 
 
 def damaged_text(count):
-    return f"damaged {count}: so many sectors are shown as an unsound page reads, nothing sound being newer"
+    return f"damaged {count}: so many sectors are shown as an unsound page reads, nothing sound that counts being newer"
 
 
 def origin_text(count):
-    return f"mended {count}: so many sectors are shown of a page that none of the readings has"
+    return f"mended {count}: so many sectors are shown of a page that none of the readings has in its row"
 
 
 def legible_text(legible, others):

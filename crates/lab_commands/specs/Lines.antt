@@ -211,11 +211,11 @@ legible_words legible others =
 
 -- how many sectors are shown as pages have them that are not sound
 abbrev pub damaged_words : ℕ → List ℕ
-damaged_words n = codes "damaged " ++ (decimal n ++ codes ": so many sectors are shown as an unsound page reads, nothing sound being newer")
+damaged_words n = codes "damaged " ++ (decimal n ++ codes ": so many sectors are shown as an unsound page reads, nothing sound that counts being newer")
 
 -- how many are shown of a page that no reading has
 abbrev pub origin_words : ℕ → List ℕ
-origin_words n = codes "mended " ++ (decimal n ++ codes ": so many sectors are shown of a page that none of the readings has")
+origin_words n = codes "mended " ++ (decimal n ++ codes ": so many sectors are shown of a page that none of the readings has in its row")
 
 -- how many pages of a sector are still there, and how many pages are neither erased nor sound
 abbrev pub history_words : ℕ → ℕ → List ℕ

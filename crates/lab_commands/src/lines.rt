@@ -597,7 +597,7 @@ fn put_damaged<W: Output>(out: &mut W, sectors: u64) -> Result<(), OutputFault>
         out,
         "damaged ",
         sectors,
-        ": so many sectors are shown as an unsound page reads, nothing sound being newer",
+        ": so many sectors are shown as an unsound page reads, nothing sound that counts being newer",
     )
 }
 

@@ -16,7 +16,7 @@ pub(crate) fn put_origin<W: Output>(out: &mut W, sectors: u64) -> Result<(), Out
         out,
         "mended ",
         sectors,
-        ": so many sectors are shown of a page that none of the readings has",
+        ": so many sectors are shown of a page that none of the readings has in its row",
     )
 }
 

@@ -51,7 +51,7 @@ legible 6: if what these pages say is so, at most 1 sectors may be older that ar
 unsound 7: at most 7 sectors may be older than the last write, if no page was lost behind the last one of its block\n";
 
 const TOLD_DAMAGED: &str =
-    "damaged 3: so many sectors are shown as an unsound page reads, nothing sound being newer
+    "damaged 3: so many sectors are shown as an unsound page reads, nothing sound that counts being newer
 unsound row 8 says sector 3 sequence 9 newer
 unsound row 14 says trim 6 sequence 12 newer
 unsound row 16 says sector 7 sequence 13 newer
@@ -66,7 +66,7 @@ const DOCUMENT: &str = r#"[{"command":"array","line":"command","program":"nandla
 "#;
 
 const UNTIL_11: &str =
-    "damaged 1: so many sectors are shown as an unsound page reads, nothing sound being newer
+    "damaged 1: so many sectors are shown as an unsound page reads, nothing sound that counts being newer
 unsound 7: as of sequence 11, the newest of what is still there\n";
 
 const SOUND: &str = "# Mapfile of an array, made by nandlab
