@@ -1,5 +1,5 @@
 -- What the command `merge` comes to.
-use Rattle.std.proofs.Common.{◌≡◌, ◌≢◌, inl, inr, ℕ, zero, suc, ◌+◌, ◌<◌, Bool, true, false, List, [], ◌∷◌, ◌++◌, length, get_or, map, Option, None, refl, ap, sym, subst, ◌∙◌, arith}
+use Rattle.std.proofs.Common.{◌≡◌, ◌≢◌, inl, inr, ℕ, zero, suc, ◌+◌, ◌<◌, Bool, true, false, List, [], ◌∷◌, ◌++◌, length, get_or, map, Option, None, option_map, refl, ap, sym, subst, ◌∙◌, arith}
 use Rattle.std.proofs.lemmas.Bool.{cases_eq}
 use Rattle.std.proofs.lemmas.List.{get_or-map, get_or_append_left, get_or_push, length-map, length_push, map-append}
 use Rattle.std.specs.Borrow.{Bor}
@@ -7,16 +7,16 @@ use Rattle.page_layout.specs.declared.geometry.Geometry.{Geometry}
 use Rattle.lab_mend.specs.declared.merge.MergeFault.{MergeFault}
 use Rattle.lab_mend.specs.declared.merge.MergeFault.TheVariants as merge
 use Rattle.lab_dump.specs.Scan.{Tell}
-use Rattle.lab_mend.specs.Merged.{IsOfReading, IsUnmerged}
+use Rattle.lab_mend.specs.Merged.{IsOfReading, IsPinned, IsUnmerged}
 use Rattle.lab_commands.specs.declared.words.MergeWords.{MergeWords}
 use Rattle.program_words.specs.Met.{texts}
 use Rattle.lab_commands.specs.declared.files.Standing.{Standing}
 use Rattle.lab_commands.specs.declared.files.Standing.TheVariants as standing
 use Rattle.lab_commands.specs.declared.text.LabFault.{LabFault}
 use Rattle.lab_commands.specs.declared.text.LabFault.TheVariants as fault
-use Rattle.lab_commands.specs.Files.{AnswersNoMore, IsFileOpened, StandsAtPath, Store, StoreAnswers}
+use Rattle.lab_commands.specs.Files.{AnswersNoMore, IsFileOpened, StandsAtPath, Store, StoreAnswers, after_opens}
 use Rattle.lab_commands.specs.Undone.{IsKeptThere, IsUnread, IsUnwritten}
-use Rattle.lab_commands.specs.Merge.{AreOpened, AreOpenedBelow, AreOthersBelow, HasSame, IsSomeUnread, IsUnmergedTo, MayNotMerge, TellsFault, dumps_of}
+use Rattle.lab_commands.specs.Merge.{AreOpened, AreOpenedBelow, AreOthersBelow, HasSame, IsOfFailed, IsSomeUnread, IsUnmergedTo, MayNotMerge, TellsFault, dumps_of}
 use Rattle.lab_commands.proofs.UndoneLemmas.{no_more_then, opened_before, unread_before}
 
 -- ---- the paths
@@ -70,6 +70,10 @@ opened_next f a b d before after later ds rs more r n w had has room l h next sa
   places = wide ∙ h.places;
 }
 
+-- one more was opened
+pub opens_next : (n : ℕ) (opens now later : Option ℕ) → now ≡ after_opens n opens → later ≡ option_map suc now → later ≡ after_opens (n + 1) opens
+opens_next n opens now later before one = let next : suc n ≡ n + 1 = omega arith in one ∙ (ap (option_map suc) before ∙ ap (λ k. after_opens k opens) next)
+
 -- each reader that has failed says that a read did
 abbrev pub TellsFailing : {R : Type 0} → (R → Bool) → Type 0 → Type 0
 TellsFailing {R} failed reads = (reader : R) → failed reader ≡ true → reads
@@ -108,9 +112,16 @@ merge_kept_there a words what _ said some other k = absurd k
 
 -- ---- the dumps and OUT
 
+-- a read that failed is told with the path of a reader that has
+pub told_of_failed : (paths : List (List ℕ)) (out : List ℕ) (failed : List Bool) (target : Bool) (f : MergeFault) (told : LabFault) → IsPinned failed target f → TellsFault f paths out told → IsOfFailed failed paths told
+told_of_failed paths out failed target (merge.WrongLength i) (fault.DumpLength word) pinned is = tt
+told_of_failed paths out failed target (merge.Source i) (fault.Read word) pinned is = (i, sym is, pinned)
+told_of_failed paths out failed target merge.Target (fault.Write word) pinned is = tt
+told_of_failed paths out failed target _ _ pinned is = absurd is
+
 pub unmerged_as : (a : StoreAnswers) (paths : List (List ℕ)) (g : Geometry) (out : List ℕ) (known : List (Option (List ℕ))) (f : MergeFault) (told : LabFault) → AreOpened a paths known → IsOfReading (length paths) f
     → ((files : List (List ℕ)) → Tell known files → IsUnmerged g files f) → ((i : ℕ) → f ≡ merge.Source i → a.reads_fail) → (f ≡ merge.Target → a.writes_fail) → TellsFault f paths out told → IsUnmergedTo a paths g out told
-unmerged_as a paths g out known (merge.WrongLength i) (fault.DumpLength word) opened of h reads writes is = record { known = known; opened = opened; place = i; within = of; named = sym is; odd = λ files tell. (h files tell).1 }
+unmerged_as a paths g out known (merge.WrongLength i) (fault.DumpLength word) opened of h reads writes is = record { known = known; opened = opened; place = i; within = of; named = sym is; first = h }
 unmerged_as a paths g out known (merge.Source i) (fault.Read word) opened of h reads writes is = ((i, of, sym is), (known, opened), reads i refl)
 unmerged_as a paths g out known merge.Target (fault.Write word) opened of h reads writes is = (is, (known, opened), writes refl)
 unmerged_as a paths g out known _ _ opened of h reads writes is = absurd is

@@ -4,7 +4,7 @@ use Rattle.page_layout.specs.declared.geometry.Geometry.{Geometry}
 use Rattle.lab_origin.specs.declared.readings.ReadingFault.TheVariants as reading
 use Rattle.lab_origin.specs.declared.trace.OriginFault.{OriginFault}
 use Rattle.lab_origin.specs.declared.trace.OriginFault.TheVariants as origin
-use Rattle.lab_origin.specs.Traced.{IsOfSome, IsUntraced}
+use Rattle.lab_origin.specs.Traced.{ArePinned, IsOfSome, IsUntraced}
 use Rattle.lab_commands.specs.declared.origin_words.OriginWords.{OriginWords}
 use Rattle.lab_commands.specs.declared.files.Standing.{Standing}
 use Rattle.lab_commands.specs.declared.files.Standing.TheVariants as standing
@@ -13,7 +13,7 @@ use Rattle.lab_commands.specs.declared.text.LabFault.TheVariants as fault
 use Rattle.lab_commands.specs.Files.{AnswersNoMore, IsFileOpened, StandsAtPath, StoreAnswers}
 use Rattle.lab_commands.specs.Merge.{AreOpened, HasSame, IsSomeUnread}
 use Rattle.lab_commands.specs.Undone.{IsKeptThere, IsMapUnplaced, IsUnplaced, IsUnread, IsUnwritten}
-use Rattle.lab_commands.specs.Origin.{IsUntracedTo, MayNotMap, TellsOrigin, readings_of}
+use Rattle.lab_commands.specs.Origin.{IsOfFailedReading, IsUntracedTo, MayNotMap, TellsOrigin, readings_of}
 use Rattle.lab_commands.proofs.UndoneLemmas.{opened_before, unread_before}
 
 -- ---- whether OUT may be written
@@ -44,11 +44,19 @@ origin_kept_there a words what _ said some dump other k = absurd k
 
 pub untraced_as : (a : StoreAnswers) (words : OriginWords) (g : Geometry) (known : Option (List ℕ)) (readings : List (Option (List ℕ))) (f : OriginFault) (told : LabFault) → IsFileOpened a words.dump.now known → AreOpened a (readings_of words) readings
     → IsOfSome (length (readings_of words)) f → IsUntraced g known readings f → (f ≡ origin.Source → a.reads_fail) → ((i : ℕ) → f ≡ origin.Reading (reading.Source i) → a.reads_fail) → TellsOrigin f words told → IsUntracedTo a words g told
-untraced_as a words g known readings origin.WrongLength told opened each of h reads one is = subst (IsUntracedTo a words g) (sym is) (record { known = known; opened = opened; other = h })
+untraced_as a words g known readings origin.WrongLength told opened each of h reads one is = subst (IsUntracedTo a words g) (sym is) (record { known = known; opened = opened; other = h }, (readings, each))
 untraced_as a words g known readings origin.Source told opened each of h reads one is = subst (IsUntracedTo a words g) (sym is) (inl refl, record { known = known; opened = opened }, (readings, each), reads refl)
-untraced_as a words g known readings (origin.Reading (reading.WrongLength i)) (fault.ReadingLength word) opened each of h reads one is = record { readings = readings; opened = each; place = i; within = of; named = sym is; odd = h }
+untraced_as a words g known readings (origin.Reading (reading.WrongLength i)) (fault.ReadingLength word) opened each of h reads one is = record { known = known; readings = readings; dump_opened = opened; opened = each; whole = h.0; place = i; within = of; named = sym is; first = h.1 }
 untraced_as a words g known readings (origin.Reading (reading.Source i)) (fault.Read word) opened each of h reads one is = (inr (i, of, sym is), record { known = known; opened = opened }, (readings, each), one i refl)
 untraced_as a words g known readings (origin.Reading why) _ opened each of h reads one is = absurd is
+
+-- a read of a reading that failed is told with the path of one that has
+pub told_of_failed_reading : (words : OriginWords) (dump : Bool) (failed : List Bool) (f : OriginFault) (told : LabFault) → ArePinned dump failed f → TellsOrigin f words told → IsOfFailedReading failed words told
+told_of_failed_reading words dump failed origin.WrongLength told pinned is = subst (IsOfFailedReading failed words) (sym is) tt
+told_of_failed_reading words dump failed origin.Source told pinned is = subst (IsOfFailedReading failed words) (sym is) (inl refl)
+told_of_failed_reading words dump failed (origin.Reading (reading.WrongLength i)) (fault.ReadingLength word) pinned is = tt
+told_of_failed_reading words dump failed (origin.Reading (reading.Source i)) (fault.Read word) pinned is = inr (i, sym is, pinned)
+told_of_failed_reading words dump failed (origin.Reading why) _ pinned is = absurd is
 
 -- what was said of the readings once the dump was opened
 pub each_opened_before : (a b : StoreAnswers) (paths : List (List ℕ)) (known : List (Option (List ℕ))) → AnswersNoMore a b → AreOpened b paths known → AreOpened a paths known

@@ -1,5 +1,5 @@
 -- What the files that are read may answer, and those that were put in their places.
-use Rattle.std.specs.Prelude.{◌≡◌, ◌≢◌, ℕ, suc, ◌-◌, Bool, true, false, List, [], ◌∷◌, ◌++◌, Option, Some, IfSome, IsSome, All, take, Result, Ok, Err}
+use Rattle.std.specs.Prelude.{◌≡◌, ◌≢◌, ℕ, zero, suc, ◌-◌, Bool, true, false, List, [], ◌∷◌, ◌++◌, Option, Some, IfSome, IsSome, All, take, Result, Ok, Err}
 use Rattle.std.specs.List.{concat}
 use Rattle.std.specs.Option.{option_map}
 use Rattle.lab_commands.specs.declared.files.LabFileFault.{LabFileFault}
@@ -87,6 +87,11 @@ with_part store = option_map (λ s. record { put = s.put; beside = suc s.beside 
 -- one that was made no longer stands beside its place
 abbrev pub without_part : Option Store → Option Store
 without_part store = option_map (λ s. record { put = s.put; beside = s.beside - 1 }) store
+
+-- how many files were opened after so many more
+abbrev pub after_opens : ℕ → Option ℕ → Option ℕ
+after_opens zero opens = opens
+after_opens (suc n) opens = option_map suc (after_opens n opens)
 
 -- the files after one more was to be made, by the answer
 abbrev pub made_after : {T E : Type 0} → Option Store → Result T E → Option Store

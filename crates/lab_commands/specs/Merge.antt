@@ -2,12 +2,12 @@
 use Rattle.std.specs.Prelude.{◌≡◌, ◌⊎◌, ℕ, ◌<◌, Bool, true, false, List, [], length, get_or, Option, None}
 use Rattle.std.specs.Io.KnownBytes.{Appends}
 use Rattle.page_layout.specs.declared.geometry.Geometry.{Geometry}
-use Rattle.lab_dump.specs.Scan.{image_bytes, Tell}
+use Rattle.lab_dump.specs.Scan.{Tell}
 use Rattle.lab_mend.specs.declared.merge.MergeFault.{MergeFault}
 use Rattle.lab_mend.specs.declared.merge.MergeFault.TheVariants as merge
 use Rattle.lab_mend.specs.declared.merging.RowTally.{RowTally}
 use Rattle.lab_mend.specs.declared.merging.TriedRow.{TriedRow}
-use Rattle.lab_mend.specs.Merged.{IsMerged, IsOwnMerge}
+use Rattle.lab_mend.specs.Merged.{IsMerged, IsOddFirst, IsOwnMerge}
 use Rattle.lab_commands.specs.Reports.{merge_text}
 use Rattle.lab_commands.specs.declared.words.MergeWords.{MergeWords}
 use Rattle.lab_commands.specs.declared.files.Standing.TheVariants as standing
@@ -103,21 +103,32 @@ OpensEach a paths = (known : List (Option (List ℕ))) × AreOpened a paths know
 abbrev pub IsOneOf : List (List ℕ) → List ℕ → Type 0
 IsOneOf paths path = (i : ℕ) × (i < length paths) × (get_or paths i [] ≡ path)
 
--- all were opened, and where their bytes are known those of one, of this path, are not as many as an image has
+-- all were opened, and where their bytes are known the one of this path is the first that is seen to have another length than an image
 pub record HasOddLength (a : StoreAnswers) (paths : List (List ℕ)) (g : Geometry) (path : List ℕ) : Type 0 where
   pub known : List (Option (List ℕ))
   pub opened : AreOpened a paths known
   pub place : ℕ
   pub within : place < length paths
   pub named : get_or paths place [] ≡ path
-  pub odd : (files : List (List ℕ)) → Tell known files → ¬ (length (get_or files place []) ≡ image_bytes g)
+  pub first : (files : List (List ℕ)) → Tell known files → IsOddFirst g files place
 
--- why dumps that were opened were not merged: a read or a write failed
+-- why dumps that were opened were not merged: one has another length, or a read or a write failed
 abbrev pub IsUnmergedTo : StoreAnswers → List (List ℕ) → Geometry → List ℕ → LabFault → Type 0
 IsUnmergedTo a paths g out (fault.DumpLength told) = HasOddLength a paths g told.now
 IsUnmergedTo a paths g out (fault.Read told) = IsOneOf paths told.now × OpensEach a paths × a.reads_fail
 IsUnmergedTo a paths g out (fault.Write told) = (told.now ≡ out) × OpensEach a paths × a.writes_fail
 IsUnmergedTo a paths g out _ = ⊥
+
+-- Whose fault is told where the dumps were opened: a failed read is that of a reader that has failed.
+abbrev pub IsOfFailed : (failed : List Bool) → List (List ℕ) → LabFault → Type 0
+IsOfFailed failed paths (fault.DumpLength told) = Unit {0}
+IsOfFailed failed paths (fault.Read told) = (i : ℕ) × (get_or paths i [] ≡ told.now) × (get_or failed i false ≡ true)
+IsOfFailed failed paths (fault.Write told) = Unit {0}
+IsOfFailed failed paths _ = ⊥
+
+-- or a dump was not opened, or no file made
+abbrev pub TellsOwnPath : StoreAnswers → (failed : List Bool) → List (List ℕ) → List ℕ → LabFault → Type 0
+TellsOwnPath a failed paths out told = IsSomeUnread a paths told ⊎ IsUnwritten a out told ⊎ IsOfFailed failed paths told
 
 -- the fault of the merge is told so: that of a reading with its path
 abbrev pub TellsFault : MergeFault → List (List ℕ) → List ℕ → LabFault → Type 0

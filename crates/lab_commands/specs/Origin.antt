@@ -1,16 +1,16 @@
 -- What the command `origin` comes to.
-use Rattle.std.specs.Prelude.{◌≡◌, ◌⊎◌, ℕ, ◌<◌, Bool, true, false, List, [], ◌∷◌, length, get_or, Option, Some, None, IfSome}
+use Rattle.std.specs.Prelude.{◌≡◌, ◌⊎◌, ℕ, ◌<◌, Bool, true, false, List, [], ◌∷◌, length, get_or, Option, Some}
 use Rattle.std.specs.Io.KnownBytes.{Appends}
 use Rattle.page_layout.specs.declared.geometry.Geometry.{Geometry}
 use Rattle.lab_dump.specs.Map.{map_text}
-use Rattle.lab_dump.specs.Scan.{image_bytes, Tell}
+use Rattle.lab_dump.specs.Scan.{Tell}
 use Rattle.lab_dump.specs.declared.map_head.Remark.TheVariants as remark
 use Rattle.lab_dump.specs.declared.mark.MapMark.{MapMark}
 use Rattle.lab_origin.specs.declared.readings.ReadingFault.{ReadingFault}
 use Rattle.lab_origin.specs.declared.readings.ReadingFault.TheVariants as reading
 use Rattle.lab_origin.specs.declared.trace.OriginFault.{OriginFault}
 use Rattle.lab_origin.specs.declared.trace.OriginFault.TheVariants as origin
-use Rattle.lab_origin.specs.Traced.{IsTraced}
+use Rattle.lab_origin.specs.Traced.{IsFirstOdd, IsOfRightLength, IsTraced}
 use Rattle.program_words.specs.Met.{texts}
 use Rattle.lab_commands.specs.Reports.{origin_text}
 use Rattle.lab_commands.specs.declared.origin_words.OriginWords.{OriginWords}
@@ -81,21 +81,35 @@ pub record WroteOrigin (a : StoreAnswers) (words : OriginWords) (before after : 
 
 -- ---- not done
 
--- all readings were opened, and the bytes of one, of this path, are not as many as an image has, where they are known
-pub record HasOddReading (a : StoreAnswers) (paths : List (List ℕ)) (g : Geometry) (path : List ℕ) : Type 0 where
+-- the dump and all readings were opened, and where their bytes are known the dump has as many as an image, and the one of this path is the first reading that has not
+pub record HasOddReading (a : StoreAnswers) (dump : List ℕ) (paths : List (List ℕ)) (g : Geometry) (path : List ℕ) : Type 0 where
+  pub known : Option (List ℕ)
   pub readings : List (Option (List ℕ))
+  pub dump_opened : IsFileOpened a dump known
   pub opened : AreOpened a paths readings
+  pub whole : IsOfRightLength g known
   pub place : ℕ
   pub within : place < length paths
   pub named : get_or paths place [] ≡ path
-  pub odd : IfSome (get_or readings place None) (λ bytes. ¬ (length bytes ≡ image_bytes g))
+  pub first : IsFirstOdd g readings place
 
 -- why a dump and readings that were opened were not held side by side: one has another length, or a read failed
 abbrev pub IsUntracedTo : StoreAnswers → OriginWords → Geometry → LabFault → Type 0
-IsUntracedTo a words g fault.WrongLength = OpensOther a g words.dump.now
-IsUntracedTo a words g (fault.ReadingLength told) = HasOddReading a (readings_of words) g told.now
+IsUntracedTo a words g fault.WrongLength = OpensOther a g words.dump.now × OpensEach a (readings_of words)
+IsUntracedTo a words g (fault.ReadingLength told) = HasOddReading a words.dump.now (readings_of words) g told.now
 IsUntracedTo a words g (fault.Read told) = ((told.now ≡ words.dump.now) ⊎ IsOneOf (readings_of words) told.now) × OpensForReading a words.dump.now × OpensEach a (readings_of words) × a.reads_fail
 IsUntracedTo a words g _ = ⊥
+
+-- Whose fault is told where all were opened: a failed read is the dump's, which has failed, or that of a reading that has.
+abbrev pub IsOfFailedReading : (failed : List Bool) → OriginWords → LabFault → Type 0
+IsOfFailedReading failed words fault.WrongLength = Unit {0}
+IsOfFailedReading failed words (fault.ReadingLength told) = Unit {0}
+IsOfFailedReading failed words (fault.Read told) = (told.now ≡ words.dump.now) ⊎ ((i : ℕ) × (get_or (readings_of words) i [] ≡ told.now) × (get_or failed i false ≡ true))
+IsOfFailedReading failed words _ = ⊥
+
+-- or one was not opened
+abbrev pub TellsItsPath : StoreAnswers → (failed : List Bool) → OriginWords → LabFault → Type 0
+TellsItsPath a failed words told = IsUnread a words.dump.now told ⊎ IsSomeUnread a (readings_of words) told ⊎ IsOfFailedReading failed words told
 
 -- how it is told
 abbrev pub TellsReading : ReadingFault → List (List ℕ) → LabFault → Type 0

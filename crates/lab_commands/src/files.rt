@@ -147,24 +147,28 @@ pub trait LabFiles {
         ensures blank { IfOk result (λ target. IfSome (Self.Target.pieces target) (λ ps. ps ≡ replicate count (replicate size 0))) }
         ensures failed { IfErr result ((answers self.old).fails path.now) }
         ensures no_more { AnswersNoMore (answers self.old) (answers self.new) }
-        ensures kept { kept self.new ≡ made_after (kept self.old) result };
+        ensures kept { kept self.new ≡ made_after (kept self.old) result }
+        ensures opened { opened self.new ≡ opened self.old };
 
     /// Puts a file that was made in the place of this path, once all of it is stored. Where that fails what stood there still does, and the file
     /// that was made is removed. Only where it may stand over another one does it replace what has the name.
     fn keep(&mut self, path: &str, target: Self::Target, over: bool) -> Result<(), KeepFault>
         ensures done { kept self.new ≡ files_kept_after (without_part (kept self.old)) path.now (Self.Target.pieces target) over result }
         ensures failed { IfErr result (IsFileUnkept (answers self.old) path.now over) }
-        ensures no_more { AnswersNoMore (answers self.old) (answers self.new) };
+        ensures no_more { AnswersNoMore (answers self.old) (answers self.new) }
+        ensures opened { opened self.new ≡ opened self.old };
 
     /// Puts a file of this map's bytes in the place of this path, once all of it is stored. Where that fails what stood there still does. Only where
     /// it may stand over another one does it replace what has the name.
     fn store<M: MapText>(&mut self, path: &str, map: &M, over: bool) -> Result<(), KeepFault>
         requires { M.whole map.now }
         ensures done { kept self.new ≡ files_kept_after (kept self.old) path.now (Some (M.text map.now ∷ [])) over result }
-        ensures failed { IfErr result (IsFileUnkept (answers self.old) path.now over) };
+        ensures failed { IfErr result (IsFileUnkept (answers self.old) path.now over) }
+        ensures opened { opened self.new ≡ opened self.old };
 
     /// Removes a file that was made.
     fn discard(&mut self, target: Self::Target)
         ensures no_more { AnswersNoMore (answers self.old) (answers self.new) }
-        ensures kept { kept self.new ≡ without_part (kept self.old) };
+        ensures kept { kept self.new ≡ without_part (kept self.old) }
+        ensures opened { opened self.new ≡ opened self.old };
 }

@@ -3,8 +3,8 @@ ghost use Rattle.std.specs.Prelude.{◌≡◌, ◌<◌, ◌≤◌, [], length, m
 ghost use Rattle.lab_mend.specs.Merged.{IsOfReading};
 ghost use Rattle.lab_mend.specs.Rooms.{IsMergeRoom};
 ghost use Rattle.program_words.specs.Met.{texts};
-ghost use Rattle.lab_commands.specs.Files.{AnswersNoMore, without_part};
-ghost use Rattle.lab_commands.specs.Merge.{AreOpened, HasPutJoined, HasSame, IsJoined, IsMergeFault, IsSomeUnread, IsUnjoined, IsUnmergedBy, IsMergeUnput, MayMerge, MayNotMerge, PutMerge, TellsFault, WroteMerge};
+ghost use Rattle.lab_commands.specs.Files.{AnswersNoMore, after_opens, without_part};
+ghost use Rattle.lab_commands.specs.Merge.{AreOpened, HasPutJoined, HasSame, IsJoined, IsMergeFault, IsSomeUnread, IsUnjoined, IsUnmergedBy, IsMergeUnput, MayMerge, MayNotMerge, PutMerge, TellsFault, TellsOwnPath, WroteMerge};
 ghost use Rattle.lab_commands.specs.Merge.{dumps_of};
 
 use crate::files::{LabFiles, Progress, Standing};
@@ -69,6 +69,7 @@ fn open_all<'a, F: LabFiles>(
     ensures fault { IfErr result (IsSomeUnread (F.answers files.old) (texts dumps.now)) }
     ensures no_more { AnswersNoMore (F.answers files.old) (F.answers files.new) }
     ensures kept { F.kept files.new ≡ F.kept files.old }
+    ensures once { OnOk result (F.opened files.new ≡ after_opens (length dumps.now) (F.opened files.old)) }
 {
     for place in 0..dumps.len() {
         let shown = if place == 0 {
@@ -131,9 +132,11 @@ fn join_by<'a, F: LabFiles>(
     requires places { length words.now.dumps.items ≤ vec_capacity readers.old }
     ensures made { IfOk result (λ told. IsJoined (F.answers files.old) (dumps_of words.now) geometry.now (F.Target.pieces told.target) told.conflicts.items told.unsound.items told.tried.items told.tally) }
     ensures fault { IfErr result (IsUnjoined (F.answers files.old) (dumps_of words.now) geometry.now words.now.out.now) }
+    ensures named { IfErr result (TellsOwnPath (F.answers files.old) (map F.Reader.failed readers.new.items) (dumps_of words.now) words.now.out.now) }
     ensures no_more { AnswersNoMore (F.answers files.old) (F.answers files.new) }
     ensures beside { OnOk result (without_part (F.kept files.new) ≡ F.kept files.old) }
     ensures kept { OnErr result (F.kept files.new ≡ F.kept files.old) }
+    ensures opened { OnOk result (F.opened files.new ≡ after_opens (length words.now.dumps.items) (F.opened files.old)) }
 {
     open_all(&words.dumps, progress_of(words.showing), files, readers)?;
     let size = geometry.data_bytes() + geometry.spare_bytes();
@@ -163,6 +166,7 @@ fn join<'a, F: LabFiles>(
     ensures no_more { AnswersNoMore (F.answers files.old) (F.answers files.new) }
     ensures beside { OnOk result (without_part (F.kept files.new) ≡ F.kept files.old) }
     ensures kept { OnErr result (F.kept files.new ≡ F.kept files.old) }
+    ensures opened { OnOk result (F.opened files.new ≡ after_opens (length words.now.dumps.items) (F.opened files.old)) }
 {
     let mut readers = room.readers;
     join_by(room.merge, words, geometry, files, &mut readers)
@@ -188,6 +192,7 @@ fn put_joined<'a, F: LabFiles>(
     ensures put { IfOk result (λ told. HasPutJoined (F.answers files.old) words.now (F.kept files.old) (F.kept files.new) geometry.now told.conflicts.items told.unsound.items told.tried.items told.tally) }
     ensures fault { IfErr result (IsMergeUnput (F.answers files.old) words.now geometry.now (F.opened files.old) (F.opened files.new)) }
     ensures kept { OnErr result (F.kept files.new ≡ F.kept files.old) }
+    ensures opened { OnOk result (F.opened files.new ≡ after_opens (length words.now.dumps.items) (F.opened files.old)) }
 {
     let room = take_room(alloc, geometry, words.dumps.len())?;
     let merged = join(room, words, geometry, files)?;
@@ -210,6 +215,7 @@ fn place<'a, F: LabFiles>(
     ensures placed { IfOk result (λ told. PutMerge (F.answers files.old) words.now (F.kept files.old) (F.kept files.new) told.conflicts.items told.unsound.items told.tried.items told.tally) }
     ensures fault { IfErr result (IsUnmergedBy (F.answers files.old) words.now (F.opened files.old) (F.opened files.new)) }
     ensures kept { OnErr result (F.kept files.new ≡ F.kept files.old) }
+    ensures opened { OnOk result (F.opened files.new ≡ after_opens (length words.now.dumps.items) (F.opened files.old)) }
 {
     let geometry = geometry_at(words.geometry)?;
     allow_merge(files, words)?;
@@ -239,6 +245,7 @@ pub(crate) fn merge_command<'a, F: LabFiles, W: Output>(
     requires { 0 < length words.dumps.items }
     ensures ok { OnOk result (WroteMerge (F.answers files.old) words.entry (F.kept files.old) (F.kept files.new) (W.contents out.old) (W.contents out.new)) }
     ensures fault { IfErr result (IsMergeFault (F.answers files.old) words.entry (F.kept files.old) (F.kept files.new) (F.opened files.old) (F.opened files.new) (W.failed out.new) (W.contents out.old) (W.contents out.new)) }
+    ensures opened { OnOk result (F.opened files.new ≡ after_opens (length words.entry.dumps.items) (F.opened files.old)) }
 {
     let told = place(alloc, &words, files)?;
     ended(print_merged(

@@ -1,5 +1,5 @@
 //! The words and the files that each command begins with.
-ghost use Rattle.std.specs.Prelude.{◌≡◌, ◌≢◌, [], ◌∷◌, Some, true, IfOk, IfErr, IfSome, OnOk, OnErr, length, replicate};
+ghost use Rattle.std.specs.Prelude.{◌≡◌, ◌≢◌, [], ◌∷◌, suc, Some, true, IfOk, IfErr, IfSome, OnOk, OnErr, length, option_map, replicate};
 ghost use Rattle.page_layout.specs.Geometry.{row_count};
 ghost use Rattle.lab_commands.specs.declared.files.Standing.TheVariants.{Nothing};
 ghost use Rattle.lab_commands.specs.Files.{AnswersNoMore, IsFileOpened, with_kept, without_part};
@@ -52,6 +52,7 @@ pub(crate) fn open_file<'a, F: LabFiles>(
     ensures fault { IfErr result (IsUnread (F.answers files.old) path.now) }
     ensures no_more { AnswersNoMore (F.answers files.old) (F.answers files.new) }
     ensures kept { F.kept files.new ≡ F.kept files.old }
+    ensures opened { F.opened files.new ≡ option_map suc (F.opened files.old) }
 {
     match files.open(path, progress) {
         Ok(reader) => Ok(reader),
@@ -71,6 +72,7 @@ pub(crate) fn open_dump<'a, F: LabFiles>(
     ensures fault { IfErr result (IsUnread (F.answers files.old) path.now) }
     ensures no_more { AnswersNoMore (F.answers files.old) (F.answers files.new) }
     ensures kept { F.kept files.new ≡ F.kept files.old }
+    ensures opened { F.opened files.new ≡ option_map suc (F.opened files.old) }
 {
     match files.open_dump(path, progress) {
         Ok(dump) => Ok(dump),
@@ -100,6 +102,7 @@ pub(crate) fn unmade<'a, F: LabFiles>(
     ensures told { result ≡ unmade_as unwritten.fault dump.entry out.entry }
     ensures no_more { AnswersNoMore (F.answers files.old) (F.answers files.new) }
     ensures kept { F.kept files.new ≡ without_part (F.kept files.old) }
+    ensures opened { F.opened files.new ≡ F.opened files.old }
 {
     files.discard(unwritten.target);
     unmade_as(unwritten.fault, dump, out)
@@ -204,6 +207,7 @@ pub(crate) fn create_beside<'a, F: LabFiles>(
     ensures no_more { AnswersNoMore (F.answers files.old) (F.answers files.new) }
     ensures made { OnOk result (without_part (F.kept files.new) ≡ F.kept files.old) }
     ensures kept { OnErr result (F.kept files.new ≡ F.kept files.old) }
+    ensures opened { F.opened files.new ≡ F.opened files.old }
 {
     match files.create(path, count, size) {
         Ok(target) => Ok(target),
@@ -229,6 +233,7 @@ pub(crate) fn begin_file<'a, F: LabFiles>(
     ensures no_more { AnswersNoMore (F.answers files.old) (F.answers files.new) }
     ensures made { OnOk result (without_part (F.kept files.new) ≡ F.kept files.old) }
     ensures kept { OnErr result (F.kept files.new ≡ F.kept files.old) }
+    ensures opened { F.opened files.new ≡ option_map suc (F.opened files.old) }
 {
     let reader = open_file(files, dump, progress_of(showing))?;
     let target = create_beside(files, path, count, size)?;
@@ -251,6 +256,7 @@ pub(crate) fn begin_pages<'a, F: LabFiles>(
     ensures no_more { AnswersNoMore (F.answers files.old) (F.answers files.new) }
     ensures made { OnOk result (without_part (F.kept files.new) ≡ F.kept files.old) }
     ensures kept { OnErr result (F.kept files.new ≡ F.kept files.old) }
+    ensures opened { F.opened files.new ≡ option_map suc (F.opened files.old) }
 {
     let size = geometry.data_bytes() + geometry.spare_bytes();
     begin_file(files, dump, path, showing, geometry.rows(), size)
@@ -267,6 +273,7 @@ pub(crate) fn keep<'a, F: LabFiles>(
     ensures fault { IfErr result (IsUnplaced (F.answers files.old) path.now force) }
     ensures no_more { OnOk result (AnswersNoMore (F.answers files.old) (F.answers files.new)) }
     ensures kept { OnErr result (F.kept files.new ≡ without_part (F.kept files.old)) }
+    ensures opened { F.opened files.new ≡ F.opened files.old }
 {
     match files.keep(path, target, force) {
         Ok(()) => Ok(()),
@@ -287,6 +294,7 @@ pub(crate) fn store_map<'a, F: LabFiles, M: MapText>(
     ensures ok { OnOk result (F.kept files.new ≡ with_kept (F.kept files.old) path.now (Some (M.text map.now ∷ [])) force) }
     ensures fault { IfErr result (IsMapUnplaced (F.answers files.old) path.now force) }
     ensures kept { OnErr result (F.kept files.new ≡ F.kept files.old) }
+    ensures opened { F.opened files.new ≡ F.opened files.old }
 {
     match files.store(path, map, force) {
         Ok(()) => Ok(()),

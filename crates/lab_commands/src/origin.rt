@@ -1,14 +1,14 @@
 //! The command `origin GEOM OUT DUMP READING READING..`.
-ghost use Rattle.std.specs.Prelude.{◌≡◌, ◌≤◌, [], ◌∷◌, Some, length, map, vec_capacity, OnOk, OnErr, IfOk, IfErr};
+ghost use Rattle.std.specs.Prelude.{◌≡◌, ◌≤◌, [], ◌∷◌, Some, length, map, vec_capacity, OnOk, OnErr, IfOk, IfErr, suc, option_map};
 ghost use Rattle.program_words.specs.Met.{texts};
 ghost use Rattle.lab_dump.specs.declared.map_head.Remark.TheVariants as remark;
 ghost use Rattle.lab_dump.specs.Map.{map_text};
 ghost use Rattle.lab_origin.specs.Traced.{NamesOneOfReadings, IsOfSome};
 ghost use Rattle.lab_origin.specs.Tracing.{IsOriginRoom};
-ghost use Rattle.lab_commands.specs.Files.{AnswersNoMore, with_kept};
+ghost use Rattle.lab_commands.specs.Files.{AnswersNoMore, after_opens, with_kept};
 ghost use Rattle.lab_commands.specs.Merge.{AreOpened, IsSomeUnread};
 ghost use Rattle.lab_commands.specs.Undone.{IsUnplaced};
-ghost use Rattle.lab_commands.specs.Origin.{HasPutMarks, HasPutOrigin, HasTracedMarks, IsOriginFault, IsOriginUndone, IsUnfollowed, IsTracedMapUnput, MayMap, MayNotMap, TellsOrigin, TellsReading, WroteOrigin};
+ghost use Rattle.lab_commands.specs.Origin.{HasPutMarks, HasPutOrigin, HasTracedMarks, IsOriginFault, IsOriginUndone, IsUnfollowed, IsTracedMapUnput, MayMap, MayNotMap, TellsItsPath, TellsOrigin, TellsReading, WroteOrigin};
 
 use crate::files::{LabFiles, Progress, Standing};
 use crate::maps::OriginMap;
@@ -58,6 +58,7 @@ fn open_readings<'a, F: LabFiles>(
     ensures fault { IfErr result (IsSomeUnread (F.answers files.old) (texts paths.now)) }
     ensures no_more { AnswersNoMore (F.answers files.old) (F.answers files.new) }
     ensures kept { F.kept files.new ≡ F.kept files.old }
+    ensures once { OnOk result (F.opened files.new ≡ after_opens (length paths.now) (F.opened files.old)) }
 {
     for place in 0..paths.len() {
         let reading = open_dump(files, paths[place], Progress::Hidden)?;
@@ -127,8 +128,10 @@ fn follow_by<'a, F: LabFiles>(
     ensures followed { IfOk result (λ marks. HasTracedMarks (F.answers files.old) words.now geometry.now last marks.items) }
     ensures sized { IfOk result (λ marks. length marks.items ≡ geometry.now.sectors) }
     ensures fault { IfErr result (IsUnfollowed (F.answers files.old) words.now geometry.now) }
+    ensures named { IfErr result (TellsItsPath (F.answers files.old) (map F.Dump.failed readings.new.items) words.now) }
     ensures no_more { AnswersNoMore (F.answers files.old) (F.answers files.new) }
     ensures kept { F.kept files.new ≡ F.kept files.old }
+    ensures opened { OnOk result (F.opened files.new ≡ after_opens (length words.now.readings.items) (option_map suc (F.opened files.old))) }
 {
     let mut dump = open_dump(files, words.dump, progress_of(words.showing))?;
     open_readings(&words.readings, files, readings)?;
@@ -154,6 +157,7 @@ fn follow<'a, F: LabFiles>(
     ensures fault { IfErr result (IsUnfollowed (F.answers files.old) words.now geometry.now) }
     ensures no_more { AnswersNoMore (F.answers files.old) (F.answers files.new) }
     ensures kept { F.kept files.new ≡ F.kept files.old }
+    ensures opened { OnOk result (F.opened files.new ≡ after_opens (length words.now.readings.items) (option_map suc (F.opened files.old))) }
 {
     let mut readings = room.readings;
     follow_by(room.origin, words, geometry, last, files, &mut readings)
@@ -170,6 +174,7 @@ fn put_origin<'a, F: LabFiles>(
     ensures ok { OnOk result (F.kept files.new ≡ with_kept (F.kept files.old) words.now.out.now (Some (map_text remark.Readings geometry.now marks.now ∷ [])) words.now.force) }
     ensures fault { IfErr result (IsUnplaced (F.answers files.old) words.now.out.now words.now.force) }
     ensures kept { OnErr result (F.kept files.new ≡ F.kept files.old) }
+    ensures opened { F.opened files.new ≡ F.opened files.old }
 {
     let map = OriginMap { geometry, marks };
     match store_map(files, words.out, &map, words.force) {
@@ -189,6 +194,7 @@ fn put_marks<'a, F: LabFiles>(
     ensures put { IfOk result (λ marks. HasPutMarks (F.answers files.old) words.now (F.kept files.old) (F.kept files.new) geometry.now last marks.items) }
     ensures fault { IfErr result (IsTracedMapUnput (F.answers files.old) words.now geometry.now (F.opened files.old) (F.opened files.new)) }
     ensures kept { OnErr result (F.kept files.new ≡ F.kept files.old) }
+    ensures opened { OnOk result (F.opened files.new ≡ after_opens (length words.now.readings.items) (option_map suc (F.opened files.old))) }
 {
     let room = take_room(alloc, geometry, words.readings.len())?;
     let marks = follow(room, words, geometry, last, files)?;
@@ -205,6 +211,7 @@ fn place<'a, F: LabFiles>(
     ensures placed { IfOk result (λ marks. HasPutOrigin (F.answers files.old) words.now (F.kept files.old) (F.kept files.new) marks.items) }
     ensures fault { IfErr result (IsOriginUndone (F.answers files.old) words.now (F.opened files.old) (F.opened files.new)) }
     ensures kept { OnErr result (F.kept files.new ≡ F.kept files.old) }
+    ensures opened { OnOk result (F.opened files.new ≡ after_opens (length words.now.readings.items) (option_map suc (F.opened files.old))) }
 {
     let geometry = geometry_at(words.geometry)?;
     let last = last_at(words.until)?;
@@ -233,6 +240,7 @@ pub(crate) fn origin_command<'a, F: LabFiles, W: Output>(
 ) -> Result<(), LabFault<'a>>
     ensures ok { OnOk result (WroteOrigin (F.answers files.old) words.entry (F.kept files.old) (F.kept files.new) (W.contents out.old) (W.contents out.new)) }
     ensures fault { IfErr result (IsOriginFault (F.answers files.old) words.entry (F.kept files.old) (F.kept files.new) (F.opened files.old) (F.opened files.new) (W.failed out.new) (W.contents out.old) (W.contents out.new)) }
+    ensures opened { OnOk result (F.opened files.new ≡ after_opens (length words.entry.readings.items) (option_map suc (F.opened files.old))) }
 {
     let marks = place(alloc, &words, files)?;
     ended(print_origin(printer(alloc, words.showing), out, &marks))

@@ -49,9 +49,15 @@ ended_early (Some xs) (Some zs) file at size ys h reads few e =
     let long = ap length all in
     omega (arith, length-drop at file, length-append ys zs)
 
-pub cut_at : (known after : Option (List ℕ)) (files : List (List ℕ)) (i at size : ℕ) (cut : Cut) → i < length files → IsAt known (get_or files i []) at → ReadsFewer size known after cut → CutAt files (at + size) i cut
-cut_at known after files i at size Ended within h short = record { within = within; short = ended_early known after (get_or files i []) at size short.bytes h short.read short.few short.ends }
-cut_at known after files i at size Failed within h short = within
+pub cut_at : (known after : Option (List ℕ)) (files : List (List ℕ)) (i at size : ℕ) (cut : Cut) → i < length files → IsAt known (get_or files i []) at → ReadsFewer size known after cut
+    → ((j : ℕ) → j < length files → at ≤ length (get_or files j [])) → ((j : ℕ) → j < i → at + size ≤ length (get_or files j [])) → CutAt files at size i cut
+cut_at known after files i at size Ended within h short each earlier = record {
+  within = within;
+  each = each;
+  earlier = earlier;
+  short = ended_early known after (get_or files i []) at size short.bytes h short.read short.few short.ends;
+}
+cut_at known after files i at size Failed within h short each earlier = within
 
 pub at_end : (known : Option (List ℕ)) (file : List ℕ) (at : ℕ) → IsAt known file at → IsAtEnd known → length file ≡ at
 at_end None file at h e = absurd (let l = h.left in cc)
@@ -68,9 +74,10 @@ has_more (Some xs) file at h e =
     let size = ap length same in
     omega (arith, length-drop at file)
 
-pub long_at : (known : Option (List ℕ)) (files : List (List ℕ)) (i at : ℕ) (f : PassFault) → i < length files → IsAt known (get_or files i []) at → (f ≡ fault.Source) ⊎ ((f ≡ fault.WrongLength) × HasMore known) → LongAt files at i f
-long_at known files i at f within h (inl e) = subst (LongAt files at i) (sym e) within
-long_at known files i at f within h (inr w) = subst (LongAt files at i) (sym w.0) (record { within = within; long = has_more known (get_or files i []) at h w.1 })
+pub long_at : (known : Option (List ℕ)) (files : List (List ℕ)) (i at : ℕ) (f : PassFault) → i < length files → IsAt known (get_or files i []) at → ((j : ℕ) → j < length files → at ≤ length (get_or files j []))
+    → ((j : ℕ) → j < i → length (get_or files j []) ≡ at) → (f ≡ fault.Source) ⊎ ((f ≡ fault.WrongLength) × HasMore known) → LongAt files at i f
+long_at known files i at f within h each earlier (inl e) = subst (LongAt files at i) (sym e) within
+long_at known files i at f within h each earlier (inr w) = subst (LongAt files at i) (sym w.0) (record { within = within; each = each; earlier = earlier; long = has_more known (get_or files i []) at h w.1 })
 
 -- ---- what is known of each of a list
 

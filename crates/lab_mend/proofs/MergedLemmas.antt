@@ -67,21 +67,21 @@ merged g files conflicts unsound tried tally scratch pieces stands h are tried_a
 row_end : (n rows size : ℕ) → n < rows → n * size + size ≤ rows * size
 row_end n rows size l = let m : suc n * size ≤ rows * size = mul-le-mul_right size l in omega (arith, m)
 
-pub unmerged_cut : (g : Geometry) (files : List (List ℕ)) (n i : ℕ) (c : Cut) (f : MergeFault) → n < row_count g → CutAt files (n * page_bytes g + page_bytes g) i c → f ≡ fault_of_cut i c → IsUnmerged g files f
+pub unmerged_cut : (g : Geometry) (files : List (List ℕ)) (n i : ℕ) (c : Cut) (f : MergeFault) → n < row_count g → CutAt files (n * page_bytes g) (page_bytes g) i c → f ≡ fault_of_cut i c → IsUnmerged g files f
 unmerged_cut g files n i cut.Ended f within h e =
     let room : n * page_bytes g + page_bytes g ≤ image_bytes g = row_end n (row_count g) (page_bytes g) within in
     let short = h.short in
-    subst (IsUnmerged g files) (sym e) (h.within, λ whole. (omega arith))
+    subst (IsUnmerged g files) (sym e) (record { within = h.within; odd = λ whole. (omega arith); first = inl (n, within, h) })
 unmerged_cut g files n i cut.Failed f within h e = subst (IsUnmerged g files) (sym e) h
 
 pub unmerged_end : (g : Geometry) (files : List (List ℕ)) (i : ℕ) (s : PassFault) (f : MergeFault) → LongAt files (image_bytes g) i s → f ≡ fault_of_end i s → IsUnmerged g files f
-unmerged_end g files i scan.WrongLength f h e = let long = h.long in subst (IsUnmerged g files) (sym e) (h.within, λ whole. (omega arith))
+unmerged_end g files i scan.WrongLength f h e = let long = h.long in subst (IsUnmerged g files) (sym e) (record { within = h.within; odd = λ whole. (omega arith); first = inr h })
 unmerged_end g files i scan.Source f h e = subst (IsUnmerged g files) (sym e) h
 unmerged_end g files i scan.Stopped f h e = absurd h
 
 -- by the size that the code has
-pub unmerged_row_cut : (g : Geometry) (files : List (List ℕ)) (n size i : ℕ) (c : Cut) (f : MergeFault) → size ≡ page_bytes g → n < row_count g → CutAt files (n * page_bytes g + size) i c → f ≡ fault_of_cut i c → IsUnmerged g files f
-unmerged_row_cut g files n size i c f one within h e = unmerged_cut g files n i c f within (subst (λ k. CutAt files (n * page_bytes g + k) i c) one h) e
+pub unmerged_row_cut : (g : Geometry) (files : List (List ℕ)) (n size i : ℕ) (c : Cut) (f : MergeFault) → size ≡ page_bytes g → n < row_count g → CutAt files (n * page_bytes g) size i c → f ≡ fault_of_cut i c → IsUnmerged g files f
+unmerged_row_cut g files n size i c f one within h e = unmerged_cut g files n i c f within (subst (λ k. CutAt files (n * page_bytes g) k i c) one h) e
 
 -- ---- what has failed
 

@@ -30,26 +30,30 @@ pub record AreRead (known : List (Option (List ℕ))) (files : List (List ℕ)) 
   pub now : AreAt known files (at + size)
   pub are : (i : ℕ) → i < length files → piece_at pieces size i ≡ slice_range (get_or files i []) at (at + size)
 
--- the file of this number has fewer bytes than so many
-pub record EndsEarly (files : List (List ℕ)) (i before : ℕ) : Type 0 where
+-- each file has so many bytes, the first ones a piece of this size more, and the file of this number, behind them, has not
+pub record EndsEarly (files : List (List ℕ)) (i at size : ℕ) : Type 0 where
   pub within : i < length files
-  pub short : length (get_or files i []) < before
+  pub each : (j : ℕ) → j < length files → at ≤ length (get_or files j [])
+  pub earlier : (j : ℕ) → j < i → at + size ≤ length (get_or files j [])
+  pub short : length (get_or files i []) < at + size
 
-abbrev pub CutAt : List (List ℕ) → ℕ → ℕ → Cut → Type 0
-CutAt files before i Ended = EndsEarly files i before
-CutAt files before i Failed = i < length files
+abbrev pub CutAt : List (List ℕ) → (at size : ℕ) → ℕ → Cut → Type 0
+CutAt files at size i Ended = EndsEarly files i at size
+CutAt files at size i Failed = i < length files
 
--- why a piece was not read that ends at this byte
-abbrev pub IsShortAt : List (List ℕ) → ℕ → ReadingCut → Type 0
-IsShortAt files before r = CutAt files before r.reading r.cut
+-- why a piece of this size was not read from this byte on
+abbrev pub IsShortAt : List (List ℕ) → (at size : ℕ) → ReadingCut → Type 0
+IsShortAt files at size r = CutAt files at size r.reading r.cut
 
 -- each file has just so many bytes
 abbrev pub HaveEnded : List (List ℕ) → ℕ → Type 0
 HaveEnded files at = (i : ℕ) → i < length files → length (get_or files i []) ≡ at
 
--- the file of this number has more bytes than so many
+-- each file has so many bytes, the first ones no more, and the file of this number, behind them, has more
 pub record EndsLate (files : List (List ℕ)) (i at : ℕ) : Type 0 where
   pub within : i < length files
+  pub each : (j : ℕ) → j < length files → at ≤ length (get_or files j [])
+  pub earlier : (j : ℕ) → j < i → length (get_or files j []) ≡ at
   pub long : at < length (get_or files i [])
 
 abbrev pub LongAt : List (List ℕ) → ℕ → ℕ → PassFault → Type 0

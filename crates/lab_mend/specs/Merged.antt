@@ -1,5 +1,5 @@
 -- What was written of several readings in the end, and why nothing was.
-use Rattle.std.specs.Prelude.{◌≡◌, ℕ, ◌*◌, ◌<◌, Bool, true, false, List, [], length, get_or, map, Option, IfSome}
+use Rattle.std.specs.Prelude.{◌≡◌, ◌⊎◌, ℕ, ◌*◌, ◌<◌, Bool, true, false, List, [], length, get_or, map, Option, IfSome}
 use Rattle.std.specs.List.{range_with_len}
 use Rattle.page_layout.specs.declared.geometry.Geometry.{Geometry}
 use Rattle.page_layout.specs.Geometry.{row_count, page_bytes}
@@ -14,6 +14,7 @@ use Rattle.lab_mend.specs.declared.merging.RowTally.{RowTally}
 use Rattle.lab_mend.specs.declared.merging.TriedRow.{TriedRow}
 use Rattle.lab_mend.specs.declared.merge.MergeFault.{MergeFault}
 use Rattle.lab_mend.specs.declared.merge.MergeFault.TheVariants as fault
+use Rattle.lab_mend.specs.InStep.{EndsEarly, EndsLate}
 use Rattle.lab_mend.specs.Merging.{piece_of, conflicts_below, unsound_rows_below, tried_below, tally_below, AreRowsListed, AreTried, AreMergedPieces}
 
 -- the pages of a row, one of each reading
@@ -38,9 +39,16 @@ pub record IsOwnMerge (g : Geometry) (conflicts unsound : List ℕ) (tried : Lis
   pub tried_listed : AreTried (row_count g) tried
   pub own : IfSome pieces (AreMergedPieces g (row_count g) conflicts)
 
--- `WrongLength` says of the reading of that number that its bytes aren't as many as an image has
+-- The reading of this number has another length than an image, and no other is seen to be before it: each has the pages before a row, those of a lower number that of
+-- the row too, and this one has not; or each has an image, those of a lower number no more, and this one has.
+pub record IsOddFirst (g : Geometry) (files : List (List ℕ)) (i : ℕ) : Type 0 where
+  pub within : i < length files
+  pub odd : ¬ (length (get_or files i []) ≡ image_bytes g)
+  pub first : ((row : ℕ) × (row < row_count g) × EndsEarly files i (row * page_bytes g) (page_bytes g)) ⊎ EndsLate files i (image_bytes g)
+
+-- `WrongLength` names the first reading that is seen to have another length, row by row and in their order
 abbrev pub IsUnmerged : Geometry → List (List ℕ) → MergeFault → Type 0
-IsUnmerged g files (fault.WrongLength i) = (i < length files) × (¬ (length (get_or files i []) ≡ image_bytes g))
+IsUnmerged g files (fault.WrongLength i) = IsOddFirst g files i
 IsUnmerged g files (fault.Source i) = i < length files
 IsUnmerged g files fault.Target = Unit {0}
 

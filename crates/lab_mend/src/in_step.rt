@@ -30,7 +30,7 @@ pub(crate) fn read_row<R: DumpReader>(
     ensures read { OnOk result ((files : List (List ℕ)) (at : ℕ) → AreAt (map R.remaining readers.old) files at → AreRead (map R.remaining readers.new) files at size pieces.new) }
     ensures reading { IfErr result (λ r. r.reading < length readers.old) }
     ensures count { OnOk result (length readers.new ≡ length readers.old) }
-    ensures cut { IfErr result (λ r. (files : List (List ℕ)) (at : ℕ) → AreAt (map R.remaining readers.old) files at → IsShortAt files (at + size) r) }
+    ensures cut { IfErr result (λ r. (files : List (List ℕ)) (at : ℕ) → AreAt (map R.remaining readers.old) files at → IsShortAt files at size r) }
     ensures failed { IfErr result (λ r. r.cut ≡ cuts.Failed → get_or (map R.failed readers.new) r.reading false ≡ true) }
 {
     for reading in 0..readers.len() {

@@ -224,12 +224,13 @@ impl MergeRoom {
 /// row whose pages are tried at most 2 ^ 16 are hashed. It takes no memory but that of the room.
 ///
 /// For readers that tell their bytes, and a target that tells its pieces, these are those pages of the images that the bytes are, and the rows that
-/// are named and counted are those of them. Of any readers each piece has as many bytes as a page, and a row that is named has 00h bytes alone.
+/// are named and counted are those of them. Of any readers each piece has as many bytes as a page, and a row that is named as one in which two sound
+/// pages differ has 00h bytes alone.
 ///
 /// # Errors
 ///
 /// Each with the target, when it happens: `WrongLength` where the bytes of the reading of that number ended before the last page or a byte follows
-/// it, `Source` where a read of the reading of that number failed or was interrupted, `Target` where a write failed.
+/// it: of several the first that is seen, row by row and in their order. `Source` where a read of the reading of that number failed or was interrupted, `Target` where a write failed.
 ///
 /// (This project's rules.)
 pub fn merge_dumps<R: DumpReader, T: PageTarget + Drop>(

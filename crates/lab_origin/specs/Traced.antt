@@ -33,19 +33,33 @@ abbrev pub SaysReadingFailed : List Bool → ReadingFault → Type 0
 SaysReadingFailed failed (reading.WrongLength i) = Unit {0}
 SaysReadingFailed failed (reading.Source i) = get_or failed i false ≡ true
 
--- `WrongLength` says of the reading of that number that its bytes, where they are known, are not as many as an image has
+-- its bytes, where they are known, are not as many as an image has, or are
 abbrev pub IsOfWrongLength : Geometry → Option (List ℕ) → Type 0
 IsOfWrongLength g known = IfSome known (λ bytes. ¬ (length bytes ≡ image_bytes g))
 
+abbrev pub IsOfRightLength : Geometry → Option (List ℕ) → Type 0
+IsOfRightLength g known = IfSome known (λ bytes. length bytes ≡ image_bytes g)
+
+-- the reading of this number is the first of another length
+pub record IsFirstOdd (g : Geometry) (known : List (Option (List ℕ))) (i : ℕ) : Type 0 where
+  pub odd : IsOfWrongLength g (get_or known i None)
+  pub before : (j : ℕ) → j < i → IsOfRightLength g (get_or known j None)
+
+-- `WrongLength` names the first reading of another length
 abbrev pub IsOtherSize : Geometry → List (Option (List ℕ)) → ReadingFault → Type 0
-IsOtherSize g known (reading.WrongLength i) = IsOfWrongLength g (get_or known i None)
+IsOtherSize g known (reading.WrongLength i) = IsFirstOdd g known i
 IsOtherSize g known (reading.Source i) = Unit {0}
 
--- the same of a dump and its readings
+-- it is told where the dump has its length
+abbrev pub IsOddReading : Geometry → Option (List ℕ) → List (Option (List ℕ)) → ReadingFault → Type 0
+IsOddReading g dump known (reading.WrongLength i) = IsOfRightLength g dump × IsFirstOdd g known i
+IsOddReading g dump known (reading.Source i) = Unit {0}
+
+-- the same of a dump and its readings, in this order
 abbrev pub IsUntraced : Geometry → Option (List ℕ) → List (Option (List ℕ)) → OriginFault → Type 0
 IsUntraced g dump readings fault.WrongLength = IsOfWrongLength g dump
 IsUntraced g dump readings fault.Source = Unit {0}
-IsUntraced g dump readings (fault.Reading told) = IsOtherSize g readings told
+IsUntraced g dump readings (fault.Reading told) = IsOddReading g dump readings told
 
 abbrev pub IsOfSome : ℕ → OriginFault → Type 0
 IsOfSome count (fault.Reading told) = NamesOneOfReadings count told

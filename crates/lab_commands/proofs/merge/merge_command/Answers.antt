@@ -1,6 +1,7 @@
-use Rattle.std.proofs.Common.{ℕ, List, inl, inr, subst}
+use Rattle.std.proofs.Common.{ℕ, List, inl, inr, subst, ◌≡◌, length}
 use Rattle.lab_mend.specs.declared.merging.TriedRow.{TriedRow}
 use Rattle.lab_commands.specs.Document.{Prints}
+use Rattle.lab_commands.specs.Files.{after_opens}
 use Rattle.lab_commands.proofs.PrintLemmas.{done_by, undone_by}
 use Rattle.lab_commands.specs.Reports.{merge_text}
 use Rattle.lab_commands.specs.Merge.{IsMergeFault, WroteMerge}
@@ -10,7 +11,7 @@ use Rattle.lab_commands.proofs.merge.merge_command.Goals as goal
 
 pub returns-in_err-told : goal.returns-in_err-told
 returns-in_err-told g c =
-    rw (handed c.from_residual.result _ c.from_residual.ensures.1) (record { ok = tt; fault = inl (left_all _ _ (g.W.Output.contents c.args.out.now) c.in_err-told.ensures.kept, c.in_err-told.ensures.fault) })
+    rw (handed c.from_residual.result _ c.from_residual.ensures.1) (record { ok = tt; fault = inl (left_all _ _ (g.W.Output.contents c.args.out.now) c.in_err-told.ensures.kept, c.in_err-told.ensures.fault); opened = tt })
 
 pub returns : goal.returns
 returns g c =
@@ -27,6 +28,7 @@ returns g c =
     (subst (λ (rows : List ℕ). Prints broke o p (merge_text c.printer.result.form made.conflicts.items rows c.deref-3.result.now made.tally) c.print_merged.result) c.deref-2.ensures.value
     (subst (λ (rows : List ℕ). Prints broke o p (merge_text c.printer.result.form rows c.deref-2.result.now c.deref-3.result.now made.tally) c.print_merged.result) c.deref.ensures.value c.print_merged.ensures))) in
     record {
+      opened = done_by (g.F.LabFiles.opened c.place.new.files ≡ after_opens (length c.args.words.dumps.items) (g.F.LabFiles.opened c.args.files.now)) broke o p _ c.print_merged.result c.ended.result printed c.ended.ensures (λ told. c.in_ok-told.ensures.opened);
       ok =
           done_by (WroteMerge a c.args.words k l o p) broke o p _ c.print_merged.result c.ended.result printed c.ended.ensures
           (λ told. record { conflicts = made.conflicts.items; unsound = made.unsound.items; tried = made.tried.items; tally = made.tally; put = c.in_ok-told.ensures.placed; told = told });

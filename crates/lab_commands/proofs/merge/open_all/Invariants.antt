@@ -1,11 +1,13 @@
-use Rattle.std.proofs.Common.{◌<◌, map}
+use Rattle.std.proofs.Common.{◌≡◌, ◌<◌, map}
 use Rattle.std.specs.Prelude.{vec_capacity}
 use Rattle.program_words.specs.Met.{texts}
+use Rattle.lab_commands.specs.Files.{after_opens}
 use Rattle.lab_commands.proofs.MergeLemmas.{AreOpenSoFar, TellsFailing}
 use Rattle.lab_commands.proofs.merge.open_all.Given as goal
 
 abbrev pub invariant-loop-place : goal.invariant-loop-place
 invariant-loop-place g l = record {
   so_far : AreOpenSoFar (g.F.LabFiles.answers l.fn.files) (g.F.LabFiles.answers l.files) (g.F.LabFiles.kept l.fn.files) (g.F.LabFiles.kept l.files) (texts l.dumps) (map g.F.Reader.DumpReader.remaining l.readers.items) l.place (vec_capacity l.fn.readers) (vec_capacity l.readers);
+  opens : g.F.LabFiles.opened l.files ≡ after_opens l.place (g.F.LabFiles.opened l.fn.files);
   fails : 0 < l.place → TellsFailing g.F.Reader.DumpReader.failed (g.F.LabFiles.answers l.fn.files).reads_fail;
 }

@@ -13,6 +13,7 @@ returns-in_err-reader g c =
       no_more = c.open_file.ensures.no_more;
       made = tt;
       kept = c.open_file.ensures.kept;
+      opened = c.open_file.ensures.opened;
     })
 
 pub returns-in_err-target : goal.returns-in_err-target
@@ -26,6 +27,7 @@ returns-in_err-target g c =
       no_more = no_more_then _ _ _ c.open_file.ensures.no_more c.create_beside.ensures.no_more;
       made = tt;
       kept = c.in_err-target.ensures.kept ∙ c.open_file.ensures.kept;
+      opened = c.create_beside.ensures.opened ∙ c.open_file.ensures.opened;
     })
 
 pub returns : goal.returns
@@ -40,4 +42,5 @@ returns g c =
       no_more = no_more_then _ _ _ first.no_more c.create_beside.ensures.no_more;
       made = c.in_ok-target.ensures.made ∙ first.kept;
       kept = tt;
+      opened = c.create_beside.ensures.opened ∙ first.opened;
     }

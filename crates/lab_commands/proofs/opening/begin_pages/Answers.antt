@@ -13,4 +13,5 @@ returns g c =
       no_more = begun.no_more;
       made = begun.made;
       kept = begun.kept;
+      opened = begun.opened;
     }

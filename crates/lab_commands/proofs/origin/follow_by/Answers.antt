@@ -1,12 +1,13 @@
 use Rattle.std.proofs.Common.{◌≡◌, ℕ, List, Option, inl, inr, length, map, ap, sym, subst, ◌∙◌}
 use Rattle.std.specs.Borrow.{Bor}
-use Rattle.std.proofs.lemmas.List.{length-map}
+use Rattle.std.proofs.lemmas.List.{length-map, with_items_is}
 use Rattle.lab_origin.specs.Traced.{ArePinned, IsOfSome, IsUntraced}
 use Rattle.program_words.specs.Met.{texts}
+use Rattle.lab_commands.specs.Files.{after_opens}
 use Rattle.lab_commands.specs.Merge.{AreOpened, IsSomeUnread}
-use Rattle.lab_commands.specs.Origin.{readings_of}
+use Rattle.lab_commands.specs.Origin.{IsOfFailedReading, readings_of}
 use Rattle.lab_commands.proofs.MergeLemmas.{failed_one}
-use Rattle.lab_commands.proofs.OriginLemmas.{each_opened_before, some_unread_before, untraced_as}
+use Rattle.lab_commands.proofs.OriginLemmas.{each_opened_before, some_unread_before, told_of_failed_reading, untraced_as}
 use Rattle.lab_commands.proofs.UndoneLemmas.{no_more_then, handed}
 use Rattle.lab_commands.proofs.origin.follow_by.Goals as goal
 
@@ -16,8 +17,10 @@ returns-in_err-dump g c =
       followed = tt;
       sized = tt;
       fault = (inl c.in_err-dump.ensures.fault);
+      named = inl c.in_err-dump.ensures.fault;
       no_more = c.open_dump.ensures.no_more;
       kept = c.open_dump.ensures.kept;
+      opened = tt;
     })
 
 pub returns-in_err-open_readings : goal.returns-in_err-open_readings
@@ -26,12 +29,15 @@ returns-in_err-open_readings g c =
     let b = g.F.LabFiles.answers c.open_dump.new.files in
     let words = c.args.words.now in
     let unread : IsSomeUnread b (readings_of words) c.in_err-open_readings.field-0.0 = subst (λ (ps : List (Bor (List ℕ))). IsSomeUnread b (texts ps) c.in_err-open_readings.field-0.0) c.deref.ensures.value c.in_err-open_readings.ensures.fault in
+    let before = some_unread_before a b (readings_of words) _ c.in_ok-dump.ensures.no_more unread in
     rw (handed c.from_residual-in_err-open_readings.result _ c.from_residual-in_err-open_readings.ensures.1) (record {
       followed = tt;
       sized = tt;
-      fault = (inr (inl (some_unread_before a b (readings_of words) _ c.in_ok-dump.ensures.no_more unread)));
+      fault = inr (inl before);
+      named = inr (inl before);
       no_more = no_more_then _ _ _ c.open_dump.ensures.no_more c.open_readings.ensures.no_more;
       kept = c.open_readings.ensures.kept ∙ c.open_dump.ensures.kept;
+      opened = tt;
     })
 
 pub returns-in-Ok-clause-followed : goal.returns-in-Ok-clause-followed
@@ -70,6 +76,14 @@ returns-clause-fault g c =
     (λ is. c.open_dump.ensures.fails c.trace_origins.new.dump (subst (ArePinned dump_failed each_failed) is pinned))
     (λ i is. let found = failed_one failed _ i (subst (ArePinned dump_failed each_failed) is pinned) in c.open_dump.ensures.fails found.0 found.1) c.origin_told.ensures))
 
+pub returns-clause-named : goal.returns-clause-named
+returns-clause-named g c =
+    let words = c.args.words.now in
+    let failed = g.F.Dump.Dump.failed in
+    let readings = c.trace_origins.new.readings in
+    let now = with_items_is c.open_readings.new.readings readings (c.trace_origins.auto.readings ∙ c.deref_mut.ensures.len) in
+    inr (inr (subst (λ rs. IsOfFailedReading (map failed rs) words c.origin_told.result) (sym now) (told_of_failed_reading words _ (map failed readings) c.in-Err.fault c.origin_told.result c.in-Err.ensures.pinned c.origin_told.ensures)))
+
 pub returns-in-Ok-clause-no_more : goal.returns-in-Ok-clause-no_more
 returns-in-Ok-clause-no_more g c = no_more_then _ _ _ c.open_dump.ensures.no_more c.open_readings.ensures.no_more
 
@@ -81,3 +95,8 @@ returns-clause-no_more g c = no_more_then _ _ _ c.open_dump.ensures.no_more c.op
 
 pub returns-clause-kept : goal.returns-clause-kept
 returns-clause-kept g c = c.open_readings.ensures.kept ∙ c.open_dump.ensures.kept
+
+pub returns-in-Ok-clause-opened : goal.returns-in-Ok-clause-opened
+returns-in-Ok-clause-opened g c =
+    let between = g.F.LabFiles.opened c.open_dump.new.files in
+    c.in_ok-open_readings.ensures.once ∙ (ap (λ (ps : List (Bor (List ℕ))). after_opens (length ps) between) c.deref.ensures.value ∙ ap (after_opens (length c.args.words.now.readings.items)) c.in_ok-dump.ensures.opened)

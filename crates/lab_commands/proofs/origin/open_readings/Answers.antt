@@ -1,5 +1,6 @@
-use Rattle.std.proofs.Common.{arith, ◌∙◌, refl, rules}
-use Rattle.lab_commands.proofs.MergeLemmas.{opened_next, unopened_at}
+use Rattle.std.proofs.Common.{arith, ◌∙◌, refl, rules, ◌≡◌, length, ap}
+use Rattle.lab_commands.specs.Files.{after_opens}
+use Rattle.lab_commands.proofs.MergeLemmas.{opened_next, opens_next, unopened_at}
 use Rattle.lab_commands.proofs.UndoneLemmas.{no_more_first, no_more_then, handed}
 use Rattle.lab_commands.proofs.origin.open_readings.Goals as goal
 
@@ -7,15 +8,23 @@ pub returns-in_err-reading : goal.returns-in_err-reading
 returns-in_err-reading g c =
     rw (handed c.from_residual.result _ c.from_residual.ensures.1) (record {
       opened = tt;
-      fault = (unopened_at _ _ c.args.paths.now c.loop-place.place _ _ (omega arith) c.loop-place.invariant.no_more c.in_err-reading.ensures.fault);
-      no_more = no_more_then _ _ _ c.loop-place.invariant.no_more c.open_dump.ensures.no_more;
-      kept = c.open_dump.ensures.kept ∙ c.loop-place.invariant.kept;
+      fault = (unopened_at _ _ c.args.paths.now c.loop-place.place _ _ (omega arith) c.loop-place.invariant.so_far.no_more c.in_err-reading.ensures.fault);
+      no_more = no_more_then _ _ _ c.loop-place.invariant.so_far.no_more c.open_dump.ensures.no_more;
+      kept = c.open_dump.ensures.kept ∙ c.loop-place.invariant.so_far.kept;
+      once = tt;
     })
 
 pub loop-place-preserved : goal.loop-place-preserved
-loop-place-preserved g c =
-    opened_next g.F.Dump.Dump.bytes _ _ _ _ _ _ c.args.paths.now c.loop-place.readings.items c.push_reserved.new.self.items c.in_ok-reading.reading c.loop-place.place _ _ _ _ (omega arith)
-    c.loop-place.invariant c.in_ok-reading.ensures.no_more c.in_ok-reading.ensures.kept c.in_ok-reading.ensures.bytes c.push_reserved.ensures.items c.push_reserved.ensures.capacity
+loop-place-preserved g c = record {
+  so_far = opened_next g.F.Dump.Dump.bytes _ _ _ _ _ _ c.args.paths.now c.loop-place.readings.items c.push_reserved.new.self.items c.in_ok-reading.reading c.loop-place.place _ _ _ _ (omega arith)
+      c.loop-place.invariant.so_far c.in_ok-reading.ensures.no_more c.in_ok-reading.ensures.kept c.in_ok-reading.ensures.bytes c.push_reserved.ensures.items c.push_reserved.ensures.capacity;
+  opens = opens_next c.loop-place.place _ _ _ c.loop-place.invariant.opens c.in_ok-reading.ensures.opened;
+}
 
 pub loop-place-init : goal.loop-place-init
-loop-place-init g c = record { no_more = no_more_first _; kept = refl; opened = search rules; places = refl }
+loop-place-init g c = record { so_far = record { no_more = no_more_first _; kept = refl; opened = search rules; places = refl }; opens = refl }
+
+pub returns-clause-once : goal.returns-clause-once
+returns-clause-once g c =
+    let end : c.loop-place.place ≡ length c.args.paths.now = omega arith in
+    c.loop-place.invariant.opens ∙ ap (λ k. after_opens k (g.F.LabFiles.opened c.args.files.now)) end

@@ -9,19 +9,19 @@ use Rattle.lab_commands.proofs.origin.put_marks.Goals as goal
 
 pub returns-in_err-room : goal.returns-in_err-room
 returns-in_err-room g c =
-    rw (handed c.from_residual.result fault.OutOfMemory c.from_residual.ensures.1) (record { put = tt; fault = inl (refl, refl); kept = refl })
+    rw (handed c.from_residual.result fault.OutOfMemory c.from_residual.ensures.1) (record { put = tt; fault = inl (refl, refl); kept = refl; opened = tt })
 
 pub returns-in_err-marks : goal.returns-in_err-marks
 returns-in_err-marks g c =
     let handing = c.from_residual-in_err-marks in
-    rw (handed handing.result _ handing.ensures.1) (record { put = tt; fault = inr (inl c.in_err-marks.ensures.fault); kept = c.follow.ensures.kept })
+    rw (handed handing.result _ handing.ensures.1) (record { put = tt; fault = inr (inl c.in_err-marks.ensures.fault); kept = c.follow.ensures.kept; opened = tt })
 
 pub returns-in_err-put_origin : goal.returns-in_err-put_origin
 returns-in_err-put_origin g c =
     let words = c.args.words.now in
     let why = unplaced_before (g.F.LabFiles.answers c.args.files.now) (g.F.LabFiles.answers c.follow.new.files) words.out.now words.force c.in_err-put_origin.field-0.0 c.follow.ensures.no_more c.in_err-put_origin.ensures.fault in
     let handing = c.from_residual-in_err-put_origin in
-    rw (handed handing.result _ handing.ensures.1) (record { put = tt; fault = inr (inr why); kept = c.in_err-put_origin.ensures.kept ∙ c.follow.ensures.kept })
+    rw (handed handing.result _ handing.ensures.1) (record { put = tt; fault = inr (inr why); kept = c.in_err-put_origin.ensures.kept ∙ c.follow.ensures.kept; opened = tt })
 
 pub returns-clause-put : goal.returns-clause-put
 returns-clause-put g c =

@@ -19,6 +19,7 @@ returns-in-Err-clause-cut g c = λ files at start.
     let old : IsAt (f (get_or rs i r)) (get_or files i []) at = subst (λ (o : Option (List ℕ)). IsAt o (get_or files i []) at) (known_at f rs i r (omega arith)) (between.unread i (omega arith) within) in
     let size : length c.fill.new.buffer ≡ c.args.size = omega arith in
     cut_at (f (get_or rs i r)) (f c.fill.new.reader) files i at c.args.size c.in-Err.cut within old (subst (λ n. ReadsFewer n (f (get_or rs i r)) (f c.fill.new.reader) c.in-Err.cut) size c.in-Err.ensures.cut)
+    (λ j l. (start.each j l).within) (λ j l. (between.read j l).within)
 
 pub returns-in-Err-clause-failed : goal.returns-in-Err-clause-failed
 returns-in-Err-clause-failed g c = λ is. failed_at g.R.DumpReader.failed c.loop-reading.readers c.loop-reading.reading c.fill.new.reader (omega arith) (c.fill.ensures.failed (c.in-Err.is ∙ ap Err is))
