@@ -115,6 +115,24 @@ states_damaged g last image hs size few told = all_told g (damaged_state g last 
     told_by (get_or hs n held.Never) (sound (row_count g)) (others (row_count g)) (row_said_newer (sound (row_count g)) (others (row_count g))) (told n within)
     ∙ ap (λ k. shown_with (row_said_newer (sound k) (others k)) (sound k)) (sym size))
 
+-- ---- the sequences
+
+tells_sound : (g : Geometry) (image : Image) (hs : List Held) (size : ℕ) → size ≡ row_count g
+    → ((n : ℕ) → n < g.sectors → TellsHeld (get_or hs n held.Never) (latest_below (marks image) (key.Sector n) (row_count g)) (latest_below [] (key.Sector n) (row_count g)))
+    → (n : ℕ) → n < g.sectors → TellsSound (get_or hs n held.Never) (latest_below (marks image) (key.Sector n) size)
+tells_sound g image hs size is told n within =
+    let h = get_or hs n held.Never in
+    let l = latest_below (marks image) (key.Sector n) (row_count g) in
+    let sound : TellsSound h l = subst (λ d. TellsHeld h l d) (none_said (key.Sector n) (row_count g)) (told n within) in
+    subst (λ k. TellsSound h (latest_below (marks image) (key.Sector n) k)) (sym is) sound
+
+tells_damaged : (g : Geometry) (last : Option ℕ) (image : Image) (hs : List Held) (size : ℕ) → size ≡ row_count g
+    → ((n : ℕ) → n < g.sectors → TellsHeld (get_or hs n held.Never) (latest_below (marks (until g last image)) (key.Sector n) (row_count g)) (latest_below (said_marks g last image) (key.Sector n) (row_count g)))
+    → (n : ℕ) → n < g.sectors → TellsHeld (get_or hs n held.Never) (latest_below (marks (until g last image)) (key.Sector n) size) (latest_below (said_marks g last image) (key.Sector n) size)
+tells_damaged g last image hs size is told n within =
+    let h = get_or hs n held.Never in
+    subst (λ k. TellsHeld h (latest_below (marks (until g last image)) (key.Sector n) k) (latest_below (said_marks g last image) (key.Sector n) k)) (sym is) (told n within)
+
 -- ---- all of it
 
 pub written_sound : (g : Geometry) (last : Option ℕ) (hs : List Held) (blank : List ℕ) (d : Doubting) (left : Unsettled) (pieces : Option (List (List ℕ))) (bytes : List ℕ) → WritingStands g hs blank pieces
@@ -130,6 +148,7 @@ written_sound g last hs blank d left pieces bytes stands concluded taken =
       whole = taken.whole;
       array = if_both pieces (HasSectorPieces g) (ReadBelow g image [] (λ row. []) (row_count g)) (λ ps. ps ≡ array_of g image) stands.sized shown.pieces_are (λ ps sized read. array_sound g image ps size sized read);
       states = states_sound g image hs size stands.size shown.held_of;
+      tells = tells_sound g image hs (length raw) whole shown.held_of;
       left_is = concluded raw whole taken.shown.1;
     }
 
@@ -144,6 +163,7 @@ written_damaged g last hs blank d left pieces bytes stands concluded taken =
       whole = taken.whole;
       array = if_both pieces (HasSectorPieces g) (ReadBelow g (until g last raw) (said_marks g last raw) (said_reads g raw) (row_count g)) (λ ps. ps ≡ damaged_array g last raw) stands.sized shown.pieces_are (λ ps sized read. array_damaged g last raw ps whole sized read);
       states = states_damaged g last raw hs whole stands.size shown.held_of;
+      tells = tells_damaged g last raw hs (length raw) whole shown.held_of;
       left_is = concluded raw whole taken.shown.1;
     }
 
