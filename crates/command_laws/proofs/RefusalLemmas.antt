@@ -191,4 +191,4 @@ module _ {F : Type 0} (gives : F → List ℕ → Result (List ℕ) FileFault �
   obeys_kept store tells words unread left before after (Ok done) does = does_kept store tells words unread left before after (Ok done) does
 
   pub input_kept : InputKeptLaw gives
-  input_kept store tells words unread left before after told telling status (done, obeys, tells_it) = obeys_kept store tells words unread left before after done obeys
+  input_kept store tells words unread left before after taken taking told telling status (done, obeys, takes, tells_it) = obeys_kept store tells words unread left before after done obeys

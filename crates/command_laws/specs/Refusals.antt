@@ -20,7 +20,7 @@ use Rattle.commands.specs.declared.files.FileFault.TheVariants.{Failed}
 use Rattle.commands.specs.declared.text.CommandFault.{CommandFault}
 use Rattle.commands.specs.declared.text.CommandFault.TheVariants as fault
 use Rattle.commands.specs.declared.text.ServeStop.{ServeStop}
-use Rattle.commands.specs.Files.{Left, LeavesUntouched, with_store, unwritten_file}
+use Rattle.commands.specs.Files.{Left, LeavesUntouched, TakenFile, with_store, unwritten_file}
 use Rattle.commands.specs.Sector.{AsksForNumber, DoesSector}
 use Rattle.commands.specs.Show.{DoesShow}
 use Rattle.commands.specs.Format.{DoesFormat, IsGeometry}
@@ -84,5 +84,5 @@ StopToldLaw {F} gives = (store : F) (words : ServeWords) (unread left : Option (
 
 -- STANDARD INPUT is as it was after a run, unless its words are those of `serve`
 abbrev pub InputKeptLaw : {F : Type 0} → (F → List ℕ → Result (List ℕ) FileFault → Type 0) → Type 0
-InputKeptLaw {F} gives = (store : F) (tells : Bool) (words : List (List ℕ)) (unread left : Option (List ℕ)) (before after : Left) (told telling : Option (List ℕ)) (status : ℕ)
-    → CommandRuns (gives store) tells words unread left before after told telling status → Keeps unread left ⊎ ((serve : ServeWords) × IsOrder words (order.Serve serve))
+InputKeptLaw {F} gives = (store : F) (tells : Bool) (words : List (List ℕ)) (unread left : Option (List ℕ)) (before after : Left) (taken taking : Option (List TakenFile)) (told telling : Option (List ℕ)) (status : ℕ)
+    → CommandRuns (gives store) tells words unread left before after taken taking told telling status → Keeps unread left ⊎ ((serve : ServeWords) × IsOrder words (order.Serve serve))

@@ -1,4 +1,5 @@
 pub mod WordLemmas
+pub mod TakenLemmas
 pub mod PartLemmas
 pub mod ImageLemmas
 pub mod CheckLemmas

@@ -1,7 +1,7 @@
 -- What a run of the program comes to.
-use Rattle.std.specs.Prelude.{◌≡◌, ◌⊎◌, ℕ, Bool, List, Option, Result, Ok, Err}
+use Rattle.std.specs.Prelude.{◌≡◌, ◌⊎◌, ℕ, Bool, List, [], ◌∷◌, Option, Result, Ok, Err}
 use Rattle.std.specs.Io.KnownBytes.{Keeps}
-use Rattle.commands.specs.Files.{LoadAnswers, Left, LeavesUntouched}
+use Rattle.commands.specs.Files.{LoadAnswers, Left, LeavesUntouched, TakenFile, TakesFiles, loaded_file, opened_file}
 use Rattle.commands.specs.declared.text.CommandFault.{CommandFault}
 use Rattle.commands.specs.declared.text.CommandFault.TheVariants.{NoSuchCommand, OutOfMemory}
 use Rattle.command_words.specs.declared.words.Order.{Order}
@@ -37,12 +37,33 @@ Obeys gives tells words unread left before after (Err NoSuchCommand) = LeavesUnt
 Obeys gives tells words unread left before after (Err OutOfMemory) = (LeavesUntouched before after × Keeps unread left) ⊎ DoesOrder gives tells words unread left before after (Err OutOfMemory)
 Obeys gives tells words unread left before after result = DoesOrder gives tells words unread left before after result
 
+-- The files that an order asks for. `check` alone does not load its image whole: it has a reader of it.
+abbrev pub files_of : Order → List TakenFile
+files_of (order.Sector words) = loaded_file words.image.now ∷ []
+files_of (order.Show words) = loaded_file words.image.now ∷ []
+files_of (order.Format words) = loaded_file words.input.now ∷ []
+files_of (order.Check words) = opened_file words.image.now ∷ (loaded_file words.certificate.now ∷ [])
+files_of (order.Mount words) = loaded_file words.image.now ∷ []
+files_of (order.Serve words) = loaded_file words.image.now ∷ (loaded_file words.certificate.now ∷ [])
+files_of (order.Migrate words) = loaded_file words.image.now ∷ (loaded_file words.certificate.now ∷ [])
+
+-- the words are an order, and no files but its own were asked for
+pub record TakesItsFiles (words : List (List ℕ)) (before after : Option (List TakenFile)) (result : Result (Unit {0}) CommandFault) : Type 0 where
+  pub order : Order
+  pub is : IsOrder words order
+  pub takes : TakesFiles (files_of order) before after result
+
+-- The files that the words have asked for: those of their order, or none where they are none.
+abbrev pub ObeyingTakes : List (List ℕ) → Option (List TakenFile) → Option (List TakenFile) → Result (Unit {0}) CommandFault → Type 0
+ObeyingTakes words before after (Ok done) = TakesItsFiles words before after (Ok done)
+ObeyingTakes words before after (Err stop) = (after ≡ before) ⊎ TakesItsFiles words before after (Err stop)
+
 -- Status 0 and nothing on standard error where all was done; else the fault's line there, and its status.
 abbrev pub TellsFaultAndStatus : Result (Unit {0}) CommandFault → Option (List ℕ) → Option (List ℕ) → ℕ → Type 0
 TellsFaultAndStatus (Ok done) before after status = (status ≡ 0) × Keeps before after
 TellsFaultAndStatus (Err fault) before after status = IsCommandFaultTold fault before after status
 
--- what the words came to and what was told of it: the stores and standard output, and standard error, each before and after, and the status
-abbrev pub CommandRuns : LoadAnswers → Bool → List (List ℕ) → Option (List ℕ) → Option (List ℕ) → Left → Left → Option (List ℕ) → Option (List ℕ) → ℕ → Type 0
-CommandRuns gives tells words unread left before after told telling status =
-    (done : Result (Unit {0}) CommandFault) × Obeys gives tells words unread left before after done × TellsFaultAndStatus done told telling status
+-- what the words came to and what was told of it: the stores and standard output, the files that were asked for, and standard error, each before and after, and the status
+abbrev pub CommandRuns : LoadAnswers → Bool → List (List ℕ) → Option (List ℕ) → Option (List ℕ) → Left → Left → Option (List TakenFile) → Option (List TakenFile) → Option (List ℕ) → Option (List ℕ) → ℕ → Type 0
+CommandRuns gives tells words unread left before after taken taking told telling status =
+    (done : Result (Unit {0}) CommandFault) × Obeys gives tells words unread left before after done × ObeyingTakes words taken taking done × TellsFaultAndStatus done told telling status

@@ -1,5 +1,5 @@
 -- What a command leaves behind: the files that were stored, and standard output.
-use Rattle.std.specs.Prelude.{◌≡◌, ℕ, Bool, true, false, List, [], ◌∷◌, ◌++◌, Option, IfSome, IsSome, Result, Ok, Err}
+use Rattle.std.specs.Prelude.{◌≡◌, ℕ, Bool, true, false, List, [], ◌∷◌, ◌++◌, Option, IfSome, IsSome, Result, Ok, Err, take}
 use Rattle.std.specs.Option.{option_map}
 use Rattle.std.specs.Io.KnownBytes.{Keeps}
 use Rattle.commands.specs.declared.files.FileFault.{FileFault}
@@ -15,6 +15,26 @@ LoadAnswers = List ℕ → Result (List ℕ) FileFault → Type 0
 pub record IsOpened (gives : LoadAnswers) (tells : Bool) (path : List ℕ) (known : Option (List ℕ)) : Type 0 where
   pub bytes : IfSome known (λ bytes. gives path (Ok bytes))
   pub told : tells ≡ true → IsSome known
+
+-- a file that was asked for, to be loaded whole or to be read piece by piece
+pub record TakenFile : Type 0 where
+  pub path : List ℕ
+  pub whole : Bool
+
+abbrev pub loaded_file : List ℕ → TakenFile
+loaded_file path = record { path = path; whole = true }
+
+abbrev pub opened_file : List ℕ → TakenFile
+opened_file path = record { path = path; whole = false }
+
+-- the files that were asked for so far, where they are known, and then more
+abbrev pub with_taken : Option (List TakenFile) → List TakenFile → Option (List TakenFile)
+with_taken taken more = option_map (λ known. known ++ more) taken
+
+-- Where all was done, just these files were asked for, each once and in this order; else a beginning of them, and no other.
+abbrev pub TakesFiles : {T : Type 0} → List TakenFile → Option (List TakenFile) → Option (List TakenFile) → Result T CommandFault → Type 0
+TakesFiles files before after (Ok done) = after ≡ with_taken before files
+TakesFiles files before after (Err stop) = (count : ℕ) × (after ≡ with_taken before (take count files))
 
 -- a file that was handed over to be written, whole, and whether it was
 pub record Stored : Type 0 where

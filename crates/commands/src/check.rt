@@ -1,7 +1,8 @@
 //! The command `check GEOM C IMAGE CERT`.
-ghost use Rattle.std.specs.Prelude.{◌≡◌, OnOk, IfOk, IfErr};
+ghost use Rattle.std.specs.Prelude.{◌≡◌, [], ◌∷◌, OnOk, IfOk, IfErr};
 ghost use Rattle.std.specs.Io.KnownBytes.{Appends};
 ghost use Rattle.commands.specs.Check.{Accepts, DoesCheck, HoldsClaim, HoldsNoClaim, IsHeldAs, IsNoCertificate, IsClaimSpelled, IsToldAs, IsUnheld, accepted_line};
+ghost use Rattle.commands.specs.Files.{TakesFiles, loaded_file, opened_file, with_taken};
 ghost use Rattle.commands.specs.Lines.{IsLineUnprinted};
 
 use crate::files::FileStore;
@@ -35,6 +36,7 @@ pub(crate) fn certificate_at<'a, F: FileStore>(
     ensures ok { IfOk result (HoldsClaim (F.gives files.old) path.now) }
     ensures fault { IfErr result (HoldsNoClaim (F.gives files.old) path.now) }
     ensures stores { F.stores files.new ≡ F.stores files.old }
+    ensures taken { F.taken files.new ≡ with_taken (F.taken files.old) (loaded_file path.now ∷ []) }
 {
     let written = load(files, path)?;
     certificate_in(alloc, &written)
@@ -101,7 +103,7 @@ fn accept<'a, R: Read, W: Write>(
 /// refused memory, `Certificate` where CERT's bytes are no certificate, `Check` with `GeometryDiffers` where it is not of GEOM and C,
 /// `Read` where a read of IMAGE fails and `WrongLength` where it has not as many bytes as the geometry says, each when it happens,
 /// `Check` with the other refusals of `image_check::check_stream`, `Write` of `-` where `out` failed. Nothing is stored, and nothing was
-/// written to `out` unless it is what failed: then a beginning of the line stands there, or nothing.
+/// written to `out` unless it is what failed: then a beginning of the line stands there, or nothing. IMAGE is opened once, and never loaded whole.
 ///
 /// (This project's.)
 pub fn check_command<'a, F: FileStore, W: Write>(
@@ -112,6 +114,7 @@ pub fn check_command<'a, F: FileStore, W: Write>(
 ) -> Result<(), CommandFault<'a>>
     ensures does { DoesCheck (F.gives files.old) (F.tells files.old) words.entry (W.contents out.old) (W.contents out.new) result }
     ensures stores { F.stores files.new ≡ F.stores files.old }
+    ensures takes { TakesFiles (opened_file words.entry.image.now ∷ (loaded_file words.entry.certificate.now ∷ [])) (F.taken files.old) (F.taken files.new) result }
 {
     let asked = cache_asked(&words)?;
     let mut image = open(files, words.image)?;

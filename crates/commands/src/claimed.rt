@@ -1,8 +1,9 @@
 //! What `serve` and `migrate` begin with: an image, the certificate that is claimed of it, and a die in memory that holds it.
-ghost use Rattle.std.specs.Prelude.{◌≡◌, IfOk, IfErr, OnOk, length};
+ghost use Rattle.std.specs.Prelude.{◌≡◌, [], ◌∷◌, IfOk, IfErr, OnOk, length};
 ghost use Rattle.onfi_cycles.specs.Driver.{flash_by};
 ghost use Rattle.nand_die.specs.Made.{loaded_flash};
 ghost use Rattle.commands.specs.Check.{HasImageLength};
+ghost use Rattle.commands.specs.Files.{TakesFiles, loaded_file};
 ghost use Rattle.commands.specs.Serve.{bad_in, HasClaim, IsDieUnmade, IsUnclaimed};
 
 use crate::check::certificate_at;
@@ -39,6 +40,7 @@ pub(crate) fn claim<'a, F: FileStore>(
     ensures ok { IfOk result (λ claimed. HasClaim (F.gives files.old) words.now claimed.asked.geometry claimed.asked.capacity claimed.bytes.items claimed.certificate) }
     ensures fault { IfErr result (IsUnclaimed (F.gives files.old) words.now) }
     ensures stores { F.stores files.new ≡ F.stores files.old }
+    ensures takes { TakesFiles (loaded_file words.now.image.now ∷ (loaded_file words.now.certificate.now ∷ [])) (F.taken files.old) (F.taken files.new) result }
 {
     let asked = cache_asked(&CertificateWords {
         geometry: words.geometry,

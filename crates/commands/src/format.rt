@@ -1,9 +1,9 @@
 //! The command `format GEOM IN OUT`.
-ghost use Rattle.std.specs.Prelude.{◌≡◌, true, OnOk, IfOk, IfErr};
+ghost use Rattle.std.specs.Prelude.{◌≡◌, [], ◌∷◌, true, OnOk, IfOk, IfErr};
 ghost use Rattle.std.specs.Io.KnownBytes.{Appends};
 ghost use Rattle.onfi_cycles.specs.Driver.{seen};
 ghost use Rattle.commands.specs.Format.{DoesFormat, IsFormattedImage, IsImageUnformatted, good_line};
-ghost use Rattle.commands.specs.Files.{left_behind};
+ghost use Rattle.commands.specs.Files.{TakesFiles, left_behind, loaded_file};
 ghost use Rattle.commands.specs.Lines.{IsLineUnprinted};
 ghost use Rattle.commands.specs.Steady.{is_flawless, is_steady};
 
@@ -96,7 +96,8 @@ pub fn format_command<'a, F: FileStore, W: Write>(
     files: &mut F,
     out: &mut W,
 ) -> Result<(), CommandFault<'a>>
-    ensures { DoesFormat (F.gives files.old) words.entry (left_behind (F.stores files.old) (W.contents out.old)) (left_behind (F.stores files.new) (W.contents out.new)) result }
+    ensures does { DoesFormat (F.gives files.old) words.entry (left_behind (F.stores files.old) (W.contents out.old)) (left_behind (F.stores files.new) (W.contents out.new)) result }
+    ensures takes { TakesFiles (loaded_file words.entry.input.now ∷ []) (F.taken files.old) (F.taken files.new) result }
 {
     let numbers = numbers_at(words.geometry)?;
     let geometry = geometry_of(&numbers)?;

@@ -1,9 +1,10 @@
 //! What the commands take from their words and files.
-ghost use Rattle.std.specs.Prelude.{◌≡◌, ℕ, List, Result, Some, None, IfOk, IfErr};
+ghost use Rattle.std.specs.Prelude.{◌≡◌, [], ◌∷◌, ℕ, List, Result, Some, None, IfOk, IfErr};
 ghost use Rattle.page_layout.specs.Faults.{HasNumbers};
 ghost use Rattle.program_words.specs.declared.numbers.GeometryNumbers.{GeometryNumbers};
 ghost use Rattle.commands.specs.declared.files.FileFault.{FileFault};
 ghost use Rattle.commands.specs.Check.{AsksForCapacity, IsUnasked};
+ghost use Rattle.commands.specs.Files.{loaded_file, with_taken};
 ghost use Rattle.commands.specs.Inputs.{AreNoNumbers, AreNumbers, IsBadGeometry, IsBadNumber, TellsUnread};
 ghost use Rattle.program_words.specs.Numbers.{SpellsGeometry, number_of};
 
@@ -129,6 +130,7 @@ pub fn load<'a, F: FileStore>(files: &mut F, path: &'a str) -> Result<Vec<u8>, C
     ensures fault { IfErr result (TellsUnread (F.gives files.old) path.now) }
     ensures same { (at : List ℕ) (answer : Result (List ℕ) FileFault) → F.gives files.new at answer → F.gives files.old at answer }
     ensures stores { F.stores files.new ≡ F.stores files.old }
+    ensures taken { F.taken files.new ≡ with_taken (F.taken files.old) (loaded_file path.now ∷ []) }
 {
     match files.load(path) {
         Ok(bytes) => Ok(bytes),

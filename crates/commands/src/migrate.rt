@@ -1,9 +1,9 @@
 //! The command `migrate GEOM C IMAGE CERT OUT`.
-ghost use Rattle.std.specs.Prelude.{◌≡◌, Ok, OnOk, IfOk, IfErr};
+ghost use Rattle.std.specs.Prelude.{◌≡◌, [], ◌∷◌, Ok, OnOk, IfOk, IfErr};
 ghost use Rattle.std.specs.Io.KnownBytes.{Appends};
 ghost use Rattle.onfi_cycles.specs.Driver.{flash_by};
 ghost use Rattle.commands.specs.Check.{HasImageLength};
-ghost use Rattle.commands.specs.Files.{left_behind, with_store, written_file};
+ghost use Rattle.commands.specs.Files.{TakesFiles, left_behind, loaded_file, with_store, written_file};
 ghost use Rattle.commands.specs.Lines.{IsLineUnprinted};
 ghost use Rattle.commands.specs.Migrate.{DoesMigrate, EndsShort, IsUnmigratedDie, MigratesDie, StartsOver, migrated_line};
 
@@ -89,6 +89,7 @@ fn finish<'a, F: FileStore>(
 ) -> Result<u32, CommandFault<'a>>
     ensures done { IfOk result (λ count. (came ≡ Ok count) × (F.stores files.new ≡ with_store (F.stores files.old) (written_file path.now image.now))) }
     ensures short { IfErr result (EndsShort path.now image.now came (F.stores files.old) (F.stores files.new)) }
+    ensures taken { F.taken files.new ≡ F.taken files.old }
 {
     match (came, files.store(path, image)) {
         (Ok(count), Ok(())) => Ok(count),
@@ -131,7 +132,8 @@ pub fn migrate_command<'a, F: FileStore, W: Write>(
     files: &mut F,
     out: &mut W,
 ) -> Result<(), CommandFault<'a>>
-    ensures { DoesMigrate (F.gives files.old) words.entry (left_behind (F.stores files.old) (W.contents out.old)) (left_behind (F.stores files.new) (W.contents out.new)) result }
+    ensures does { DoesMigrate (F.gives files.old) words.entry (left_behind (F.stores files.old) (W.contents out.old)) (left_behind (F.stores files.new) (W.contents out.new)) result }
+    ensures takes { TakesFiles (loaded_file words.entry.image.now ∷ (loaded_file words.entry.certificate.now ∷ [])) (F.taken files.old) (F.taken files.new) result }
 {
     let mut claimed = claim(alloc, &words, files)?;
     let driver = driver_over(alloc, &claimed)?;

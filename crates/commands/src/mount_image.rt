@@ -1,8 +1,8 @@
 //! The command `mount GEOM C IMAGE CERT`.
-ghost use Rattle.std.specs.Prelude.{◌≡◌, ◌≤◌, OnOk, IfOk, IfErr};
+ghost use Rattle.std.specs.Prelude.{◌≡◌, [], ◌∷◌, ◌≤◌, OnOk, IfOk, IfErr};
 ghost use Rattle.std.specs.Io.KnownBytes.{Appends};
 ghost use Rattle.certificate.specs.Spelling.{certificate_bytes};
-ghost use Rattle.commands.specs.Files.{left_behind};
+ghost use Rattle.commands.specs.Files.{TakesFiles, left_behind, loaded_file};
 ghost use Rattle.commands.specs.Lines.{IsLineUnprinted};
 ghost use Rattle.commands.specs.Mount.{DoesMount, IsImageUnmounted, IsMountedAs, IsUnspelled, mounted_line};
 
@@ -107,7 +107,8 @@ pub fn mount_command<'a, F: FileStore, W: Write>(
     files: &mut F,
     out: &mut W,
 ) -> Result<(), CommandFault<'a>>
-    ensures { DoesMount (F.gives files.old) words.entry (left_behind (F.stores files.old) (W.contents out.old)) (left_behind (F.stores files.new) (W.contents out.new)) result }
+    ensures does { DoesMount (F.gives files.old) words.entry (left_behind (F.stores files.old) (W.contents out.old)) (left_behind (F.stores files.new) (W.contents out.new)) result }
+    ensures takes { TakesFiles (loaded_file words.entry.image.now ∷ []) (F.taken files.old) (F.taken files.new) result }
 {
     let asked = cache_asked(&words)?;
     let bytes = load(files, words.image)?;

@@ -18,6 +18,7 @@ pub fn store<'a, F: FileStore>(
 ) -> Result<(), CommandFault<'a>>
     ensures ok { OnOk result (F.stores files.new ≡ with_store (F.stores files.old) (written_file path.now bytes.now)) }
     ensures fault { IfErr result (IsUnstored path.now bytes.now (F.stores files.old) (F.stores files.new)) }
+    ensures taken { F.taken files.new ≡ F.taken files.old }
 {
     match files.store(path, bytes) {
         Ok(()) => Ok(()),

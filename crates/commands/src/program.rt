@@ -1,6 +1,6 @@
 //! The program's commands.
-ghost use Rattle.commands.specs.Commands.{CommandRuns, Obeys, OrderComesTo};
-ghost use Rattle.commands.specs.Files.{left_behind};
+ghost use Rattle.commands.specs.Commands.{CommandRuns, Obeys, ObeyingTakes, OrderComesTo, files_of};
+ghost use Rattle.commands.specs.Files.{TakesFiles, left_behind};
 ghost use Rattle.command_words.specs.Words.{texts};
 
 use crate::check::check_command;
@@ -24,8 +24,9 @@ fn carry_out<'a, F: FileStore, R: Read, W: Write>(
     input: &mut R,
     out: &mut W,
 ) -> Result<(), CommandFault<'a>>
-    ensures { OrderComesTo (F.gives files.old) (F.tells files.old) order.entry (R.remaining input.old) (R.remaining input.new)
+    ensures does { OrderComesTo (F.gives files.old) (F.tells files.old) order.entry (R.remaining input.old) (R.remaining input.new)
         (left_behind (F.stores files.old) (W.contents out.old)) (left_behind (F.stores files.new) (W.contents out.new)) result }
+    ensures takes { TakesFiles (files_of order.entry) (F.taken files.old) (F.taken files.new) result }
 {
     match order {
         Order::Sector(words) => sector_command(alloc, words, files, out),
@@ -46,8 +47,9 @@ fn obey<'a, F: FileStore, R: Read, W: Write>(
     input: &mut R,
     out: &mut W,
 ) -> Result<(), CommandFault<'a>>
-    ensures { Obeys (F.gives files.old) (F.tells files.old) (texts words.now) (R.remaining input.old) (R.remaining input.new)
+    ensures does { Obeys (F.gives files.old) (F.tells files.old) (texts words.now) (R.remaining input.old) (R.remaining input.new)
         (left_behind (F.stores files.old) (W.contents out.old)) (left_behind (F.stores files.new) (W.contents out.new)) result }
+    ensures takes { ObeyingTakes (texts words.now) (F.taken files.old) (F.taken files.new) result }
 {
     match parse(alloc, words) {
         Ok(order) => carry_out(alloc, order, files, input, out),
@@ -66,7 +68,8 @@ fn obey<'a, F: FileStore, R: Read, W: Write>(
 /// the order of the words, the geometry, the cache's capacity, the files by the order of the words,
 /// the certificate's bytes, the image's length (of `check`, which reads its image last, `GeometryDiffers`
 /// before it), and the command's own refusals. After each of these nothing was stored, but OUT where `serve`
-/// was stopped or `migrate` refused by the device. A file is stored before the line that tells of it is printed.
+/// was stopped or `migrate` refused by the device. A file is stored before the line that tells of it is printed. No file is asked for
+/// but those of the words, each once, in their order: of `check` the image is opened, and all others are loaded whole.
 ///
 /// (The words, the lines and the statuses are this project's.)
 pub fn run<F: FileStore, R: Read, W: Write, E: Write>(
@@ -78,7 +81,7 @@ pub fn run<F: FileStore, R: Read, W: Write, E: Write>(
     err: &mut E,
 ) -> u8
     ensures { CommandRuns (F.gives files.old) (F.tells files.old) (texts words.now) (R.remaining input.old) (R.remaining input.new)
-        (left_behind (F.stores files.old) (W.contents out.old)) (left_behind (F.stores files.new) (W.contents out.new)) (E.contents err.old) (E.contents err.new) result }
+        (left_behind (F.stores files.old) (W.contents out.old)) (left_behind (F.stores files.new) (W.contents out.new)) (F.taken files.old) (F.taken files.new) (E.contents err.old) (E.contents err.new) result }
 {
     match obey(alloc, words, files, input, out) {
         Ok(()) => DONE,

@@ -1,7 +1,7 @@
 //! Files that are read piece by piece.
-ghost use Rattle.std.specs.Prelude.{◌≡◌, ℕ, List, Result, IfOk, IfErr};
+ghost use Rattle.std.specs.Prelude.{◌≡◌, [], ◌∷◌, ℕ, List, Result, IfOk, IfErr};
 ghost use Rattle.commands.specs.declared.files.FileFault.{FileFault};
-ghost use Rattle.commands.specs.Files.{IsOpened};
+ghost use Rattle.commands.specs.Files.{IsOpened, opened_file, with_taken};
 ghost use Rattle.commands.specs.Inputs.{TellsUnread};
 
 use crate::files::{FileFault, FileStore};
@@ -17,6 +17,7 @@ pub fn open<'a, F: FileStore>(files: &mut F, path: &'a str) -> Result<F::Reader,
     ensures fault { IfErr result (TellsUnread (F.gives files.old) path.now) }
     ensures same { (at : List ℕ) (answer : Result (List ℕ) FileFault) → F.gives files.new at answer → F.gives files.old at answer }
     ensures stores { F.stores files.new ≡ F.stores files.old }
+    ensures taken { F.taken files.new ≡ with_taken (F.taken files.old) (opened_file path.now ∷ []) }
 {
     match files.open(path) {
         Ok(reader) => Ok(reader),

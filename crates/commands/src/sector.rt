@@ -2,6 +2,7 @@
 ghost use Rattle.std.specs.Prelude.{◌≡◌, ◌≢◌, ◌∷◌, [], ◌++◌, OnOk, IfOk, IfErr, string_bytes};
 ghost use Rattle.std.specs.Io.KnownBytes.{Appends};
 ghost use Rattle.hex.specs.Hex.{encode_lower};
+ghost use Rattle.commands.specs.Files.{TakesFiles, loaded_file};
 ghost use Rattle.commands.specs.Sector.{DoesSector, IsPrintFault, IsReadable, IsSectorUnprinted, TellsUnprinted};
 
 use crate::files::FileStore;
@@ -133,6 +134,7 @@ pub fn sector_command<'a, F: FileStore, W: Write>(
 ) -> Result<(), CommandFault<'a>>
     ensures does { DoesSector (F.gives files.old) words.entry (W.contents out.old) (W.contents out.new) result }
     ensures stores { F.stores files.new ≡ F.stores files.old }
+    ensures takes { TakesFiles (loaded_file words.entry.image.now ∷ []) (F.taken files.old) (F.taken files.new) result }
 {
     let asked = numbered_by(words.geometry, words.number)?;
     let bytes = load(files, words.image)?;

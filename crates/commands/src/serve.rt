@@ -1,5 +1,5 @@
 //! The command `serve GEOM C IMAGE CERT OUT`.
-ghost use Rattle.std.specs.Prelude.{◌≡◌, ◌<◌, length, filter, min, true, Ok, IfOk, IfErr, OnOk, OnErr};
+ghost use Rattle.std.specs.Prelude.{◌≡◌, [], ◌∷◌, ◌<◌, length, filter, min, true, Ok, IfOk, IfErr, OnOk, OnErr};
 ghost use Rattle.std.specs.List.{range_with_len};
 ghost use Rattle.std.specs.Io.KnownBytes.{Keeps};
 ghost use Rattle.onfi_cycles.specs.Driver.{flash_by};
@@ -7,7 +7,7 @@ ghost use Rattle.nand_die.specs.DieValue.{before_reset};
 ghost use Rattle.nand_die.specs.Made.{loaded_flash};
 ghost use Rattle.ftl_device.specs.Begin.{is_bad_in};
 ghost use Rattle.commands.specs.Check.{HasImageLength};
-ghost use Rattle.commands.specs.Files.{left_behind};
+ghost use Rattle.commands.specs.Files.{TakesFiles, left_behind, loaded_file};
 ghost use Rattle.commands.specs.Steady.{is_steady};
 ghost use Rattle.commands.specs.Serve.{bad_in, stop_in, EndsServing, HasServedDie, IsDieUnmade, IsUnservedDie, DoesServe};
 
@@ -132,7 +132,8 @@ fn finish<'a, F: FileStore>(
     image: &[u8],
     stop: Option<ServeStop>,
 ) -> Result<(), CommandFault<'a>>
-    ensures { EndsServing path.now image.now stop (F.stores files.old) (F.stores files.new) result }
+    ensures ends { EndsServing path.now image.now stop (F.stores files.old) (F.stores files.new) result }
+    ensures taken { F.taken files.new ≡ F.taken files.old }
 {
     match (stop, files.store(path, image)) {
         (None, Ok(())) => Ok(()),
@@ -165,8 +166,9 @@ pub fn serve_command<'a, F: FileStore, R: Read, W: Write>(
     input: &mut R,
     out: &mut W,
 ) -> Result<(), CommandFault<'a>>
-    ensures { DoesServe (F.gives files.old) words.entry (R.remaining input.old) (R.remaining input.new)
+    ensures does { DoesServe (F.gives files.old) words.entry (R.remaining input.old) (R.remaining input.new)
         (left_behind (F.stores files.old) (W.contents out.old)) (left_behind (F.stores files.new) (W.contents out.new)) result }
+    ensures takes { TakesFiles (loaded_file words.entry.image.now ∷ (loaded_file words.entry.certificate.now ∷ [])) (F.taken files.old) (F.taken files.new) result }
 {
     let mut claimed = claim(alloc, &words, files)?;
     let driver = driver_over(alloc, &claimed)?;

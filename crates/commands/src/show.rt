@@ -1,6 +1,7 @@
 //! The command `show GEOM IMAGE ROW`.
-ghost use Rattle.std.specs.Prelude.{◌≡◌, length, IfErr, OnOk};
+ghost use Rattle.std.specs.Prelude.{◌≡◌, [], ◌∷◌, length, IfErr, OnOk};
 ghost use Rattle.std.specs.Io.KnownBytes.{Appends};
+ghost use Rattle.commands.specs.Files.{TakesFiles, loaded_file};
 ghost use Rattle.commands.specs.Lines.{IsLineUnprinted};
 ghost use Rattle.commands.specs.Show.{DoesShow, IsUnshown, ShowsRowLine, look_line};
 
@@ -122,6 +123,7 @@ pub fn show_command<'a, F: FileStore, W: Write>(
 ) -> Result<(), CommandFault<'a>>
     ensures does { DoesShow (F.gives files.old) words.entry (W.contents out.old) (W.contents out.new) result }
     ensures stores { F.stores files.new ≡ F.stores files.old }
+    ensures takes { TakesFiles (loaded_file words.entry.image.now ∷ []) (F.taken files.old) (F.taken files.new) result }
 {
     let asked = numbered_by(words.geometry, words.number)?;
     let bytes = load(files, words.image)?;

@@ -27,7 +27,7 @@ fn run_words<F: FileStore, R: Read, W: Write, E: Write>(
     err: &mut E,
 ) -> u8
     ensures { CommandRuns (F.gives files.old) (F.tells files.old) (map string_bytes kept.now) (R.remaining input.old) (R.remaining input.new) (left_behind (F.stores files.old) (W.contents out.old))
-        (left_behind (F.stores files.new) (W.contents out.new)) (E.contents err.old) (E.contents err.new) result }
+        (left_behind (F.stores files.new) (W.contents out.new)) (F.taken files.old) (F.taken files.new) (E.contents err.old) (E.contents err.new) result }
 {
     match word_slices(alloc, kept) {
         Ok(words) => run(alloc, words.as_slice(), files, input, out, err),
@@ -46,10 +46,11 @@ fn end<F: FileStore, R: Read, W: Write, E: Write>(
 ) -> ExitCode
     ensures words { IfOk words.entry (λ kept. CommandRuns (F.gives files.old) (F.tells files.old) (map string_bytes kept.items)
         (R.remaining input.old) (R.remaining input.new) (left_behind (F.stores files.old) (W.contents out.old)) (left_behind (F.stores files.new) (W.contents out.new))
-        (E.contents err.old) (E.contents err.new) (exit_status result)) }
+        (F.taken files.old) (F.taken files.new) (E.contents err.old) (E.contents err.new) (exit_status result)) }
     ensures none { IfErr words.entry (λ fault. IsCommandFaultTold fault (E.contents err.old) (E.contents err.new) (exit_status result)) }
     ensures left { OnErr words.entry (LeavesUntouched (left_behind (F.stores files.old) (W.contents out.old)) (left_behind (F.stores files.new) (W.contents out.new))) }
     ensures unread { OnErr words.entry (Keeps (R.remaining input.old) (R.remaining input.new)) }
+    ensures untaken { OnErr words.entry (F.taken files.new ≡ F.taken files.old) }
 {
     let status = match words {
         Ok(kept) => run_words(alloc, kept.as_slice(), files, input, out, err),

@@ -48,6 +48,8 @@ impl<R: Files<File = File> + AllocGlobal> FileStore for SystemFiles<'_, R> {
 
     ghost stores = { λ _. None };
 
+    ghost taken = { λ _. None };
+
     fn load(&mut self, path: &str) -> Result<Vec<u8>, FileFault> {
         fs::read(self.rt, path).map_err(fault_of)
     }

@@ -113,7 +113,7 @@ impl MemoryFiles {
 }
 
 impl FileStore for MemoryFiles {
-    ghost use Rattle.std.specs.Prelude.{Some, map, string_bytes, true};
+    ghost use Rattle.std.specs.Prelude.{None, Some, map, string_bytes, true};
     ghost use Rattle.commands.specs.Files.{written_file};
     ghost use Rattle.command_tests.specs.Files.{MayAnswerLoad};
 
@@ -126,6 +126,9 @@ impl FileStore for MemoryFiles {
     ghost tells = { λ _. true };
 
     ghost stores = { λ m. Some (map (λ s. record { path = string_bytes s.path; bytes = s.bytes.items; done = s.done }) m.stored.items) };
+
+    // It keeps no count of what it was asked for.
+    ghost taken = { λ _. None };
 
     fn load(&mut self, path: &str) -> Result<Vec<u8>, FileFault> {
         if self.refuses {

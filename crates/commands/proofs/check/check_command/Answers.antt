@@ -2,13 +2,14 @@ use Rattle.std.proofs.Common.{Err, ap, inl, inr, refl, ◌∙◌}
 use Rattle.std.proofs.KnownBytes.{Keeps-refl}
 use Rattle.std.proofs.lemmas.Result.{err_from_is_err_and}
 use Rattle.commands.proofs.CheckLemmas.{accepted_does, has_files, stops, uncertified, uncertified_fault}
+use Rattle.commands.proofs.TakenLemmas as taken
 use Rattle.commands.proofs.check.check_command.Goals as goal
 
 pub returns-in_err-asked : goal.returns-in_err-asked
 returns-in_err-asked g c =
     let p = err_from_is_err_and c.from_residual.result c.from_residual.ensures.1 in
     let why = inl c.in_err-asked.ensures.fault in
-    record { does = stops (g.F.FileStore.gives c.args.files.now) (g.F.FileStore.tells c.args.files.now) c.args.words _ _ c.from_residual.result _ (p.1 ∙ ap Err p.2) (Keeps-refl _) why; stores = refl }
+    record { does = stops (g.F.FileStore.gives c.args.files.now) (g.F.FileStore.tells c.args.files.now) c.args.words _ _ c.from_residual.result _ (p.1 ∙ ap Err p.2) (Keeps-refl _) why; stores = refl; takes = taken.some _ 0 _ _ c.from_residual.result _ (p.1 ∙ ap Err p.2) (taken.none _) }
 
 pub returns-in_err-image : goal.returns-in_err-image
 returns-in_err-image g c =
@@ -18,6 +19,7 @@ returns-in_err-image g c =
     record {
       does = stops (g.F.FileStore.gives c.args.files.now) (g.F.FileStore.tells c.args.files.now) c.args.words _ _ c.from_residual-in_err-image.result c.in_err-image.field-0.0 (p.1 ∙ ap Err p.2) (Keeps-refl _) why;
       stores = c.in_err-image.ensures.stores;
+      takes = taken.some _ 1 _ _ c.from_residual-in_err-image.result _ (p.1 ∙ ap Err p.2) c.in_err-image.ensures.taken;
     }
 
 pub returns-in_err-certificate : goal.returns-in_err-certificate
@@ -31,6 +33,7 @@ returns-in_err-certificate g c =
     record {
       does = stops gives tells c.args.words _ _ c.from_residual-in_err-certificate.result stop (p.1 ∙ ap Err p.2) (Keeps-refl _) why;
       stores = c.in_err-certificate.ensures.stores ∙ c.in_ok-image.ensures.stores;
+      takes = taken.some _ 2 _ _ c.from_residual-in_err-certificate.result _ (p.1 ∙ ap Err p.2) (taken.two _ _ _ _ _ c.in_ok-image.ensures.taken c.in_err-certificate.ensures.taken);
     }
 
 pub returns : goal.returns
@@ -45,4 +48,5 @@ returns g c =
     record {
       does = accepted_does gives tells c.args.words asked.geometry asked.capacity known held.written claim _ _ _ files held.spelled c.accept.ensures;
       stores = c.in_ok-certificate.ensures.stores ∙ c.in_ok-image.ensures.stores;
+      takes = taken.all _ 2 _ _ c.accept.result refl (taken.two _ _ _ _ _ c.in_ok-image.ensures.taken c.in_ok-certificate.ensures.taken);
     }

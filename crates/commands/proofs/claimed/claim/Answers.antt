@@ -3,12 +3,13 @@ use Rattle.std.proofs.lemmas.Result.{err_from_is_err_and}
 use Rattle.commands.specs.Files.{IsOpened}
 use Rattle.commands.specs.Serve.{checked_words}
 use Rattle.commands.proofs.CheckLemmas.{has_files, uncertified}
+use Rattle.commands.proofs.TakenLemmas as taken
 use Rattle.commands.proofs.claimed.claim.Goals as goal
 
 pub returns-in_err-asked : goal.returns-in_err-asked
 returns-in_err-asked g c =
     let p = err_from_is_err_and c.from_residual.result c.from_residual.ensures.1 in
-    rw (p.1, p.2) (record { ok = tt; fault = inl c.in_err-asked.ensures.fault; stores = refl })
+    rw (p.1, p.2) (record { ok = tt; fault = inl c.in_err-asked.ensures.fault; stores = refl; takes = (0, taken.none _) })
 
 pub returns-in_err-bytes : goal.returns-in_err-bytes
 returns-in_err-bytes g c =
@@ -18,6 +19,7 @@ returns-in_err-bytes g c =
       ok = tt;
       fault = inr (inl (record { geometry = asked.geometry; capacity = asked.capacity; asked = c.in_ok-asked.ensures.ok; unread = c.in_err-bytes.ensures.fault }));
       stores = c.in_err-bytes.ensures.stores;
+      takes = (1, c.in_err-bytes.ensures.taken);
     })
 
 pub returns-in_err-certificate : goal.returns-in_err-certificate
@@ -32,6 +34,7 @@ returns-in_err-certificate g c =
       ok = tt;
       fault = inr (inr (uncertified gives _ true words _ _ known c.in_err-certificate.field-0.0 c.in_ok-asked.ensures.ok opened its.same c.in_err-certificate.ensures.fault));
       stores = c.in_err-certificate.ensures.stores ∙ its.stores;
+      takes = (2, taken.two _ _ _ _ _ its.taken c.in_err-certificate.ensures.taken);
     })
 
 pub returns : goal.returns
@@ -46,4 +49,5 @@ returns g c =
       ok = record { written = held.written; files = has_files gives _ true words _ _ known c.in_ok-certificate.certificate c.in_ok-asked.ensures.ok opened its.same held; spelled = held.spelled };
       fault = tt;
       stores = c.in_ok-certificate.ensures.stores ∙ its.stores;
+      takes = taken.two _ _ _ _ _ its.taken c.in_ok-certificate.ensures.taken;
     }

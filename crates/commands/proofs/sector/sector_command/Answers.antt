@@ -6,6 +6,7 @@ use Rattle.commands.specs.Sector.{DoesSector}
 use Rattle.commands.proofs.CommandLemmas.{ended, has_image, not_whole, unnumbered_does, unprinted_does, unread_does}
 use Rattle.commands.proofs.ImageLemmas.{line_in, print_fault_in, readable_in, unprinted_in}
 use Rattle.commands.proofs.WordLemmas.{asks_for}
+use Rattle.commands.proofs.TakenLemmas as taken
 use Rattle.commands.proofs.sector.sector_command.Goals as goal
 
 pub returns-in_err-asked : goal.returns-in_err-asked
@@ -14,7 +15,7 @@ returns-in_err-asked g c =
     let stop = c.in_err-asked.field-0.0 in
     let p = err_from_is_err_and c.from_residual.result c.from_residual.ensures.1 in
     let P : Result (Unit {0}) CommandFault → Type 0 = λ r. DoesSector gives c.args.words (g.W.Write.contents c.args.out.now) (g.W.Write.contents c.args.out.now) r in
-    record { does = ended P _ stop (p.1 ∙ ap Err p.2) (unnumbered_does gives c.args.words _ _ stop (Keeps-refl _) c.in_err-asked.ensures.fault); stores = refl }
+    record { does = ended P _ stop (p.1 ∙ ap Err p.2) (unnumbered_does gives c.args.words _ _ stop (Keeps-refl _) c.in_err-asked.ensures.fault); stores = refl; takes = taken.some _ 0 _ _ c.from_residual.result stop (p.1 ∙ ap Err p.2) (taken.none _) }
 
 pub returns-in_err-bytes : goal.returns-in_err-bytes
 returns-in_err-bytes g c =
@@ -24,7 +25,7 @@ returns-in_err-bytes g c =
     let p = err_from_is_err_and c.from_residual-in_err-bytes.result c.from_residual-in_err-bytes.ensures.1 in
     let P : Result (Unit {0}) CommandFault → Type 0 = λ r. DoesSector gives c.args.words (g.W.Write.contents c.args.out.now) (g.W.Write.contents c.args.out.now) r in
     let asks = asks_for c.args.words asked.geometry asked.number c.in_ok-asked.ensures.ok in
-    record { does = ended P _ stop (p.1 ∙ ap Err p.2) (unread_does gives c.args.words asked.geometry asked.number _ _ stop asks (Keeps-refl _) c.in_err-bytes.ensures.fault); stores = c.in_err-bytes.ensures.stores }
+    record { does = ended P _ stop (p.1 ∙ ap Err p.2) (unread_does gives c.args.words asked.geometry asked.number _ _ stop asks (Keeps-refl _) c.in_err-bytes.ensures.fault); stores = c.in_err-bytes.ensures.stores; takes = taken.some _ 1 _ _ c.from_residual-in_err-bytes.result stop (p.1 ∙ ap Err p.2) c.in_err-bytes.ensures.taken }
 
 pub returns-in-Err : goal.returns-in-Err
 returns-in-Err g c =
@@ -32,7 +33,7 @@ returns-in-Err g c =
     let bytes = c.in_ok-bytes.bytes.items in
     let asks = asks_for c.args.words asked.geometry asked.number c.in_ok-asked.ensures.ok in
     let short = not_whole asked.geometry c.deref.result.now bytes c.in-Err.ensures.accepted.1 c.deref.ensures.value in
-    record { does = (Keeps-refl _, (asked.geometry, asked.number, bytes, asks, c.in_ok-bytes.ensures.ok, short)); stores = c.in_ok-bytes.ensures.stores }
+    record { does = (Keeps-refl _, (asked.geometry, asked.number, bytes, asks, c.in_ok-bytes.ensures.ok, short)); stores = c.in_ok-bytes.ensures.stores; takes = (1, c.in_ok-bytes.ensures.taken) }
 
 pub returns-in-Ok-print_sector : goal.returns-in-Ok-print_sector
 returns-in-Ok-print_sector g c =
@@ -44,7 +45,7 @@ returns-in-Ok-print_sector g c =
     let image = has_image (g.F.FileStore.gives c.args.files.now) c.args.words geometry sector _ bytes c.in_ok-asked.ensures.ok c.in_ok-bytes.ensures.ok same (c.in-Ok.ensures.accepted.0 refl) in
     let readable = readable_in flash geometry c.deref.result.now bytes sector c.in-Ok.ensures.image same c.in-Ok-print_sector.ensures.readable in
     let line = line_in flash geometry c.deref.result.now bytes sector _ _ c.in-Ok.ensures.image same c.in-Ok-print_sector.ensures.ok in
-    record { does = (geometry, sector, bytes, image, readable, line); stores = c.in_ok-bytes.ensures.stores }
+    record { does = (geometry, sector, bytes, image, readable, line); stores = c.in_ok-bytes.ensures.stores; takes = c.in_ok-bytes.ensures.taken }
 
 pub returns : goal.returns
 returns g c =
@@ -56,4 +57,4 @@ returns g c =
     let image = has_image (g.F.FileStore.gives c.args.files.now) c.args.words geometry sector _ bytes c.in_ok-asked.ensures.ok c.in_ok-bytes.ensures.ok same (c.in-Ok.ensures.accepted.0 refl) in
     let why = print_fault_in flash geometry c.deref.result.now bytes sector _ c.in-Ok.ensures.image same c.in-Err-print_sector.ensures.fault in
     let un = unprinted_in flash geometry c.deref.result.now bytes sector _ _ _ c.in-Ok.ensures.image same c.in-Err-print_sector.ensures.unprinted in
-    record { does = unprinted_does _ c.args.words geometry sector bytes _ _ c.in-Err-print_sector.fault c.told.result image why un c.told.ensures; stores = c.in_ok-bytes.ensures.stores }
+    record { does = unprinted_does _ c.args.words geometry sector bytes _ _ c.in-Err-print_sector.fault c.told.result image why un c.told.ensures; stores = c.in_ok-bytes.ensures.stores; takes = (1, c.in_ok-bytes.ensures.taken) }
