@@ -1,2 +1,3 @@
 pub mod ReadingLemmas
 pub mod WrittenLemmas
+mod DigestLemmas
