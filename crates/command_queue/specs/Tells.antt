@@ -17,6 +17,7 @@ use Rattle.promises.specs.Step as step
 use Rattle.promises.specs.Step.{ArrayStep}
 use Rattle.promises.specs.Log.{programs_in, bad_of}
 use Rattle.promises.specs.Run.{DeviceView}
+use Rattle.collection.specs.Looks.{FindsDamage}
 use Rattle.collection.specs.Safe.{ram, image_in, page_in_buffer}
 use Rattle.collection.specs.Collect.{HasAiling, HasNoneAiling}
 use Rattle.collection.specs.declared.engine.room.Reserve.TheVariants as reserve
@@ -25,7 +26,7 @@ use Rattle.collection.specs.Stops.{room_of}
 use Rattle.collection.specs.Log.{Went}
 use Rattle.ftl_device.specs.declared.device.Device.{Device}
 use Rattle.ftl_device.specs.declared.fault.DeviceFault.{DeviceFault}
-use Rattle.ftl_device.specs.declared.fault.DeviceFault.TheVariants.{OutOfRange, OutOfMemory, BusFault}
+use Rattle.ftl_device.specs.declared.fault.DeviceFault.TheVariants.{OutOfRange, OutOfMemory, Damaged, BusFault}
 use Rattle.ftl_device.specs.Device.{IsDevice}
 use Rattle.ftl_device.specs.Calls.{state_in, stop_of, IsWell, HasRescued, HasWorked, HasFallen, IsQuiet}
 use Rattle.ftl_device.specs.Changes.{Changes, Upkeeps, RefusesUpkeep, ProgramsSector, LeavesUnpinned}
@@ -104,12 +105,14 @@ Programs view step.Flush old result new = OnOk result (HasFlushed view old.engin
 Programs view step.Turn old result new = Unit {0}
 
 -- WHAT THE CONTRACT OF A READ SAYS (`Device::read`), whatever the die does: when it is refused, and that it only reads. One that is done gives the data
--- area of the sound page in the buffer, which is of the sector, or 00h bytes where there is no such row. Where the die is honest, what it holds mounts.
+-- area of the sound page in the buffer, which is of the sector, or 00h bytes where there is no such row; one that is damaged was so by a page that was read for
+-- it, and that still is in its buffer. Where the die is honest, what it holds mounts.
 pub record TakesRead {N : Type 0} (view : View N) (sector : ℕ) (old : Device N) (result : Result (Unit {0}) DeviceFault) (bytes : List ℕ) (new : Device N) : Type 0 where
   pub past : stop_of old.engine.fault ≡ None → old.engine.geometry.sectors ≤ sector → (result ≡ Err OutOfRange) × (new ≡ old)
   pub within : sector < old.engine.geometry.sectors → result ≢ Err OutOfRange
   pub faults : IfErr result IsReadRefusal
   pub memory : LeavesRead sector result (ram old.engine) (ram new.engine) (page_in_buffer new.engine.scratch) (page_in_buffer new.engine.page) bytes
+  pub damaged : stop_of old.engine.fault ≡ None → result ≡ Err Damaged → FindsDamage (ram old.engine) sector (page_in_buffer new.engine.scratch) (page_in_buffer new.engine.page)
   pub read_only : new.read_only ≡ old.read_only
   pub only_reads : OnlyReads view old.engine.nand new.engine.nand
   pub asked : AsksOnly view.called old.engine.nand new.engine.nand

@@ -99,6 +99,7 @@ returns-in-Read-clause-fulfils g c =
       within = its.within;
       faults = its.faults;
       memory = its.memory;
+      damaged = its.damaged;
       read_only = its.read_only;
       only_reads = its.only_reads;
       asked = its.asked;
