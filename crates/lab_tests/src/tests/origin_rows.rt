@@ -39,7 +39,8 @@ const C: Made = Made::Changed(&PAGES, &[(870, 0x00)]);
 
 const D: Made = Made::Changed(&PAGES, &[(875, 0x00)]);
 
-const NONE: &str = "mended 0: so many sectors are shown of a page that none of the readings has in its row\n";
+const NONE: &str =
+    "mended 0: so many sectors are shown of a page that none of the readings has in its row\n";
 
 const MENDED_1: &str =
     "mended 1: so many sectors are shown of a page that none of the readings has in its row\n";
