@@ -1,5 +1,5 @@
 //! The list of a store's lost sectors is kept before anything is asked of the store, which then is recovered and opened.
-ghost use Rattle.std.specs.Prelude.{◌≡◌, ◌≤◌, true, IfErr, IfOk, MatchResult, OnErr, OnOk};
+ghost use Rattle.std.specs.Prelude.{◌≡◌, ◌≤◌, [], true, IfErr, IfOk, MatchResult, OnErr, OnOk};
 ghost use Rattle.std.specs.List.{list_any};
 ghost use Rattle.image_check.specs.Agrees.{Agrees};
 ghost use Rattle.disk_server.specs.Disk.{contents_of, holds};
@@ -84,6 +84,7 @@ pub fn recover_listed<S: Store + Drop>(
     ensures syncs { IfOk result (λ d. SyncsWhen sync_when d.engine.nand) }
     ensures share { IfOk result (λ d. d.engine.mapping.share ≡ share) }
     ensures honest { IfOk result (λ d. S.honest listed.store ≡ true → holds (is_honest_in S.honest) d ≡ true) }
+    ensures clear { IfOk result (λ d. S.honest listed.store ≡ true → d.engine.nand.told.at_hand ≡ []) }
     ensures bytes { IfOk result (λ d. S.honest listed.store ≡ true → HoldsRecovered mark (S.held listed.store) (contents_of (view_in S.held S.honest S.failed) d).bytes) }
     ensures entries { IfOk result (λ d. IsOpenedLeft S.held S.honest S.failed mark listed.store capacity share d.engine.mapping.capacity) }
     ensures fault { IfErr result (IsUnrecovered S.held S.honest S.failed listed.store capacity share mark) }

@@ -1,5 +1,5 @@
 //! A store is recovered, and its disk is opened.
-ghost use Rattle.std.specs.Prelude.{◌≡◌, ◌≤◌, Bool, true, IfOk, IfErr};
+ghost use Rattle.std.specs.Prelude.{◌≡◌, ◌≤◌, [], Bool, true, IfOk, IfErr};
 ghost use Rattle.image_check.specs.Agrees.{Agrees};
 ghost use Rattle.disk_server.specs.Disk.{contents_of, holds};
 ghost use Rattle.disk_server.specs.Opened.{SyncsWhen, is_honest_in, view_in};
@@ -65,6 +65,7 @@ pub(crate) fn recover_mounted<S: Store + Drop>(
     ensures syncs { IfOk result (λ d. SyncsWhen sync_when d.engine.nand) }
     ensures share { IfOk result (λ d. d.engine.mapping.share ≡ share) }
     ensures honest { IfOk result (λ d. S.honest store ≡ true → holds (is_honest_in S.honest) d ≡ true) }
+    ensures clear { IfOk result (λ d. S.honest store ≡ true → d.engine.nand.told.at_hand ≡ []) }
     ensures bytes { IfOk result (λ d. S.honest store ≡ true → HoldsRecovered mark (S.held store) (contents_of (view_in S.held S.honest S.failed) d).bytes) }
     ensures entries { IfOk result (λ d. IsOpenedLeft S.held S.honest S.failed mark store capacity share d.engine.mapping.capacity) }
     ensures fault { IfErr result (IsUnrecovered S.held S.honest S.failed store capacity share mark) }

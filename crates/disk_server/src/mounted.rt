@@ -75,6 +75,7 @@ pub fn open_mounted<N: Nand>(
     ensures honest { IfOk result (λ d. holds N.view.honest d ≡ N.view.honest nand) }
     ensures array { IfOk result (λ d. N.view.honest nand ≡ true → array_in N.view.flash d ≡ array_of geometry.now (N.view.flash nand).image) }
     ensures pages { IfOk result (λ d. N.view.honest nand ≡ true → N.view.flash d.engine.nand ≡ N.view.flash nand) }
+    ensures told { IfOk result (λ d. N.view.honest nand ≡ true → N.view.recorded d.engine.nand ≡ N.view.recorded nand) }
     ensures reads { IfOk result (λ d. OnlyReads N.view nand d.engine.nand) }
     ensures unmounted { IfErr result (IsUnmounted N.view nand geometry.now capacity) }
     ensures fault { IfErr result (λ fault. OnlyReads N.view nand (nand_of fault)) }

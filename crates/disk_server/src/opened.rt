@@ -1,5 +1,5 @@
 //! The disk of the die that a store holds.
-ghost use Rattle.std.specs.Prelude.{◌≡◌, ◌≤◌, ℕ, true, IfOk, IfErr};
+ghost use Rattle.std.specs.Prelude.{◌≡◌, ◌≤◌, [], ℕ, true, IfOk, IfErr};
 ghost use Rattle.mount.specs.Mounted.{IsMounted};
 ghost use Rattle.disk_server.specs.Disk.{contents_of, holds};
 ghost use Rattle.disk_server.specs.Opened.{bytes_of, flash_in, flash_as_opened, is_honest_in, ComesBack, HasCome, IsStoreUnopened, IsUnopenedAt, IsUnstarted, SyncsWhen, why_of, view_in};
@@ -67,6 +67,7 @@ pub(crate) fn driver_over<S: Store + Drop>(
     ensures honest { IfOk result (λ d. is_honest_in S.honest d ≡ S.honest store) }
     ensures geometry { IfOk result (λ d. d.geometry ≡ (S.held store).geometry) }
     ensures syncs { IfOk result (SyncsWhen sync_when) }
+    ensures clear { IfOk result (λ d. d.told.at_hand ≡ []) }
     ensures flash { IfOk result (λ d. S.honest store ≡ true → flash_in S.held d ≡ flash_as_opened (S.held store)) }
     ensures pages { IfOk result (λ d. S.honest store ≡ true → (flash_in S.held d).image ≡ (S.held store).pages) }
     ensures fault { IfErr result (λ e. IsUnopenedAt S.held S.honest S.failed store e.0 e.1) }
@@ -137,8 +138,8 @@ pub fn mount_store<S: Store + Drop>(
 }
 
 /// Opens the disk of the die that a store holds: its pages are mounted, and a device with a cache of `capacity` entries is started, in which `share` moved sectors may wait for each translation page in the mean. **Of a store that is honest
-/// the disk's bytes are those of the array that its pages hold, one sector behind another, and it is honest.** The pages stay. The die syncs the store as
-/// `sync_when` says.
+/// the disk's bytes are those of the array that its pages hold, one sector behind another, and it is honest.** The pages stay, and in the
+/// record of its driver nothing is at hand. The die syncs the store as `sync_when` says.
 ///
 /// # Errors
 ///
@@ -160,6 +161,7 @@ pub fn open_store<S: Store + Drop>(
     ensures honest { IfOk result (λ d. holds (is_honest_in S.honest) d ≡ S.honest store) }
     ensures bytes { IfOk result (λ d. S.honest store ≡ true → (contents_of (view_in S.held S.honest S.failed) d).bytes ≡ bytes_of (S.held store)) }
     ensures pages { IfOk result (λ d. S.honest store ≡ true → flash_in S.held d.engine.nand ≡ flash_as_opened (S.held store)) }
+    ensures clear { IfOk result (λ d. S.honest store ≡ true → d.engine.nand.told.at_hand ≡ []) }
     ensures fault { IfErr result (λ e. IsUnstarted S.held S.honest S.failed store capacity share e.0 e.1) }
     ensures given { IfErr result (λ e. ComesBack S.held S.honest store e.1 e.0) }
 {

@@ -1,5 +1,5 @@
 //! The disk of a die that may have been stopped.
-ghost use Rattle.std.specs.Prelude.{◌≡◌, ◌≤◌, false, true, IfOk, IfErr, OnOk};
+ghost use Rattle.std.specs.Prelude.{◌≡◌, ◌≤◌, [], false, true, IfOk, IfErr, OnOk};
 ghost use Rattle.nbd_stream.specs.declared.task.Task.TheVariants as task;
 ghost use Rattle.disk_server.specs.Disk.{contents_of, holds};
 ghost use Rattle.disk_server.specs.Opened.{SyncsWhen, bytes_of, flash_in, flash_as_opened, is_honest_in, view_in};
@@ -50,6 +50,7 @@ fn open_once<S: Store + Drop>(
     ensures honest { IfOk result (λ d. holds (is_honest_in S.honest) d ≡ S.honest store) }
     ensures bytes { IfOk result (λ d. S.honest store ≡ true → (contents_of (view_in S.held S.honest S.failed) d).bytes ≡ bytes_of (S.held store)) }
     ensures pages { IfOk result (λ d. S.honest store ≡ true → flash_in S.held d.engine.nand ≡ flash_as_opened (S.held store)) }
+    ensures clear { IfOk result (λ d. S.honest store ≡ true → d.engine.nand.told.at_hand ≡ []) }
     ensures entries { IfOk result (λ d. d.engine.mapping.capacity ≡ capacity) }
     ensures fault { IfErr result (IsLastFault S.held S.honest S.failed store capacity share) }
 {
@@ -74,6 +75,7 @@ fn open_either<S: Store + Drop>(
     ensures share { IfOk result (λ d. d.engine.mapping.share ≡ share) }
     ensures honest { IfOk result (λ d. holds (is_honest_in S.honest) d ≡ S.honest store) }
     ensures bytes { IfOk result (λ d. S.honest store ≡ true → (contents_of (view_in S.held S.honest S.failed) d).bytes ≡ bytes_of (S.held store)) }
+    ensures clear { IfOk result (λ d. S.honest store ≡ true → d.engine.nand.told.at_hand ≡ []) }
     ensures entries { IfOk result (λ d. IsOpenedEither S.held S.honest store capacity stale d.engine.mapping.capacity) }
     ensures fault { IfErr result (IsOpenedNeither S.held S.honest S.failed store capacity stale share) }
 {
@@ -102,6 +104,7 @@ fn open_stale<S: Store + Drop>(
     ensures share { IfOk result (λ d. d.engine.mapping.share ≡ share) }
     ensures honest { IfOk result (λ d. S.honest store ≡ true → holds (is_honest_in S.honest) d ≡ true) }
     ensures bytes { IfOk result (λ d. S.honest store ≡ true → (contents_of (view_in S.held S.honest S.failed) d).bytes ≡ bytes_of (S.held store)) }
+    ensures clear { IfOk result (λ d. S.honest store ≡ true → d.engine.nand.told.at_hand ≡ []) }
     ensures entries { IfOk result (λ d. IsOpenedFlushed S.held S.honest S.failed capacity stale share d.engine.mapping.capacity) }
     ensures fault { IfErr result (IsUnopenedStale S.held S.honest S.failed store capacity stale share) }
 {
@@ -140,6 +143,7 @@ pub fn open_stopped<S: Store + Drop>(
     ensures honest { IfOk result (λ d. S.honest store ≡ true → holds (is_honest_in S.honest) d ≡ true) }
     ensures bytes { IfOk result (λ d. S.honest store ≡ true → (contents_of (view_in S.held S.honest S.failed) d).bytes ≡ bytes_of (S.held store)) }
     ensures pages { IfOk result (λ d. writes ≡ false → S.honest store ≡ true → flash_in S.held d.engine.nand ≡ flash_as_opened (S.held store)) }
+    ensures clear { IfOk result (λ d. S.honest store ≡ true → d.engine.nand.told.at_hand ≡ []) }
     ensures entries { IfOk result (λ d. IsOpenedWith S.held S.honest S.failed writes store capacity share d.engine.mapping.capacity) }
     ensures fault { IfErr result (IsUnopenedLater S.held S.honest S.failed store capacity share) }
 {

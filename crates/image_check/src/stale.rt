@@ -58,6 +58,7 @@ fn read_translation<S: PageSource>(
     requires spare_whole { length spare.old ≡ geometry.now.spare_bytes }
     ensures entries { OnOk result (S.view.honest source.old ≡ true → (i : ℕ) → i < entries geometry.now → entry_at body.new i ≡ entry_in (S.view.flash source.old).image i (place_in latest)) }
     ensures same { OnOk result (S.view.honest source.old ≡ true → S.view.flash source.new ≡ S.view.flash source.old) }
+    ensures told { OnOk result (S.view.honest source.old ≡ true → S.view.recorded source.new ≡ S.view.recorded source.old) }
     ensures only_reads { OnlyReads S.view source.old source.new }
     ensures reads { S.view.reads source.new ≤ S.view.reads source.old + 1 }
     ensures rose { OnErr result (HasRisen (S.view.failed source.old) (S.view.failed source.new)) }
@@ -96,6 +97,7 @@ pub fn find_stale<S: PageSource>(
     ensures rising { OnOk result (IsRisingBelow geometry.now.sectors stale.new.items) }
     ensures same { result ≢ Err Refusal.Source → S.view.honest source.old ≡ true → S.view.flash source.new ≡ S.view.flash source.old }
     ensures stops { IfErr result StopsCheck }
+    ensures told { OnOk result (S.view.honest source.old ≡ true → S.view.recorded source.new ≡ S.view.recorded source.old) }
     ensures only_reads { OnlyReads S.view source.old source.new }
     ensures reads { S.view.reads source.new ≤ S.view.reads source.old + translation_pages geometry.now }
     ensures rose { result ≡ Err Refusal.Source → HasRisen (S.view.failed source.old) (S.view.failed source.new) }

@@ -106,6 +106,7 @@ pub fn mount_counted<S: PageSource>(
     ensures rising { IfOk result (λ mounted. IsRisingBelow geometry.now.sectors mounted.stale.items) }
     ensures asked { IfOk result (λ mounted. IsAsked geometry.now capacity mounted.certificate) }
     ensures only { IfErr result IsOfMounting }
+    ensures told { OnOk result (S.view.honest source.old ≡ true → S.view.recorded source.new ≡ S.view.recorded source.old) }
     ensures only_reads { OnlyReads S.view source.old source.new }
     ensures reads { S.view.reads source.new ≤ S.view.reads source.old + (row_count geometry.now + translation_pages geometry.now) }
     ensures rose { result ≡ Err Refusal.Source → HasRisen (S.view.failed source.old) (S.view.failed source.new) }

@@ -44,6 +44,7 @@ fn survey_pages<S: PageSource>(
     ensures whole { OnOk result (S.view.honest source.old ≡ true → IsImage geometry.now (S.view.flash source.old).image) }
     ensures stops { IfErr result StopsCheck }
     ensures same { result ≢ Err Refusal.Source → S.view.honest source.old ≡ true → S.view.flash source.new ≡ S.view.flash source.old }
+    ensures told { OnOk result (S.view.honest source.old ≡ true → S.view.recorded source.new ≡ S.view.recorded source.old) }
     ensures only_reads { OnlyReads S.view source.old source.new }
     ensures reads { S.view.reads source.new ≤ S.view.reads source.old + row_count geometry.now }
     ensures rose { result ≡ Err Refusal.Source → HasRisen (S.view.failed source.old) (S.view.failed source.new) }
@@ -89,6 +90,7 @@ pub(crate) fn show_pages<S: PageSource>(
     ensures err { IfErr result (λ refusal. S.view.honest source.old ≡ true → (capacity : ℕ) → Refuses geometry.now capacity (S.view.flash source.old).image refusal) }
     ensures only { IfErr result IsOfMounting }
     ensures same { result ≢ Err Refusal.Source → S.view.honest source.old ≡ true → S.view.flash source.new ≡ S.view.flash source.old }
+    ensures told { OnOk result (S.view.honest source.old ≡ true → S.view.recorded source.new ≡ S.view.recorded source.old) }
     ensures only_reads { OnlyReads S.view source.old source.new }
     ensures reads { S.view.reads source.new ≤ S.view.reads source.old + row_count geometry.now }
     ensures rose { result ≡ Err Refusal.Source → HasRisen (S.view.failed source.old) (S.view.failed source.new) }

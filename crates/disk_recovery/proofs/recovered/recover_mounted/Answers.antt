@@ -1,8 +1,8 @@
-use Rattle.std.proofs.Common.{◌≡◌, ◌∙◌, inl, true}
+use Rattle.std.proofs.Common.{◌≡◌, ◌∙◌, [], inl, true}
 use Rattle.disk_server.specs.Disk.{contents_of}
 use Rattle.disk_server.specs.Opened.{view_in}
 use Rattle.disk_recovery.specs.Recovered.{IsUnrecovered}
-use Rattle.disk_server.proofs.FaultLemmas.{handed_on}
+use Rattle.disk_server.proofs.FaultLemmas.{clear_by, handed_on}
 use Rattle.disk_recovery.proofs.RecoveredLemmas.{left_once, left_twice, opened_bytes, opened_entries, opened_fault}
 use Rattle.disk_recovery.proofs.recovered.recover_mounted.Goals as goal
 
@@ -64,3 +64,10 @@ pub returns-in_err-changed-clause-fault : goal.returns-in_err-changed-clause-fau
 returns-in_err-changed-clause-fault g c =
     handed_on (IsUnrecovered g.S.Store.held g.S.Store.honest g.S.Store.failed c.args.store c.args.capacity c.args.share c.args.mark) _ _ c.from_residual.ensures.1
     (inl (c.recover_once.new.store, c.in_err-changed.ensures.fault))
+
+pub returns-then-not-changed-clause-clear : goal.returns-then-not-changed-clause-clear
+returns-then-not-changed-clause-clear g c = clear_by (λ d. d.engine.nand.told.at_hand ≡ []) _ _ c.open_stopped.result (λ h. c.in_ok-changed.ensures.honest ∙ h) c.open_stopped.ensures.clear
+
+pub returns-in-Ok-clause-clear : goal.returns-in-Ok-clause-clear
+returns-in-Ok-clause-clear g c =
+    clear_by (λ d. d.engine.nand.told.at_hand ≡ []) _ _ c.open_stopped-in-Ok.result (λ h. c.in-Ok.ensures.honest ∙ (c.in_ok-changed.ensures.honest ∙ h)) c.open_stopped-in-Ok.ensures.clear

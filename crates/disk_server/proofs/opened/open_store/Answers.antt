@@ -1,4 +1,5 @@
-use Rattle.std.proofs.Common.{sym, subst, ◌∙◌}
+use Rattle.std.proofs.Common.{ap, sym, subst, ◌∙◌}
+use Rattle.std.specs.Prelude.{unwrap_or}
 use Rattle.disk_server.specs.Open.{nand_of}
 use Rattle.disk_server.proofs.FaultLemmas.{handed_on}
 use Rattle.disk_server.proofs.OpenedLemmas.{opened_bytes, unstarted, unopened_come, unopened_so, IsBehind, IsOver}
@@ -46,3 +47,6 @@ returns-in-Ok-clause-bytes g c =
 
 pub returns-in-Ok-clause-pages : goal.returns-in-Ok-clause-pages
 returns-in-Ok-clause-pages g c = λ is. c.in-Ok.ensures.pages (c.in_ok-driver.ensures.honest ∙ is) ∙ c.in_ok-driver.ensures.flash is
+
+pub returns-in-Ok-clause-clear : goal.returns-in-Ok-clause-clear
+returns-in-Ok-clause-clear g c = λ is. ap (λ o. (unwrap_or o c.in_ok-driver.driver.told).at_hand) (c.in-Ok.ensures.told (c.in_ok-driver.ensures.honest ∙ is)) ∙ c.in_ok-driver.ensures.clear

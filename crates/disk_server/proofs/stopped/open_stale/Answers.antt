@@ -1,5 +1,6 @@
-use Rattle.std.proofs.Common.{inl, inr, refl, Ok, Err, ◌∙◌}
+use Rattle.std.proofs.Common.{◌≡◌, [], inl, inr, refl, Ok, Err, ◌∙◌}
 use Rattle.disk_server.specs.Stopped.{AsksToFlush}
+use Rattle.disk_server.proofs.FaultLemmas.{clear_by}
 use Rattle.disk_server.proofs.StoppedLemmas.{held_again, reopened, then_opened, then_unopened}
 use Rattle.disk_server.proofs.stopped.open_stale.Goals as goal
 
@@ -20,6 +21,7 @@ returns-in-Ok-flush g c =
       bytes = reopened _ _ _ _ _ _ c.open_either.result (λ honest. c.in-Ok-flush.ensures.kept ∙ c.in-Ok.ensures.honest ∙ honest)
           (λ honest held. c.close_store.ensures.bytes held ∙ c.flush.ensures.bytes held ∙ c.in-Ok.ensures.bytes honest)
           c.close_store.ensures.honest c.open_either.ensures.bytes;
+      clear = clear_by (λ d. d.engine.nand.told.at_hand ≡ []) _ _ c.open_either.result (λ honest. c.close_store.ensures.honest (c.in-Ok-flush.ensures.kept ∙ c.in-Ok.ensures.honest ∙ honest)) c.open_either.ensures.clear;
       share = c.open_either.ensures.share;
       entries = then_opened g.S.Store.held g.S.Store.honest g.S.Store.failed (λ d. d.engine.mapping.capacity) c.args.capacity c.args.stale c.args.share c.flush.new.disk asks c.close_store.result c.close_store.ensures.store c.open_either.result c.open_either.ensures.entries;
       fault = then_unopened g.S.Store.held g.S.Store.honest g.S.Store.failed (λ d. d.engine.mapping.capacity) c.args.capacity c.args.stale c.args.share c.flush.new.disk asks c.close_store.result c.close_store.ensures.store c.args.store c.open_either.result c.open_either.ensures.fault;

@@ -10,6 +10,7 @@ use Rattle.image_check.proofs.stale.find_stale.Goals as goal
 
 pub loop-page-init : goal.loop-page-init
 loop-page-init g c = record {
+  told = λ honest. refl;
   only_reads = reads_none _ _;
   same = λ honest. refl;
   noted = λ honest keys.
@@ -49,6 +50,7 @@ loop-page-preserved g c =
     let flash = g.S.PageSource.view.flash c.args.source.now in
     let span : IsSpan geo t first end = span_of geo t _ first end _ _ c.loop-page-test.true c.translation_pages-page-end.ensures c.sectors-sectors.ensures c.entries-entries.ensures refl c.min-end.ensures in
     record {
+      told = λ honest. read.told (inv.only_reads.honest_is ∙ honest) ∙ inv.told honest;
       only_reads = reads_then _ _ _ _ inv.only_reads read.only_reads;
       same = λ honest. read.same (inv.only_reads.honest_is ∙ honest) ∙ inv.same honest;
       noted = λ honest keys.
@@ -72,6 +74,7 @@ returns g c =
       rising = subst (λ k. IsRisingBelow k c.loop-page.stale.items) (span_all geo _ end) inv.rising;
       same = λ other. inv.same;
       stops = tt;
+      told = inv.told;
       only_reads = inv.only_reads;
       reads = reads_to _ _ _ _ inv.reads end;
       rose = λ failed. absurd (ok_not_source _ _ refl failed);
@@ -87,6 +90,7 @@ returns-in_err-read_translation g c =
       rising = tt;
       same = λ other. absurd (other refl);
       stops = inl refl;
+      told = tt;
       only_reads = reads_then _ _ _ _ inv.only_reads read.only_reads;
       reads = reads_ended _ _ _ _ _ _ inv.reads read.reads c.loop-page-test.true c.translation_pages-page-end.ensures;
       rose = λ failed. risen_over _ _ _ inv.only_reads.failed_is c.in_err-read_translation.ensures.rose;
@@ -102,6 +106,7 @@ returns-in_err-note_stale g c =
       rising = tt;
       same = λ other honest. read.same (inv.only_reads.honest_is ∙ honest) ∙ inv.same honest;
       stops = inr refl;
+      told = tt;
       only_reads = reads_then _ _ _ _ inv.only_reads read.only_reads;
       reads = reads_ended _ _ _ _ _ _ inv.reads read.reads c.loop-page-test.true c.translation_pages-page-end.ensures;
       rose = λ failed. absurd (memory_not_source (same_refusal _ _ _ refl failed));

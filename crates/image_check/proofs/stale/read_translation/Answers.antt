@@ -27,6 +27,7 @@ returns-in-None g c = record {
       blank_entry c.fill.new.self (length c.args.body.now) i (c.fill.ensures.after (λ y e. e)) (omega arith)
       ∙ ap (entry_in (g.S.PageSource.view.flash c.args.source.now).image i) (sym c.in-None.is ∙ c.row.ensures);
   same = λ honest. refl;
+  told = λ honest. refl;
   only_reads = reads_none _ _;
   reads = reads_same _ _;
   rose = tt;
@@ -43,6 +44,7 @@ returns-in-Some g c =
           ∙ ap (entry_in image i) (sym c.in-Some.is ∙ c.row.ensures))
           c.read_page.ensures.page;
       same = read.same;
+      told = read.recorded;
       only_reads = record { geometry_is = read.geometry; honest_is = read.honest; calm_is = read.calm; programs_are = read.programs; erases_are = read.erases; failed_is = read.failed };
       reads = reads_once _ _ read.reads;
       rose = read.rose;

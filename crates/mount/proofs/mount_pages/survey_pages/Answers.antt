@@ -15,6 +15,7 @@ use Rattle.mount.proofs.mount_pages.survey_pages.Goals as goal
 
 pub loop-row-init : goal.loop-row-init
 loop-row-init g c = record {
+  told = λ honest. refl;
   only_reads = reads_none _ _;
   sized = c.in_ok-survey.ensures.sized;
   same = λ honest. refl;
@@ -46,6 +47,7 @@ loop-row-preserved g c =
     let inv = c.loop-row.invariant in
     let read = c.in_ok-read_page.ensures in
     record {
+      told = λ honest. read.recorded (inv.only_reads.honest_is ∙ honest) ∙ inv.told honest;
       only_reads = reads_then _ _ _ _ inv.only_reads (record { geometry_is = read.geometry; honest_is = read.honest; calm_is = read.calm; programs_are = read.programs; erases_are = read.erases; failed_is = read.failed });
       sized = sized_more geo c.loop-row.row c.loop-row.survey c.see.new.self inv.sized.geometry_is c.see.ensures.sized;
       same = λ honest. read.same (inv.only_reads.honest_is ∙ honest) ∙ inv.same honest;
@@ -65,6 +67,7 @@ returns-in_err-survey g c =
       whole = tt;
       stops = inr refl;
       same = λ other honest. refl;
+      told = tt;
       only_reads = reads_none _ _;
       reads = reads_same _ _;
       rose = λ is. absurd (memory_not_source (same_refusal _ _ _ refl is));
@@ -81,6 +84,7 @@ returns-in_err-read_page g c =
       whole = tt;
       stops = inl refl;
       same = λ other. absurd (other refl);
+      told = tt;
       only_reads = reads_then _ _ _ _ inv.only_reads (record { geometry_is = read.geometry; honest_is = read.honest; calm_is = read.calm; programs_are = read.programs; erases_are = read.erases; failed_is = read.failed });
       reads = reads_stopped _ _ _ _ _ _ inv.reads read.reads c.loop-row-test.true c.rows-row-end.ensures;
       rose = λ is. risen_over _ _ _ inv.only_reads.failed_is c.in_err-read_page.ensures.rose;
@@ -100,6 +104,7 @@ returns g c =
       whole = λ honest. subst (λ (f : Flash). IsImage geo f.image) (inv.same honest) (whole honest);
       stops = tt;
       same = λ other. inv.same;
+      told = inv.told;
       only_reads = inv.only_reads;
       reads = reads_to _ _ _ _ inv.reads end;
       rose = λ is. absurd (given_not _ _ _ refl is);
