@@ -1,5 +1,5 @@
 -- Why a die was not made.
-use Rattle.std.proofs.Common.{◌≡◌, ◌<◌, ◌*◌, ◌⊎◌, ◌∙◌, ap, inl, inr, ℕ, Bool, true, false, List, length, Option, refl, subst, sym}
+use Rattle.std.proofs.Common.{◌≡◌, ◌<◌, ◌*◌, ◌⊎◌, ◌∙◌, ap, inl, inr, ℕ, Bool, true, false, List, length, Option, Some, None, refl, subst, sym}
 use Rattle.std.specs.Prelude.{Result, Ok, Err, IfErr, OnErr, OnOk}
 use Rattle.std.specs.Borrow.{Bor}
 use Rattle.file_die.specs.Store.{Held, blank}
@@ -20,7 +20,7 @@ use Rattle.disk_commands.specs.BadBlocks.{AreBadAsked, HasMarks, is_copied}
 use Rattle.disk_commands.specs.declared.files.DiskFileFault.{DiskFileFault}
 use Rattle.disk_commands.specs.Opening.{told_at, told_of_copy, IsFileOrMemoryFault}
 use Rattle.disk_commands.specs.Created.{HasCreated, IsDieAskedFor, IsNoDump, IsUncreated, IsNewDieUnformatted, unformatted}
-use Rattle.disk_commands.specs.Files.{DiskFileAnswers, FailsCopy, FailsNoMore, Kept, with_kept_disk}
+use Rattle.disk_commands.specs.Files.{DiskFileAnswers, FailsCopy, FailsNoMore, Kept, LeavesNoPart, no_part, with_kept_disk, made_part}
 
 -- erased pages were not formatted, for this
 pub not_formatted : {S : Type 0} (held : S → Held) (honest : S → Bool) (failed : S → ℕ) (a : DiskFileAnswers) (path : Bor (List ℕ)) (shape : DiskShape) (bad : List ℕ) (store given : S) (why : CreateFault)
@@ -57,7 +57,7 @@ not_copied held honest failed a path dump shape wanted why told fails bytes is =
     by file.InUse h = inr (refl, h)
     by file.Exists h = inr (refl, h)
     by (file.Length found) h = inl (refl, refl, h)
-    by file.OutOfMemory h = inr h
+    by file.OutOfMemory h = tt
 
 -- they were not marked
 pub not_marked : {S : Type 0} (held : S → Held) (honest : S → Bool) (failed : S → ℕ) (a : DiskFileAnswers) (path : Bor (List ℕ)) (shape : DiskShape) (bad : List ℕ) (store left : S) (told : DiskCommandFault)
@@ -65,6 +65,18 @@ pub not_marked : {S : Type 0} (held : S → Held) (honest : S → Bool) (failed 
     → IsNewDieUnformatted held honest failed a path.now shape bad told
 not_marked held honest failed a path shape bad store left told is erased some (inl memory) = subst (IsNewDieUnformatted held honest failed a path.now shape bad) (sym memory) tt
 not_marked held honest failed a path shape bad store left told is erased some (inr h) = subst (IsNewDieUnformatted held honest failed a path.now shape bad) (sym h.0) (refl, inr (some, (store, left, is, erased, h.1)))
+
+-- what was made beside a path is removed
+pub none_after : (part : Option Bool) → no_part (made_part part) ≡ no_part part
+none_after (Some before) = refl
+none_after None = refl
+
+pub none_twice : (part : Option Bool) → no_part (no_part part) ≡ no_part part
+none_twice (Some before) = refl
+none_twice None = refl
+
+pub removed : (before made after : Option Bool) → made ≡ made_part before → after ≡ no_part made → LeavesNoPart before after
+removed before made after is gone = inr (gone ∙ (ap no_part is ∙ none_after before))
 
 -- a die that was made was put in its place
 pub created : {S : Type 0} (held : S → Held) (honest : S → Bool) (a : DiskFileAnswers) (words : CreateWords) (shape : DiskShape) (bad : List ℕ) (before between after : Option (List Kept)) (store : S) (result : Result (Unit {0}) DiskCommandFault)

@@ -1,17 +1,18 @@
 -- What files that say no more answer was answered before.
-use Rattle.std.proofs.Common.{◌≡◌, ◌∙◌, ◌*◌, ◌++◌, inl, inr, zero, suc, ℕ, Bool, true, false, List, [], ◌∷◌, ap, drop, length, refl, replicate, subst, sym, take}
+use Rattle.std.proofs.Common.{◌≡◌, ◌∙◌, ◌+◌, ◌*◌, ◌++◌, inl, inr, zero, suc, ℕ, Bool, true, false, List, [], ◌∷◌, ap, drop, length, refl, replicate, subst, sym, take}
 use Rattle.std.specs.Borrow.{Bor}
 use Rattle.page_layout.specs.declared.geometry.Geometry.{Geometry}
 use Rattle.certificate.specs.Claim.{Claim}
 use Rattle.file_die.specs.Store.{Held}
 use Rattle.mount.specs.Mounted.{IsMounted}
 use Rattle.lost_sectors.specs.Lost.{Adds, DropsNone, is_lost}
+use Rattle.disk_server.specs.declared.opened.OpenStoreFault.{OpenStoreFault}
 use Rattle.disk_server.specs.Opened.{HasCome}
 use Rattle.page_layout.specs.Counter.{HasRisen}
 use Rattle.lost_sectors.specs.declared.fault.LostFault.{LostFault}
 use Rattle.lost_sectors.specs.declared.fault.LostFault.TheVariants as lost
 use Rattle.disk_commands.specs.Check.{IsUncheckedAt, unseen}
-use Rattle.std.specs.Prelude.{IfOk, Option, Result}
+use Rattle.std.specs.Prelude.{IfOk, Option, Result, if◌then◌else◌}
 use Rattle.disk_damage.specs.Numbers.{with_commas}
 use Rattle.disk_commands.specs.declared.printed.Form.{Form}
 use Rattle.disk_commands.specs.declared.printed.Form.TheVariants.{Json}
@@ -21,7 +22,7 @@ use Rattle.disk_commands.specs.declared.mark.FoundMark.{FoundMark}
 use Rattle.disk_commands.specs.declared.shape_text.DiskText.{DiskText}
 use Rattle.disk_commands.specs.declared.text.DiskCommandFault.{DiskCommandFault}
 use Rattle.disk_commands.specs.declared.text.DiskCommandFault.TheVariants as fault
-use Rattle.disk_commands.specs.Damage.{IsListAt, IsListBy, IsLookedAt, IsNoListAt, IsUnlookedAt}
+use Rattle.disk_commands.specs.Damage.{IsListAt, IsListBy, IsLookedAt, IsNoListAt, IsUnlookedAt, no_disk, wants_memory}
 use Rattle.disk_commands.specs.declared.files.DiskFileFault.{DiskFileFault}
 use Rattle.disk_commands.specs.Files.{DiskFilesAnswerNoMore, DiskFileAnswers, SaysNoMore}
 use Rattle.disk_commands.specs.Opening.{file_bytes, IsFaultAt, IsMarkAt, IsNotAt, IsShapeFault, IsStoreAt, IsTextAt, told_at}
@@ -32,7 +33,7 @@ mark_back a b path true found less h = (h.0, less.marks path h.0 h.1, h.2)
 mark_back a b path false found less h = h
 
 pub list_back : (a b : DiskFileAnswers) (path : List ℕ) (listed : Bool) (sectors : ℕ) (lost : List Bool) → SaysNoMore a b → IsListBy listed b path sectors lost → IsListBy listed a path sectors lost
-list_back a b path true sectors lost less h = (h.0, less.lists path h.0 h.1, h.2)
+list_back a b path true sectors lost less h = (h.0, less.lists path (sectors + 2) h.0 h.1, h.2)
 list_back a b path false sectors lost less h = h
 
 pub fault_back : (a b : DiskFileAnswers) (path : List ℕ) (wanted : ℕ) (why : DiskCommandFault) → SaysNoMore a b → IsFaultAt b path wanted why → IsFaultAt a path wanted why
@@ -45,7 +46,7 @@ fault_back a b path wanted fault.OutOfMemory less h = less.fails path _ h
 fault_back a b path wanted why less h = h
 
 pub no_list_back : (a b : DiskFileAnswers) (path : List ℕ) (told : DiskText) (why : DiskCommandFault) → SaysNoMore a b → IsNoListAt b path told why → IsNoListAt a path told why
-no_list_back a b path told (fault.List at reason) less h = (h.0, h.1, (h.2.0, less.lists path h.2.0 h.2.1, h.2.2))
+no_list_back a b path told (fault.List at reason) less h = (h.0, h.1, (h.2.0, less.lists path (told.shape.geometry.sectors + 2) h.2.0 h.2.1, h.2.2))
 no_list_back a b path told (fault.ReadList at) less h = (h.0, h.1, (h.2.0, less.fails path h.2.0 h.2.1, h.2.2))
 no_list_back a b path told why less h = h
 
@@ -99,9 +100,17 @@ no_more_then a m t n less same more =
     let then : SaysNoMore m n = subst (λ x. SaysNoMore x n) same more in
     record {
       marks = λ path text h. less.says.marks path text (then.marks path text h);
-      lists = λ path text h. less.says.lists path text (then.lists path text h);
+      lists = λ path most text h. less.says.lists path most text (then.lists path most text h);
       fails = λ path f h. less.says.fails path f (then.fails path f h);
     }
+
+-- how it is told that a store has no disk
+by_memory : (wants : Bool) (P : DiskCommandFault → Type 0) (one other : DiskCommandFault) → P one → (wants ≡ false → P other) → P (if wants then one else other)
+by_memory true P one other h more = h
+by_memory false P one other h more = more refl
+
+pub told_no_disk : (P : DiskCommandFault → Type 0) (path : Bor (List ℕ)) (why : OpenStoreFault) → P fault.OutOfMemory → (wants_memory why ≡ false → P (fault.Open path why)) → P (no_disk path why)
+told_no_disk P path why h more = by_memory (wants_memory why) P fault.OutOfMemory (fault.Open path why) h more
 
 -- a growth was refused
 pub no_memory : {S : Type 0} (held : S → Held) (honest : S → Bool) (failed : S → ℕ) (a : DiskFileAnswers) (path : List ℕ) → IsUnlookedAt held honest failed a path fault.OutOfMemory

@@ -28,7 +28,7 @@ use Rattle.disk_commands.specs.declared.text.DiskCommandFault.{DiskCommandFault}
 use Rattle.disk_commands.specs.declared.text.DiskCommandFault.TheVariants as fault
 use Rattle.disk_commands.specs.Damage.{NamesAll}
 use Rattle.disk_commands.specs.Files.{DiskFileAnswers}
-use Rattle.disk_commands.specs.Ready.{IsNoneOf, IsNotOpened, IsReadyAt, IsUnkeptBy, IsUnreadyAt}
+use Rattle.disk_commands.specs.Ready.{IsNoneOf, IsNotOpened, IsReadyAt, IsUnkeptBy, IsUnreadyAt, keeps_mark}
 use Rattle.disk_commands.specs.Serve.{HasNotServed, HasReadDisk, HasServedAt, HasServedDisk, HasServedOn, IsDiskClosed, ServedBy, does_in, end_of, reads_in, rests_in, contents_once_guarded, terms_told, told_at_end}
 
 -- by how the disk was closed
@@ -63,15 +63,15 @@ limited contents honest calm does rests e room most first last unread left befor
 
 -- it was served, or memory for its requests was refused
 pub served_at : {S Y K : Type 0} (held : S → Held) (honest full : S → Bool) (mended_in : S → Mended) (failed : S → ℕ) (synced missed : Y → ℕ)
-    (marked : Y → SyncMark) (kept : K → List Bool) (unlisted : K → ℕ) (a : DiskFileAnswers) (words : DiskServeWords) (told : DiskText)
+    (marked : Y → SyncMark) (kept : K → List Bool) (says : K → List ℕ) (unlisted : K → ℕ) (a : DiskFileAnswers) (words : DiskServeWords) (told : DiskText)
     (mended : Mended)
     (disk : GuardedSectors (Reopened S) K) (syncs : Y) (terms : Terms) (unread left before after telling told_after : Option (List ℕ)) (result : Result (Unit {0}) DiskCommandFault)
-    → IsReadyAt held honest failed mended_in marked kept a words.disk.now words.read_only words.sync_always told mended disk syncs → NamesAll disk.lost.items told.shape.code mended telling told_after → terms ≡ terms_told told words.read_only
+    → IsReadyAt held honest failed mended_in marked kept says a words.disk.now words.read_only words.sync_always told mended disk syncs → NamesAll disk.lost.items told.shape.code mended telling told_after → terms ≡ terms_told told words.read_only
     → HasServedOn (contents_once_guarded held honest failed) (λ d. holds_in honest d.sectors) (does_in held honest full failed) (PassesOn (rests_in held honest full failed)) (ReadsGuarded (reads_in held honest failed))
     (λ d. next_to_program d.sectors) (λ d. takes_in d.sectors) synced missed marked terms words.disk disk syncs unread left before after result
     ⊎ ((result ≡ Err fault.OutOfMemory) × Keeps before after)
-    → HasServedAt held honest full mended_in failed synced missed marked kept a words unread left before after telling told_after result ⊎ HasNotServed held honest failed missed kept unlisted a words before after telling told_after result
-served_at held honest full mended_in failed synced missed marked kept unlisted a words told mended disk syncs terms unread left before after telling told_after result at named is (inl h) =
+    → HasServedAt held honest full mended_in failed synced missed marked kept says a words unread left before after telling told_after result ⊎ HasNotServed held honest failed missed kept says unlisted a words before after telling told_after result
+served_at held honest full mended_in failed synced missed marked kept says unlisted a words told mended disk syncs terms unread left before after telling told_after result at named is (inl h) =
     inl (record {
       told = told;
       disk = disk;
@@ -82,7 +82,7 @@ served_at held honest full mended_in failed synced missed marked kept unlisted a
       served = subst (λ t. HasServedOn (contents_once_guarded held honest failed) (λ d. holds_in honest d.sectors) (does_in held honest full failed) (PassesOn (rests_in held honest full failed)) (ReadsGuarded (reads_in held honest failed))
           (λ d. next_to_program d.sectors) (λ d. takes_in d.sectors) synced missed marked t words.disk disk syncs unread left before after result) is h;
     })
-served_at held honest full mended_in failed synced missed marked kept unlisted a words told mended disk syncs terms unread left before after telling told_after result at named is (inr h) =
+served_at held honest full mended_in failed synced missed marked kept says unlisted a words told mended disk syncs terms unread left before after telling told_after result at named is (inr h) =
     inr (record { told = fault.OutOfMemory; is = h.0; why = inr (inr (inr tt)); silent = h.1; unnamed = inr tt })
 
 -- ---- how it is told that a stream failed
@@ -119,20 +119,20 @@ told_in (Ok done) = fault.OutOfMemory
 told_in (Err told) = told
 
 -- what says why a disk is not ready tells of no stream
-pub unready_stops : {S Y K : Type 0} (P : Type 0) (held : S → Held) (honest : S → Bool) (failed : S → ℕ) (missed : Y → ℕ) (kept : K → List Bool) (unlisted : K → ℕ) (a : DiskFileAnswers) (path : List ℕ) (read_only : Bool) (told : DiskCommandFault)
-    → IsUnreadyAt held honest failed missed kept unlisted a path read_only told → told_as told ≡ told_as fault.Stream → P
-unready_stops {S} {Y} {K} P held honest failed missed kept unlisted a path read_only told why is = absurd (by (subst (IsUnreadyAt held honest failed missed kept unlisted a path read_only) (ap told_in is) why))
+pub unready_stops : {S Y K : Type 0} (P : Type 0) (held : S → Held) (honest : S → Bool) (failed : S → ℕ) (missed : Y → ℕ) (kept : K → List Bool) (says : K → List ℕ) (unlisted : K → ℕ) (a : DiskFileAnswers) (path : List ℕ) (read_only : Bool) (told : DiskCommandFault)
+    → IsUnreadyAt held honest failed missed kept says unlisted a path read_only told → told_as told ≡ told_as fault.Stream → P
+unready_stops {S} {Y} {K} P held honest failed missed kept says unlisted a path read_only told why is = absurd (by (subst (IsUnreadyAt held honest failed missed kept says unlisted a path read_only) (ap told_in is) why))
   where
     unkept : (b : Bool) → ¬ IsUnkeptBy b missed a path fault.Stream
-    unkept true h = h
-    unkept false (inl h) = h
-    unkept false (inr h) = h
+    unkept true (inl h) = h
+    unkept true (inr h) = h
+    unkept false h = h
 
-    unopened : (h : IsNotOpened held honest failed missed kept unlisted a path read_only fault.Stream) → IsNoneOf held honest failed kept unlisted path read_only h.told h.found h.store h.lost h.place h.left fault.Stream ⊎ IsUnkeptBy read_only missed a path fault.Stream → ⊥
+    unopened : (h : IsNotOpened held honest failed missed kept says unlisted a path read_only fault.Stream) → IsNoneOf held honest failed kept unlisted path read_only h.told h.found h.store h.lost h.place h.left fault.Stream ⊎ IsUnkeptBy (keeps_mark read_only h.told.marked) missed a path fault.Stream → ⊥
     unopened h (inl none) = none
-    unopened h (inr missing) = unkept read_only missing
+    unopened h (inr missing) = unkept (keeps_mark read_only h.told.marked) missing
 
-    by : ¬ IsUnreadyAt held honest failed missed kept unlisted a path read_only fault.Stream
+    by : ¬ IsUnreadyAt held honest failed missed kept says unlisted a path read_only fault.Stream
     by (inl (inl (inl h))) = h
     by (inl (inl (inr h))) = h.2
     by (inl (inr (inl h))) = h

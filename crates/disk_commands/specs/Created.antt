@@ -13,6 +13,7 @@ use Rattle.disk_commands.specs.ShapeText.{shape_text}
 use Rattle.disk_commands.specs.declared.words.CreateWords.{CreateWords}
 use Rattle.disk_commands.specs.declared.words.MakeWords.{MakeWords}
 use Rattle.disk_commands.specs.declared.words.MakeWords.TheVariants as make
+use Rattle.disk_server.specs.declared.opened.OpenStoreFault.{OpenStoreFault}
 use Rattle.disk_server.specs.declared.opened.OpenStoreFault.TheVariants as open_store
 use Rattle.disk_server.specs.declared.format.CreateFault.{CreateFault}
 use Rattle.disk_server.specs.declared.format.CreateFault.TheVariants as create
@@ -23,6 +24,7 @@ use Rattle.disk_commands.specs.declared.files.DiskFileFault.TheVariants as file
 use Rattle.disk_commands.specs.declared.text.DiskCommandFault.TheVariants as fault
 use Rattle.disk_commands.specs.BadBlocks.{AreBadAsked, AreNoneAsked, HasMarks, is_copied}
 use Rattle.disk_commands.specs.Asked.{IsNoShapeAsked, IsShapeAsked}
+use Rattle.disk_commands.specs.Damage.{wants_memory}
 use Rattle.disk_commands.specs.Files.{DiskFileAnswers, Kept, with_kept_disk}
 use Rattle.disk_commands.specs.Opening.{IsCopyFault, IsFaultAt, IsNotFree, IsFileOrMemoryFault}
 
@@ -88,10 +90,16 @@ IsNewDieUnformatted held honest failed a path shape bad (fault.Write told) = (to
 IsNewDieUnformatted held honest failed a path shape bad fault.OutOfMemory = Unit {0}
 IsNewDieUnformatted held honest failed a path shape bad told = IsFaultAt a path 0 told
 
+-- whether too many of its sectors are stale for the cache: a server makes room for them, so that is no fault of a dump
+abbrev pub is_too_stale : OpenStoreFault → Bool
+is_too_stale (open_store.Mount (TooStale stale asked)) = true
+is_too_stale why = false
+
 -- a dump was not copied, or is no die with a device on it
 abbrev pub IsNoDump : {S : Type 0} → (S → Held) → (honest : S → Bool) → (failed : S → ℕ) → DiskFileAnswers → (path dump : List ℕ) → DiskShape → DiskCommandFault → Type 0
 IsNoDump {S} held honest failed a path dump shape (fault.Open told why) =
-    (told.now ≡ dump) × ((store given : S) × a.holds dump (held store) × ((held store).geometry ≡ shape.geometry) × IsStoreUnopened held honest failed store shape.cache given why)
+    (told.now ≡ dump) × (wants_memory why ≡ false) × (is_too_stale why ≡ false) × ((store given : S) × a.holds dump (held store) × ((held store).geometry ≡ shape.geometry) × IsStoreUnopened held honest failed store shape.cache given why)
+IsNoDump held honest failed a path dump shape fault.OutOfMemory = Unit {0}
 IsNoDump held honest failed a path dump shape told = IsCopyFault a path dump (row_count shape.geometry * page_bytes shape.geometry) told
 
 abbrev pub IsUnmadeFor : {S : Type 0} → (S → Held) → (honest : S → Bool) → (failed : S → ℕ) → DiskFileAnswers → (path : List ℕ) → MakeWords → DiskShape → (bad : List ℕ) → DiskCommandFault → Type 0

@@ -1,5 +1,5 @@
 -- WHAT IS LOST OF THE DISK AT A PATH: the list beside it, and what its pages show.
-use Rattle.std.specs.Prelude.{◌≡◌, ◌≢◌, ◌⊎◌, ℕ, ◌≤◌, nat_le, ◌==◌, ◌&&◌, Bool, true, false, List, [], ◌∷◌, length, replicate, sum_by, Option, if◌then◌else◌}
+use Rattle.std.specs.Prelude.{◌≡◌, ◌≢◌, ◌⊎◌, ◌+◌, ℕ, ◌≤◌, nat_le, ◌==◌, ◌&&◌, Bool, true, false, List, [], ◌∷◌, length, replicate, sum_by, Option, if◌then◌else◌}
 use Rattle.std.specs.Borrow.{Bor}
 use Rattle.std.specs.Io.KnownBytes.{Appends}
 use Rattle.certificate.specs.Claim.{Claim}
@@ -13,7 +13,10 @@ use Rattle.disk_damage.specs.declared.list_text.ListFault.TheVariants as listing
 use Rattle.disk_damage.specs.Found.{IsUnfound}
 use Rattle.disk_damage.specs.ListText.{IsListText, IsNoList}
 use Rattle.disk_damage.specs.Numbers.{listed_sectors}
+use Rattle.disk_server.specs.declared.opened.OpenStoreFault.{OpenStoreFault}
+use Rattle.disk_server.specs.declared.opened.OpenStoreFault.TheVariants as why
 use Rattle.disk_server.specs.Opened.{HasCome}
+use Rattle.image_check.specs.declared.refusal.Refusal.TheVariants as refusal
 use Rattle.disk_commands.specs.declared.files.DiskFileFault.{DiskFileFault}
 use Rattle.disk_commands.specs.declared.files.DiskFileFault.TheVariants as file
 use Rattle.disk_commands.specs.declared.mark.FoundMark.{FoundMark}
@@ -26,10 +29,10 @@ use Rattle.disk_commands.specs.Opening.{IsMarkAt, IsNotAt, IsStoreAt, IsTextAt}
 
 -- ---- the list beside a disk
 
--- by whether its shape says that one stands there: what its file says of each sector; else none is lost
+-- by whether its shape says that one stands there: what its file says of each sector, which is read far enough to see that no more stands there; else none is lost
 abbrev pub IsListBy : (listed : Bool) → DiskFileAnswers → (path : List ℕ) → (sectors : ℕ) → List Bool → Type 0
 IsListBy false a path sectors lost = lost ≡ replicate sectors false
-IsListBy true a path sectors lost = (text : List ℕ) × a.lists path text × IsListText text sectors lost
+IsListBy true a path sectors lost = (text : List ℕ) × a.lists path (sectors + 2) text × IsListText text sectors lost
 
 abbrev pub IsListAt : DiskFileAnswers → (path : List ℕ) → DiskText → List Bool → Type 0
 IsListAt a path told lost = IsListBy told.lost a path told.shape.geometry.sectors lost
@@ -45,7 +48,7 @@ no_list why path = fault.List path why
 
 -- WHY THERE IS NONE, where one is to stand there: its file could not be read, or is no list of so many sectors; or a growth was refused
 abbrev pub IsNoListAt : DiskFileAnswers → (path : List ℕ) → DiskText → DiskCommandFault → Type 0
-IsNoListAt a path told (fault.List at why) = (told.lost ≡ true) × (at.now ≡ path) × ((text : List ℕ) × a.lists path text × IsNoList text told.shape.geometry.sectors why)
+IsNoListAt a path told (fault.List at why) = (told.lost ≡ true) × (at.now ≡ path) × ((text : List ℕ) × a.lists path (told.shape.geometry.sectors + 2) text × IsNoList text told.shape.geometry.sectors why)
 IsNoListAt a path told (fault.ReadList at) = (told.lost ≡ true) × (at.now ≡ path) × ((why : DiskFileFault) × a.fails path why × (why ≢ file.OutOfMemory))
 IsNoListAt a path told fault.OutOfMemory = Unit {0}
 IsNoListAt a path told _ = ⊥
@@ -64,9 +67,19 @@ pub record IsLookedAt {S : Type 0} (held : S → Held) (honest : S → Bool) (a 
   pub lost_are : honest first ≡ true → Adds (is_lost (held first).geometry (held first).pages found.mark.flushed) 0 (held first).geometry.sectors list lost
   pub kept : DropsNone list lost
 
+-- whether a store has no disk since a growth was refused: that is told by itself
+abbrev pub wants_memory : OpenStoreFault → Bool
+wants_memory why.OutOfMemory = true
+wants_memory (why.Mount refusal.OutOfMemory) = true
+wants_memory other = false
+
+-- HOW IT IS TOLD THAT THE STORE OF A FILE HAS NO DISK
+abbrev pub no_disk : Bor (List ℕ) → OpenStoreFault → DiskCommandFault
+no_disk path why = if wants_memory why then fault.OutOfMemory else fault.Open path why
+
 -- the store at the path was not mounted, or its lost sectors were not found
 abbrev pub IsNoneFound : {S : Type 0} → (S → Held) → (honest : S → Bool) → (failed : S → ℕ) → DiskFileAnswers → (path : List ℕ) → DiskCommandFault → Type 0
-IsNoneFound {S} held honest failed a path (fault.Open at why) = (at.now ≡ path) × ((told : DiskText) × (store : S) × IsStoreAt held honest a path told store × IsUnfound held honest failed store why)
+IsNoneFound {S} held honest failed a path (fault.Open at why) = (at.now ≡ path) × (wants_memory why ≡ false) × ((told : DiskText) × (store : S) × IsStoreAt held honest a path told store × IsUnfound held honest failed store why)
 IsNoneFound held honest failed a path _ = ⊥
 
 -- a growth was refused

@@ -17,7 +17,8 @@ use Rattle.disk_commands.specs.declared.files.DiskFileFault.{DiskFileFault}
 use Rattle.disk_commands.specs.declared.files.DiskFileFault.TheVariants as file
 use Rattle.disk_commands.specs.declared.text.DiskCommandFault.{DiskCommandFault}
 use Rattle.disk_commands.specs.declared.text.DiskCommandFault.TheVariants as fault
-use Rattle.disk_commands.specs.Files.{DiskFileAnswers}
+use Rattle.disk_commands.specs.declared.files.Access.{Access}
+use Rattle.disk_commands.specs.Files.{DiskFileAnswers, Opened, OpensOnce, with_mark_opened, with_opened}
 
 -- ---- its bytes
 
@@ -111,6 +112,16 @@ abbrev pub IsNotAt : DiskFileAnswers → List ℕ → DiskCommandFault → Type 
 IsNotAt a path told = IsShapeFault a path told ⊎ IsNoFile a path told
 
 -- ---- a disk that is to be written
+
+-- THE DIE AT A PATH WAS TO BE OPENED, once; and where it is to be written, the mark beside it behind it, or not. It was only where the text beside the disk says that a mark counts, and in the slot beside the one in which its file has it
+abbrev pub OpensMarkedIf : (writes : Bool) → DiskFileAnswers → (path : List ℕ) → Access → (before after : Option (List Opened)) → Type 0
+OpensMarkedIf true a path access before after =
+    OpensOnce path access before after
+    ⊎ ((told : DiskText) × IsTextAt a path told × (told.marked ≡ true) × ((found : FoundMark) × IsMarkAt a path true found × (after ≡ with_mark_opened (with_opened before path access) path found)))
+OpensMarkedIf false a path access before after = OpensOnce path access before after
+
+abbrev pub OpensMarked : DiskFileAnswers → (path : List ℕ) → Access → (before after : Option (List Opened)) → Type 0
+OpensMarked a path access before after = OpensMarkedIf access.writes a path access before after
 
 -- its mark was not kept: a sync failed, and that was counted
 abbrev pub IsUnmarkedAt : {Y : Type 0} → (missed : Y → ℕ) → List ℕ → DiskCommandFault → Type 0

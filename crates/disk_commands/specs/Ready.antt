@@ -1,5 +1,5 @@
 -- A DISK THAT IS READY TO BE SERVED.
-use Rattle.std.specs.Prelude.{◌≡◌, ◌⊎◌, ℕ, Bool, true, false, not, List, [], Option, Some}
+use Rattle.std.specs.Prelude.{◌≡◌, ◌⊎◌, ℕ, Bool, true, false, not, ◌&&◌, List, [], Option, Some}
 use Rattle.onfi_cycles.specs.Driver.{DriverState}
 use Rattle.certificate.specs.Claim.{Claim}
 use Rattle.file_die.specs.Store.{Held}
@@ -25,9 +25,10 @@ use Rattle.disk_commands.specs.declared.text.DiskCommandFault.{DiskCommandFault}
 use Rattle.disk_commands.specs.declared.words.DiskServeWords.{DiskServeWords}
 use Rattle.disk_commands.specs.declared.text.DiskCommandFault.TheVariants as fault
 use Rattle.disk_commands.specs.Anew.{most_stale}
-use Rattle.disk_commands.specs.Damage.{IsLookedAt, IsUnlookedAt}
+use Rattle.disk_commands.specs.Damage.{IsLookedAt, IsUnlookedAt, wants_memory}
 use Rattle.disk_commands.specs.Files.{DiskFileAnswers, Opened, with_mark_opened}
 use Rattle.disk_commands.specs.Opening.{IsFileOrMemoryFault, IsUnkeptAt}
+use Rattle.disk_commands.specs.ShapeText.{listed_text}
 use Rattle.disk_commands.specs.Told.{HasPrintingFailed}
 
 -- ---- what the words ask for
@@ -72,24 +73,29 @@ abbrev pub IsNoneOf : {S K : Type 0} → (S → Held) → (honest : S → Bool) 
     → (place left : K) → DiskCommandFault → Type 0
 IsNoneOf held honest failed kept unlisted path read_only told found store lost place left (fault.WriteList at) = (read_only ≡ false) × (at.now ≡ path) × IsUnkept kept unlisted lost place left
 IsNoneOf held honest failed kept unlisted path read_only told found store lost place left (fault.Open at why) =
-    (at.now ≡ path) × KeepsBy read_only kept lost place left × IsNoDiskBy read_only held honest failed told found store why
+    (at.now ≡ path) × (wants_memory why ≡ false) × KeepsBy read_only kept lost place left × IsNoDiskBy read_only held honest failed told found store why
+IsNoneOf held honest failed kept unlisted path read_only told found store lost place left fault.OutOfMemory = KeepsBy read_only kept lost place left
 IsNoneOf held honest failed kept unlisted path read_only told found store lost place left _ = ⊥
 
--- its mark was not kept, where it was to be written
-abbrev pub IsUnkeptBy : {Y : Type 0} → (read_only : Bool) → (missed : Y → ℕ) → DiskFileAnswers → (path : List ℕ) → DiskCommandFault → Type 0
-IsUnkeptBy true missed a path why = ⊥
-IsUnkeptBy false missed a path why = IsUnkeptAt missed a path why
+-- whether its mark is kept: it is to be written, and the text beside it says that a mark counts
+abbrev pub keeps_mark : (read_only marked : Bool) → Bool
+keeps_mark read_only marked = not read_only && marked
 
--- a mark was to be written, or none, where the disk was
-abbrev pub MarksBy : (writes : Bool) → (path : List ℕ) → (before after : Option (List Opened)) → Type 0
-MarksBy true path before after = (after ≡ before) ⊎ (after ≡ with_mark_opened before path)
-MarksBy false path before after = after ≡ before
+-- that mark was not kept
+abbrev pub IsUnkeptBy : {Y : Type 0} → (keeps : Bool) → (missed : Y → ℕ) → DiskFileAnswers → (path : List ℕ) → DiskCommandFault → Type 0
+IsUnkeptBy true missed a path why = IsUnkeptAt missed a path why
+IsUnkeptBy false missed a path why = ⊥
+
+-- it was to be written, of which this was found; else none was
+abbrev pub MarksBy : (keeps : Bool) → (path : List ℕ) → FoundMark → (before after : Option (List Opened)) → Type 0
+MarksBy true path found before after = after ≡ with_mark_opened before path found
+MarksBy false path found before after = after ≡ before
 
 -- ---- the disk at a path
 
 -- THE DISK AT A PATH, whose lost sectors are guarded: those of the list beside it and of the pages of its store, as it was looked at; that store tells what was wrong with its pages. Where it is to be written, and any is lost, their list lasts;
--- else none was kept, for at the place of the list none was before. The device of the store is there, and is opened anew with a cache that has room for all that may be stale, and with its share
-pub record IsReadyAt {S Y K : Type 0} (held : S → Held) (honest : S → Bool) (failed : S → ℕ) (mended_in : S → Mended) (marked : Y → SyncMark) (kept : K → List Bool) (a : DiskFileAnswers) (path : List ℕ)
+-- else none was kept, for at the place of the list none was before. With the first one that is kept there the text beside the disk says that one stands there. The device of the store is there, and is opened anew with a cache that has room for all that may be stale, and with its share
+pub record IsReadyAt {S Y K : Type 0} (held : S → Held) (honest : S → Bool) (failed : S → ℕ) (mended_in : S → Mended) (marked : Y → SyncMark) (kept : K → List Bool) (says : K → List ℕ) (a : DiskFileAnswers) (path : List ℕ)
     (read_only always : Bool) (told : DiskText) (mended : Mended) (disk : GuardedSectors (Reopened S) K) (syncs : Y) : Type 0 where
   pub found : FoundMark
   pub store : S
@@ -106,11 +112,12 @@ pub record IsReadyAt {S Y K : Type 0} (held : S → Held) (honest : S → Bool) 
   pub none_failed : disk.failed ≡ false
   pub place : K
   pub none_kept : kept place ≡ []
+  pub says_listed : says place ≡ listed_text told.shape
   pub lasts : KeepsBy read_only kept disk.lost.items place disk.keeper
 
 -- a disk that was looked at was not opened, or its mark not kept
-pub record IsNotOpened {S Y K : Type 0} (held : S → Held) (honest : S → Bool) (failed : S → ℕ) (missed : Y → ℕ) (kept : K → List Bool) (unlisted : K → ℕ) (a : DiskFileAnswers) (path : List ℕ) (read_only : Bool) (why : DiskCommandFault)
-    : Type 0 where
+pub record IsNotOpened {S Y K : Type 0} (held : S → Held) (honest : S → Bool) (failed : S → ℕ) (missed : Y → ℕ) (kept : K → List Bool) (says : K → List ℕ) (unlisted : K → ℕ) (a : DiskFileAnswers) (path : List ℕ)
+    (read_only : Bool) (why : DiskCommandFault) : Type 0 where
   pub told : DiskText
   pub found : FoundMark
   pub store : S
@@ -119,14 +126,15 @@ pub record IsNotOpened {S Y K : Type 0} (held : S → Held) (honest : S → Bool
   pub looked : IsLookedAt held honest a path told found store certificate lost
   pub place : K
   pub none_kept : kept place ≡ []
+  pub says_listed : says place ≡ listed_text told.shape
   pub left : K
-  pub unopened : IsNoneOf held honest failed kept unlisted path read_only told found store lost place left why ⊎ IsUnkeptBy read_only missed a path why
+  pub unopened : IsNoneOf held honest failed kept unlisted path read_only told found store lost place left why ⊎ IsUnkeptBy (keeps_mark read_only told.marked) missed a path why
 
 -- why it is not ready: it was not looked at, there is no place for the list of its lost sectors, it was not opened, or they were not named
-abbrev pub IsUnreadyAt : {S Y K : Type 0} → (S → Held) → (honest : S → Bool) → (failed : S → ℕ) → (missed : Y → ℕ) → (kept : K → List Bool) → (unlisted : K → ℕ) → DiskFileAnswers → (path : List ℕ) → (read_only : Bool) → DiskCommandFault
-    → Type 0
-IsUnreadyAt held honest failed missed kept unlisted a path read_only why =
+abbrev pub IsUnreadyAt : {S Y K : Type 0} → (S → Held) → (honest : S → Bool) → (failed : S → ℕ) → (missed : Y → ℕ) → (kept : K → List Bool) → (says : K → List ℕ) → (unlisted : K → ℕ) → DiskFileAnswers → (path : List ℕ) → (read_only : Bool)
+    → DiskCommandFault → Type 0
+IsUnreadyAt held honest failed missed kept says unlisted a path read_only why =
     IsUnlookedAt held honest failed a path why
     ⊎ (IsFileOrMemoryFault a path why
-    ⊎ (IsNotOpened held honest failed missed kept unlisted a path read_only why
+    ⊎ (IsNotOpened held honest failed missed kept says unlisted a path read_only why
     ⊎ HasPrintingFailed why))

@@ -150,22 +150,22 @@ does_in held honest full failed = AsksSectors (contents_once_guarded held honest
 
 -- IT SERVED: the disk at the path was opened, its lost sectors were named and guarded, what was wrong with its pages was told, and it was served. No byte of a lost sector is one of its array: so a read of one is not answered without an error until it was
 -- written or trimmed (`guard_laws`)
-pub record HasServedAt {S Y K : Type 0} (held : S → Held) (honest full : S → Bool) (mended_in : S → Mended) (failed : S → ℕ) (synced missed : Y → ℕ) (marked : Y → SyncMark) (kept : K → List Bool) (a : DiskFileAnswers) (words : DiskServeWords)
+pub record HasServedAt {S Y K : Type 0} (held : S → Held) (honest full : S → Bool) (mended_in : S → Mended) (failed : S → ℕ) (synced missed : Y → ℕ) (marked : Y → SyncMark) (kept : K → List Bool) (says : K → List ℕ) (a : DiskFileAnswers) (words : DiskServeWords)
     (unread left before after telling told_after : Option (List ℕ)) (result : Result (Unit {0}) DiskCommandFault) : Type 0 where
   pub told : DiskText
   pub disk : GuardedSectors (Reopened S) K
   pub syncs : Y
   pub mended : Mended
-  pub at : IsReadyAt held honest failed mended_in marked kept a words.disk.now words.read_only words.sync_always told mended disk syncs
+  pub at : IsReadyAt held honest failed mended_in marked kept says a words.disk.now words.read_only words.sync_always told mended disk syncs
   pub named : NamesAll disk.lost.items told.shape.code mended telling told_after
   pub served : HasServedOn (contents_once_guarded held honest failed) (λ d. holds_in honest d.sectors) (does_in held honest full failed) (PassesOn (rests_in held honest full failed)) (ReadsGuarded (reads_in held honest failed))
       (λ d. next_to_program d.sectors) (λ d. takes_in d.sectors) synced missed marked (terms_told told words.read_only) words.disk disk syncs unread left before after result
 
 -- or it did not, and nothing was sent: the disk was not ready. Lost sectors may have been named where that is told, or where a growth was refused
-pub record HasNotServed {S Y K : Type 0} (held : S → Held) (honest : S → Bool) (failed : S → ℕ) (missed : Y → ℕ) (kept : K → List Bool) (unlisted : K → ℕ) (a : DiskFileAnswers) (words : DiskServeWords) (before after telling told_after : Option (List ℕ))
+pub record HasNotServed {S Y K : Type 0} (held : S → Held) (honest : S → Bool) (failed : S → ℕ) (missed : Y → ℕ) (kept : K → List Bool) (says : K → List ℕ) (unlisted : K → ℕ) (a : DiskFileAnswers) (words : DiskServeWords) (before after telling told_after : Option (List ℕ))
     (result : Result (Unit {0}) DiskCommandFault) : Type 0 where
   pub told : DiskCommandFault
   pub is : result ≡ Err told
-  pub why : IsUnreadyAt held honest failed missed kept unlisted a words.disk.now words.read_only told
+  pub why : IsUnreadyAt held honest failed missed kept says unlisted a words.disk.now words.read_only told
   pub silent : Keeps before after
   pub unnamed : (told_after ≡ telling) ⊎ HasPrintingFailed told

@@ -12,6 +12,7 @@ use Rattle.disk_commands.specs.declared.words.InfoWords.{InfoWords}
 use Rattle.disk_commands.specs.declared.printed.Form.{Form}
 use Rattle.disk_commands.specs.declared.printed.Form.TheVariants.{Text, Json}
 use Rattle.disk_commands.specs.declared.printed.Info.{Info}
+use Rattle.disk_commands.specs.declared.files.DiskFileFault.TheVariants as file
 use Rattle.disk_commands.specs.declared.text.DiskCommandFault.{DiskCommandFault}
 use Rattle.disk_commands.specs.declared.text.DiskCommandFault.TheVariants as fault
 use Rattle.disk_commands.specs.Files.{DiskFileAnswers}
@@ -51,6 +52,16 @@ abbrev pub IsPrintedInPart : (text : List ℕ) → (before after : Option (List 
 IsPrintedInPart text before after (fault.Write told) = (told.now ≡ codes "-") × AppendsPart before after text
 IsPrintedInPart text before after fault.OutOfMemory = Keeps before after
 IsPrintedInPart text before after _ = ⊥
+
+-- WHERE IT IS TOLD THAT IT WAS NOT WRITTEN, the last call of standard output, or of standard error, failed
+abbrev pub StopsTelling : {O : Type 0} → (writes : O → O → Type 0) → (left : O) → DiskCommandFault → Type 0
+StopsTelling {O} writes left (fault.Write told) = (before : O) × writes before left
+StopsTelling writes left _ = Unit {0}
+
+-- or a call that names the path did
+abbrev pub StopsCommand : {O : Type 0} → (writes : O → O → Type 0) → (left : O) → DiskFileAnswers → (path : List ℕ) → DiskCommandFault → Type 0
+StopsCommand {O} writes left a path (fault.Write told) = ((before : O) × writes before left) ⊎ a.fails path file.Write
+StopsCommand writes left a path _ = Unit {0}
 
 -- it was looked at, and was not printed
 pub record HasNotTold {S : Type 0} (held : S → Held) (honest : S → Bool) (mended : S → Mended) (a : DiskFileAnswers) (words : InfoWords) (before after : Option (List ℕ)) (told : DiskCommandFault) : Type 0 where

@@ -2,6 +2,7 @@
 ghost use Rattle.std.specs.Prelude.{◌≡◌, IfErr, IfOk, OnOk, string_bytes};
 ghost use Rattle.disk_commands.specs.Check.{HasChecked, IsDamageAt, IsUncheckedAt, IsUnclean, damage_text};
 ghost use Rattle.disk_commands.specs.Files.{OpensOnce, to_look};
+ghost use Rattle.disk_commands.specs.Told.{StopsCommand};
 
 use crate::damage::look_at;
 use crate::files::{DiskFiles, to_look};
@@ -12,8 +13,8 @@ use crate::words::InfoWords;
 use disk_damage::{bad_blocks, counted, joined, numbers_of, unsound_rows};
 use disk_server::OpenStoreFault;
 use lost_sectors::LostFault;
+use nbd_stream::Outgoing;
 use std::alloc::{AllocError, Global};
-use std::io::Write;
 
 /// What a look at all of a disk finds, each by rising number. (This project's.)
 #[derive(Drop)]
@@ -97,7 +98,7 @@ fn text_of(alloc: Global, damage: &Damage, form: Form) -> Result<String, AllocEr
 ///
 /// The first of this order: as `info` where the disk was not opened or its store not mounted; `Open` with `Device` where a page was not loaded; `OutOfMemory` for what was found. After each of these
 /// nothing was printed. Then `Write` of `-` where `out` failed: a beginning stands there, or nothing, and never all of it. `Lost` with how many sectors are lost, where any is: all was printed. (This project's.)
-pub(crate) fn check_command<'a, F: DiskFiles, W: Write>(
+pub(crate) fn check_command<'a, F: DiskFiles, W: Outgoing>(
     alloc: Global,
     words: InfoWords<'a>,
     files: &mut F,
@@ -105,6 +106,7 @@ pub(crate) fn check_command<'a, F: DiskFiles, W: Write>(
 ) -> Result<(), DiskCommandFault<'a>>
     ensures ok { OnOk result (HasChecked F.Store.held F.Store.honest (F.answers files.old) words.entry 0 (W.contents out.old) (W.contents out.new)) }
     ensures fault { IfErr result (IsUnclean F.Store.held F.Store.honest F.Store.failed (F.answers files.old) words.entry (W.contents out.old) (W.contents out.new)) }
+    ensures stops { IfErr result (StopsCommand W.fails out.new (F.answers files.old) words.entry.disk.now) }
     ensures kept { F.kept files.new ≡ F.kept files.old }
     ensures opened { OpensOnce words.entry.disk.now to_look (F.opened files.old) (F.opened files.new) }
 {

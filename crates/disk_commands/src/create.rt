@@ -2,12 +2,13 @@
 ghost use Rattle.std.specs.Prelude.{◌≡◌, ◌≤◌, true, false, IfOk, IfErr, OnOk, OnErr};
 ghost use Rattle.disk_commands.specs.ShapeText.{IsCacheSize, shape_text};
 ghost use Rattle.nand_die.specs.Made.{AreNames};
-ghost use Rattle.disk_commands.specs.Created.{HasCreated, IsDieAskedFor, IsDieOf, IsNewDie, IsNoDump, IsUncreated, IsNewDieUnformatted, IsUnmadeFor, Mounts};
+ghost use Rattle.disk_commands.specs.Created.{HasCreated, IsDieAskedFor, IsDieOf, IsNewDie, IsNoDump, IsUncreated, IsNewDieUnformatted, IsUnmadeFor, Mounts, is_too_stale};
 ghost use Rattle.disk_commands.specs.Opening.{IsFileOrMemoryFault};
 ghost use Rattle.disk_server.specs.Opened.{IsStoreUnopened};
-ghost use Rattle.disk_commands.specs.Files.{FailsNoMore, with_kept_disk};
+ghost use Rattle.disk_commands.specs.Files.{FailsNoMore, LeavesNoPart, no_part, with_kept_disk, made_part};
 
 use crate::asked::shape_of;
+use crate::damage::no_disk;
 use crate::files::DiskFiles;
 use crate::named_blocks::{bad_asked, mark_blocks};
 use crate::opening::{dump_bytes, told_at, told_of_copy, want_free};
@@ -43,6 +44,8 @@ fn make_new<'a, F: DiskFiles>(
     ensures honest { IfOk result (λ store. F.Store.honest store ≡ (F.answers files.old).honest) }
     ensures fault { IfErr result (IsNewDieUnformatted F.Store.held F.Store.honest F.Store.failed (F.answers files.old) path.now shape.now bad.now) }
     ensures no_more { OnOk result (FailsNoMore (F.answers files.old) (F.answers files.new)) }
+    ensures part { OnOk result (F.part files.new ≡ made_part (F.part files.old)) }
+    ensures no_part { OnErr result (LeavesNoPart (F.part files.old) (F.part files.new)) }
     ensures kept { F.kept files.new ≡ F.kept files.old }
     ensures opened { F.opened files.new ≡ F.opened files.old }
 {
@@ -73,6 +76,7 @@ fn mountable<S: Store + Drop>(alloc: Global, store: S, capacity: u32) -> Result<
     ensures mounts { IfOk result (λ same. S.honest store ≡ true → Mounts (S.held store) capacity (S.held same)) }
     ensures honest { IfOk result (λ same. S.honest same ≡ S.honest store) }
     ensures fault { IfErr result (λ why. (given : S) × IsStoreUnopened S.held S.honest S.failed store capacity given why) }
+    ensures room { IfErr result (λ why. is_too_stale why ≡ false) }
 {
     match mount_store(alloc, store, capacity) {
         Ok((store, _)) => Ok(store),
@@ -94,6 +98,8 @@ fn make_copy<'a, F: DiskFiles>(
     ensures honest { IfOk result (λ store. F.Store.honest store ≡ (F.answers files.old).honest) }
     ensures fault { IfErr result (IsNoDump F.Store.held F.Store.honest F.Store.failed (F.answers files.old) path.now dump.now shape.now) }
     ensures no_more { OnOk result (FailsNoMore (F.answers files.old) (F.answers files.new)) }
+    ensures part { OnOk result (F.part files.new ≡ made_part (F.part files.old)) }
+    ensures no_part { OnErr result (LeavesNoPart (F.part files.old) (F.part files.new)) }
     ensures kept { F.kept files.new ≡ F.kept files.old }
     ensures opened { F.opened files.new ≡ F.opened files.old }
 {
@@ -105,7 +111,7 @@ fn make_copy<'a, F: DiskFiles>(
         Ok(store) => Ok(store),
         Err(fault) => {
             files.discard(path);
-            Err(DiskCommandFault::Open(dump, fault))
+            Err(no_disk(dump, fault))
         }
     }
 }
@@ -124,6 +130,8 @@ fn make<'a, F: DiskFiles>(
     ensures honest { IfOk result (λ store. F.Store.honest store ≡ (F.answers files.old).honest) }
     ensures fault { IfErr result (IsUnmadeFor F.Store.held F.Store.honest F.Store.failed (F.answers files.old) words.now.disk.now words.now.make shape.now bad.now) }
     ensures no_more { OnOk result (FailsNoMore (F.answers files.old) (F.answers files.new)) }
+    ensures part { OnOk result (F.part files.new ≡ made_part (F.part files.old)) }
+    ensures no_part { OnErr result (LeavesNoPart (F.part files.old) (F.part files.new)) }
     ensures kept { F.kept files.new ≡ F.kept files.old }
     ensures opened { F.opened files.new ≡ F.opened files.old }
 {
@@ -145,6 +153,7 @@ fn put<'a, F: DiskFiles>(
 ) -> Result<(), DiskCommandFault<'a>>
     ensures ok { OnOk result (F.kept files.new ≡ with_kept_disk (F.kept files.old) (record { path = path.now; held = F.Store.held store; text = shape_text shape.now })) }
     ensures fault { IfErr result (IsFileOrMemoryFault (F.answers files.old) path.now) }
+    ensures part { F.part files.new ≡ no_part (F.part files.old) }
     ensures kept { OnErr result (F.kept files.new ≡ F.kept files.old) }
     ensures opened { F.opened files.new ≡ F.opened files.old }
 {
@@ -168,7 +177,7 @@ fn put<'a, F: DiskFiles>(
 ///
 /// The first of this order: as `shape_of` where the words ask for no shape; as `bad_asked` where they name no bad blocks of it; `Exists` where something stands at DISK or beside it; `Read` or `Length` of the dump; `Write`, `InUse`
 /// or `OutOfMemory` where no die could be made there; `Open` where the dump mounts with no cache, or a load or a reset failed; `Create` where the die was not formatted, `Write` where its bad blocks were not marked; `OutOfMemory` in each; `Exists`, `Write` or `OutOfMemory`
-/// where it could not be put in its place. After each of these no disk is at DISK that was not there before. (This project's.)
+/// where it could not be put in its place. After each of these no disk is at DISK that was not there before, and nothing that was made is left beside it. (This project's.)
 pub(crate) fn create_command<'a, F: DiskFiles>(
     alloc: Global,
     words: CreateWords<'a>,
@@ -176,6 +185,7 @@ pub(crate) fn create_command<'a, F: DiskFiles>(
 ) -> Result<(), DiskCommandFault<'a>>
     ensures ok { OnOk result (HasCreated F.Store.held F.Store.honest (F.answers files.old) words.entry (F.kept files.old) (F.kept files.new)) }
     ensures fault { IfErr result (IsUncreated F.Store.held F.Store.honest F.Store.failed (F.answers files.old) words.entry) }
+    ensures part { LeavesNoPart (F.part files.old) (F.part files.new) }
     ensures kept { OnErr result (F.kept files.new ≡ F.kept files.old) }
     ensures opened { F.opened files.new ≡ F.opened files.old }
 {

@@ -3,10 +3,9 @@ ghost use Rattle.std.specs.Prelude.{◌≡◌, false, IfErr, IfOk, OnOk, replica
 ghost use Rattle.disk_commands.specs.Damage.{IsListAt, IsLookedAt, IsNoListAt, IsUnlookedAt, NamesLost, NamesMended};
 ghost use Rattle.disk_commands.specs.Files.{OpensOnce, SaysNoMore};
 ghost use Rattle.disk_commands.specs.ShapeText.{IsCacheSize};
-ghost use Rattle.disk_commands.specs.Told.{HasPrintingFailed};
+ghost use Rattle.disk_commands.specs.Told.{HasPrintingFailed, StopsTelling};
 
 use crate::files::{Access, DiskFileFault, DiskFiles};
-use crate::info::unprinted;
 use crate::mark::FoundMark;
 use crate::opening::{mark_at, open_at};
 use crate::printed::{MendedLines, lost_text};
@@ -16,8 +15,10 @@ use crate::text::DiskCommandFault;
 use certificate::Certificate;
 use coded_store::Mended;
 use disk_damage::{ListFault, mount_and_find, numbers_of, read_list};
+use disk_server::OpenStoreFault;
+use image_check::Refusal;
+use nbd_stream::Outgoing;
 use std::alloc::{AllocError, Global};
-use std::io::Write;
 
 // How it is told that the list beside a disk could not be read.
 fn unread_list<'a>(fault: DiskFileFault, path: &'a str) -> DiskCommandFault<'a>
@@ -74,6 +75,28 @@ pub(crate) fn list_at<'a, F: DiskFiles>(
     }
 }
 
+// Whether a store has no disk since a growth was refused.
+fn wants_memory(why: OpenStoreFault) -> bool
+    ensures { result ≡ Rattle.disk_commands.specs.Damage.wants_memory why }
+{
+    match why {
+        OpenStoreFault::OutOfMemory => true,
+        OpenStoreFault::Mount(Refusal::OutOfMemory) => true,
+        _ => false,
+    }
+}
+
+/// How it is told that the store of a file has no disk. A growth that was refused is told by itself.
+pub(crate) fn no_disk<'a>(path: &'a str, why: OpenStoreFault) -> DiskCommandFault<'a>
+    ensures { result ≡ Rattle.disk_commands.specs.Damage.no_disk path.entry why }
+{
+    if wants_memory(why) {
+        DiskCommandFault::OutOfMemory
+    } else {
+        DiskCommandFault::Open(path, why)
+    }
+}
+
 /// A disk at a path that was looked at: what is told beside it, its store, which was mounted for the largest cache, and of each sector whether it is lost.
 #[derive(Drop)]
 pub(crate) struct Looked<S: Drop, Y: Drop> {
@@ -111,12 +134,12 @@ pub(crate) fn look_at<'a, F: DiskFiles>(
             certificate,
             lost,
         }),
-        Err(why) => Err(DiskCommandFault::Open(path, why)),
+        Err(why) => Err(no_disk(path, why)),
     }
 }
 
 /// Tells what was wrong with the pages of a disk on standard error, where anything was.
-pub(crate) fn name_mended<'a, E: Write>(
+pub(crate) fn name_mended<'a, E: Outgoing>(
     alloc: Global,
     code: Code,
     mended: Mended,
@@ -124,6 +147,7 @@ pub(crate) fn name_mended<'a, E: Write>(
 ) -> Result<(), DiskCommandFault<'a>>
     ensures named { OnOk result (NamesMended code mended (E.contents err.old) (E.contents err.new)) }
     ensures fault { IfErr result HasPrintingFailed }
+    ensures stops { IfErr result (StopsTelling E.fails err.new) }
 {
     if mended.turned == 0 && mended.lost == 0 {
         return Ok(());
@@ -131,20 +155,21 @@ pub(crate) fn name_mended<'a, E: Write>(
     let Ok(text) = format!(in alloc; "{}", MendedLines(code, mended)) else {
         return Err(DiskCommandFault::OutOfMemory);
     };
-    match err.write_all(text.as_bytes()) {
+    match err.put(text.as_bytes()) {
         Ok(()) => Ok(()),
-        Err(error) => Err(unprinted(error)),
+        Err(_) => Err(DiskCommandFault::Write("-")),
     }
 }
 
 /// Names the lost sectors of a list on standard error, where there are any.
-pub(crate) fn name_lost<'a, E: Write>(
+pub(crate) fn name_lost<'a, E: Outgoing>(
     alloc: Global,
     lost: &[bool],
     err: &mut E,
 ) -> Result<(), DiskCommandFault<'a>>
     ensures named { OnOk result (NamesLost lost.now (E.contents err.old) (E.contents err.new)) }
     ensures fault { IfErr result HasPrintingFailed }
+    ensures stops { IfErr result (StopsTelling E.fails err.new) }
 {
     let Ok(sectors) = numbers_of(alloc, lost) else {
         return Err(DiskCommandFault::OutOfMemory);
@@ -155,8 +180,8 @@ pub(crate) fn name_lost<'a, E: Write>(
     let Ok(text) = lost_text(alloc, &sectors) else {
         return Err(DiskCommandFault::OutOfMemory);
     };
-    match err.write_all(text.as_bytes()) {
+    match err.put(text.as_bytes()) {
         Ok(()) => Ok(()),
-        Err(error) => Err(unprinted(error)),
+        Err(_) => Err(DiskCommandFault::Write("-")),
     }
 }

@@ -60,11 +60,19 @@ pub trait LockedDie {
     ghost writes: { Self → Bool };
 }
 
+/// A place beside a disk where the list of its lost sectors is kept. (This project's.)
+pub trait ListPlace {
+    ghost use Rattle.std.specs.Prelude.{List, ℕ};
+
+    /// The bytes that the file which tells the disk's shape has, once the first list that is kept here stands.
+    ghost says: { Self → List ℕ };
+}
+
 /// The files that the words name, by their paths as written: those of the system, or some in memory. (This project's.)
 pub trait DiskFiles {
-    ghost use Rattle.std.specs.Prelude.{◌≡◌, true, List, [], Option, option_map, IfOk, IfErr};
+    ghost use Rattle.std.specs.Prelude.{◌≡◌, true, Bool, List, [], Option, option_map, IfOk, IfErr, OnOk, OnErr};
     ghost use Rattle.file_die.specs.Store.{blank};
-    ghost use Rattle.disk_commands.specs.Files.{DiskFilesAnswerNoMore, DiskFileAnswers, FailsCopy, FailsNoMore, Kept, Opened, SaysNoMore, kept_after, with_mark_opened, with_opened};
+    ghost use Rattle.disk_commands.specs.Files.{DiskFilesAnswerNoMore, DiskFileAnswers, FailsCopy, FailsNoMore, Kept, Opened, SaysNoMore, kept_after, no_part, with_mark_opened, with_opened, made_part};
 
     /// The file of a die, open and locked: while it is there no other program writes or makes the disk, nor opens it, where this one is to write it.
     type Locked: LockedDie + Drop;
@@ -76,13 +84,16 @@ pub trait DiskFiles {
     type Syncs: Syncs + Drop;
 
     /// A place beside a disk where the list of its lost sectors is kept.
-    type Lists: KeepsLost + Drop;
+    type Lists: KeepsLost + ListPlace + Drop;
 
     /// What they may answer. Of the system's files it may be anything.
     ghost answers: { Self → DiskFileAnswers };
 
     /// The disks that were put in their places so far, in order. Of the system's files it isn't known.
     ghost kept: { Self → Option (List Kept) };
+
+    /// Whether a die that was made beside a path stands there yet. Of the system's files it isn't known.
+    ghost part: { Self → Option Bool };
 
     /// The dies that were to be opened so far, and the marks that were to be written, in order. Of the system's files it isn't known.
     ghost opened: { Self → Option (List Opened) };
@@ -170,7 +181,7 @@ pub trait DiskFiles {
     ) -> Result<Self::Syncs, DiskFileFault>
         ensures marked { IfOk result (λ keeps. Self.Syncs.marked keeps ≡ found.mark) }
         ensures failed { IfErr result ((answers self.old).fails path.now) }
-        ensures opened { opened self.new ≡ with_mark_opened (opened self.old) path.now }
+        ensures opened { opened self.new ≡ with_mark_opened (opened self.old) path.now found }
         ensures kept { kept self.new ≡ kept self.old };
 
     /// The store of a die to be made beside a path, of erased pages that last, with their codes where the shape has a code.
@@ -190,6 +201,8 @@ pub trait DiskFiles {
         ensures failed { IfErr result ((answers self.old).fails path.now) }
         ensures no_more { FailsNoMore (answers self.old) (answers self.new) }
         ensures opened { opened self.new ≡ opened self.old }
+        ensures part { OnOk result (part self.new ≡ made_part (part self.old)) }
+        ensures unmade { OnErr result (part self.new ≡ part self.old) }
         ensures kept { kept self.new ≡ kept self.old };
 
     /// The store of a die to be made beside a path, with the pages of a raw dump without codes, which last.
@@ -210,6 +223,8 @@ pub trait DiskFiles {
         ensures failed { IfErr result (FailsCopy (answers self.old) path.now dump.now) }
         ensures no_more { FailsNoMore (answers self.old) (answers self.new) }
         ensures opened { opened self.new ≡ opened self.old }
+        ensures part { OnOk result (part self.new ≡ made_part (part self.old)) }
+        ensures unmade { OnErr result (part self.new ≡ part self.old) }
         ensures kept { kept self.new ≡ kept self.old };
 
     /// Puts the die that was made beside a path in its place, with a file of this text beside it, once all is stored. What stands there is never replaced.
@@ -218,12 +233,15 @@ pub trait DiskFiles {
     ///
     /// One that these files may answer of the path: `Exists` where something stands there. The disks in their places are as they were.
     fn keep(&mut self, path: &str, store: Self::Store, text: &[u8]) -> Result<(), DiskFileFault>
+        ensures part { OnOk result (part self.new ≡ no_part (part self.old)) }
+        ensures left { OnErr result (part self.new ≡ part self.old) }
         ensures done { kept self.new ≡ kept_after (kept self.old) (record { path = path.now; held = Self.Store.held store; text = text.now }) result }
         ensures failed { IfErr result ((answers self.old).fails path.now) }
         ensures opened { opened self.new ≡ opened self.old };
 
     /// Removes what was made beside a path.
     fn discard(&mut self, path: &str)
+        ensures part { part self.new ≡ no_part (part self.old) }
         ensures opened { opened self.new ≡ opened self.old }
         ensures kept { kept self.new ≡ kept self.old };
 
@@ -233,7 +251,7 @@ pub trait DiskFiles {
     ///
     /// One that these files may answer of the path, where there is no such file or it could not be read. They are as they were.
     fn lost_text(&mut self, alloc: Global, path: &str, most: u64) -> Result<Vec<u8>, DiskFileFault>
-        ensures bytes { IfOk result (λ text. (answers self.old).lists path.now text.items) }
+        ensures bytes { IfOk result (λ text. (answers self.old).lists path.now most text.items) }
         ensures failed { IfErr result ((answers self.old).fails path.now) }
         ensures same { self.new ≡ self.old };
 
@@ -251,6 +269,7 @@ pub trait DiskFiles {
         beside: &[u8],
     ) -> Result<Self::Lists, DiskFileFault>
         ensures none_kept { IfOk result (λ place. Self.Lists.kept place ≡ []) }
+        ensures says { IfOk result (λ place. Self.Lists.says place ≡ beside.now) }
         ensures failed { IfErr result ((answers self.old).fails path.now) }
         ensures same { self.new ≡ self.old };
 }

@@ -1,6 +1,7 @@
 //! The lost sectors of a disk that is to be served: where their list is kept, and that they are guarded.
 ghost use Rattle.std.specs.Prelude.{◌≡◌, [], false, IfErr, IfOk};
 ghost use Rattle.disk_commands.specs.Opening.{IsFileOrMemoryFault};
+ghost use Rattle.disk_commands.specs.ShapeText.{listed_text};
 
 use crate::damage::Looked;
 use crate::files::DiskFiles;
@@ -10,7 +11,7 @@ use crate::text::DiskCommandFault;
 use disk_server::{GuardedSectors, KeepsLost, Lasting, SectorDisk};
 use std::alloc::Global;
 
-/// The place beside the disk at a path where the list of its lost sectors is kept. Nothing is kept there yet.
+/// The place beside the disk at a path where the list of its lost sectors is kept. Nothing is kept there yet. With the first list the file that tells the disk's shape says that one stands there.
 pub(crate) fn keeper_at<'a, F: DiskFiles>(
     alloc: Global,
     files: &mut F,
@@ -18,6 +19,7 @@ pub(crate) fn keeper_at<'a, F: DiskFiles>(
     looked: &Looked<F::Store, F::Syncs>,
 ) -> Result<F::Lists, DiskCommandFault<'a>>
     ensures none_kept { IfOk result (λ place. F.Lists.kept place ≡ []) }
+    ensures says { IfOk result (λ place. F.Lists.says place ≡ listed_text looked.now.told.shape) }
     ensures fault { IfErr result (IsFileOrMemoryFault (F.answers files.old) path.now) }
     ensures same { files.new ≡ files.old }
 {

@@ -1,10 +1,9 @@
 //! The command `info`: what is told of a disk.
 ghost use Rattle.std.specs.Prelude.{◌≡◌, OnOk, IfOk, IfErr};
 ghost use Rattle.std.specs.Io.KnownBytes.{Appends};
-ghost use Rattle.std.specs.IoError.{error_kind};
 ghost use Rattle.disk_commands.specs.Files.{OpensOnce, to_look};
 ghost use Rattle.disk_commands.specs.Damage.{IsUnlookedAt};
-ghost use Rattle.disk_commands.specs.Told.{HasPrintingFailed, HasTold, IsDiskUntold, IsInfoAt, IsPrintedInPart, form_of};
+ghost use Rattle.disk_commands.specs.Told.{HasTold, IsDiskUntold, IsInfoAt, IsPrintedInPart, StopsCommand, StopsTelling, form_of};
 
 use crate::damage::look_at;
 use crate::files::{DiskFiles, to_look};
@@ -13,9 +12,8 @@ use crate::text::DiskCommandFault;
 use crate::words::InfoWords;
 use coded_store::TellsMended;
 use disk_damage::numbers_of;
-use request_stream::send;
+use nbd_stream::Outgoing;
 use std::alloc::Global;
-use std::io::{Error, ErrorKind, Write};
 
 // What is told of the disk at a path, and its lost sectors.
 fn info_at<'a, F: DiskFiles>(
@@ -46,27 +44,20 @@ pub(crate) fn form_of(json: bool) -> Form
     if json { Form::Json } else { Form::Text }
 }
 
-/// How a failed write to standard output is told.
-pub(crate) fn unprinted<'a>(error: Error) -> DiskCommandFault<'a>
-    ensures { HasPrintingFailed result }
-{
-    if error.kind() == ErrorKind::OutOfMemory {
-        DiskCommandFault::OutOfMemory
-    } else {
-        DiskCommandFault::Write("-")
-    }
-}
-
 /// Prints a text to standard output.
 ///
 /// # Errors
 ///
 /// `Write` of `-` where a write failed, was interrupted or took nothing: a beginning of the text stands there, or nothing, and never all of it.
-pub(crate) fn print_text<'a, W: Write>(text: &str, out: &mut W) -> Result<(), DiskCommandFault<'a>>
+pub(crate) fn print_text<'a, W: Outgoing>(
+    text: &str,
+    out: &mut W,
+) -> Result<(), DiskCommandFault<'a>>
     ensures printed { OnOk result (Appends (W.contents out.old) (W.contents out.new) text.now) }
     ensures fault { IfErr result (IsPrintedInPart text.now (W.contents out.old) (W.contents out.new)) }
+    ensures stops { IfErr result (StopsTelling W.fails out.new) }
 {
-    match send(out, text.as_bytes()) {
+    match out.put(text.as_bytes()) {
         Ok(()) => Ok(()),
         Err(_) => Err(DiskCommandFault::Write("-")),
     }
@@ -80,7 +71,7 @@ pub(crate) fn print_text<'a, W: Write>(text: &str, out: &mut W) -> Result<(), Di
 /// `OutOfMemory` where its pages were not taken; `Read` or `OutOfMemory` where its mark was not read; `ReadList`, `List` or `OutOfMemory` where the list of its lost sectors was not; `Open` or
 /// `OutOfMemory` where it holds no disk; `OutOfMemory` for its lost sectors, the states of its blocks or what is printed. After each of these nothing was printed. Then `Write` of `-` where `out`
 /// failed: a beginning of it stands there, or nothing, and never all of it. (This project's.)
-pub(crate) fn info_command<'a, F: DiskFiles, W: Write>(
+pub(crate) fn info_command<'a, F: DiskFiles, W: Outgoing>(
     alloc: Global,
     words: InfoWords<'a>,
     files: &mut F,
@@ -88,6 +79,7 @@ pub(crate) fn info_command<'a, F: DiskFiles, W: Write>(
 ) -> Result<(), DiskCommandFault<'a>>
     ensures ok { OnOk result (HasTold F.Store.held F.Store.honest F.Store.mended (F.answers files.old) words.entry (W.contents out.old) (W.contents out.new)) }
     ensures fault { IfErr result (IsDiskUntold F.Store.held F.Store.honest F.Store.mended F.Store.failed (F.answers files.old) words.entry (W.contents out.old) (W.contents out.new)) }
+    ensures stops { IfErr result (StopsCommand W.fails out.new (F.answers files.old) words.entry.disk.now) }
     ensures kept { F.kept files.new ≡ F.kept files.old }
     ensures opened { OpensOnce words.entry.disk.now to_look (F.opened files.old) (F.opened files.new) }
 {

@@ -1,7 +1,7 @@
 //! The commands of `nanddisk`, over the files that it is given: a disk is created, served or told of. What goes wrong is one line and an exit status.
 //!
 //! - `run`: does what the words say.
-//! - `DiskFiles`: the files that the words name, those of the system or some in memory; `Access`, `LockedDie`: how a die is opened.
+//! - `DiskFiles`: the files that the words name, those of the system or some in memory; `Access`, `LockedDie`: how a die is opened; `ListPlace`: where its lost sectors are listed.
 //! - `parse`: what the words of the command line mean, as `clap` reads them. No file is looked at, and no number but that of `--wait` is read.
 //! - `DiskShape`, `read_shape`, `write_shape`: the geometry of a disk's die, the entries of its device's cache, its share and the code of its pages (`Code`), and the file beside the disk that tells them (`DiskText`);
 //!   `size_from`, `geometry_from`: a size and a geometry as words write them; `shape_for`: the shape for a size.
@@ -37,7 +37,7 @@ mod text;
 mod words;
 
 pub use asked::shape_of;
-pub use files::{Access, DiskFileFault, DiskFiles, LockedDie};
+pub use files::{Access, DiskFileFault, DiskFiles, ListPlace, LockedDie};
 pub use mark::{FoundMark, MARK_BYTES, mark_laws, mark_of, none_found, slot_at, slot_bytes};
 pub use mark_file::{MarkFile, put_blank};
 pub use opening::{die_bytes, dump_bytes};

@@ -22,9 +22,9 @@ fn obey<'a, F: DiskFiles, I: Read, O: Write, E: Write>(
     out: &mut O,
     err: &mut E,
 ) -> Result<(), DiskCommandFault<'a>>
-    ensures { ObeysDiskWords F.Store.held F.Store.honest F.Store.full F.Store.mended F.Store.failed F.Syncs.synced F.Syncs.failed F.Syncs.marked F.Lists.kept F.Lists.failed (F.answers files.old) (texts words.now)
-        (record { kept = F.kept files.old; opened = F.opened files.old; input = I.remaining input.old; out = O.contents out.old; err = E.contents err.old })
-        (record { kept = F.kept files.new; opened = F.opened files.new; input = I.remaining input.new; out = O.contents out.new; err = E.contents err.new }) result }
+    ensures { ObeysDiskWords F.Store.held F.Store.honest F.Store.full F.Store.mended F.Store.failed F.Syncs.synced F.Syncs.failed F.Syncs.marked F.Lists.kept F.Lists.says F.Lists.failed (F.answers files.old) (texts words.now)
+        (record { kept = F.kept files.old; part = F.part files.old; opened = F.opened files.old; input = I.remaining input.old; out = O.contents out.old; err = E.contents err.old })
+        (record { kept = F.kept files.new; part = F.part files.new; opened = F.opened files.new; input = I.remaining input.new; out = O.contents out.new; err = E.contents err.new }) result }
 {
     match parse(alloc, words) {
         Ok(DiskWords::Create(words)) => create_command(alloc, words, files),
@@ -49,9 +49,9 @@ pub fn run<F: DiskFiles, I: Read, O: Write, E: Write>(
     out: &mut O,
     err: &mut E,
 ) -> u8
-    ensures { DiskCommandRuns F.Store.held F.Store.honest F.Store.full F.Store.mended F.Store.failed F.Syncs.synced F.Syncs.failed F.Syncs.marked F.Lists.kept F.Lists.failed (F.answers files.old) (texts words.now)
-        (record { kept = F.kept files.old; opened = F.opened files.old; input = I.remaining input.old; out = O.contents out.old; err = E.contents err.old })
-        (record { kept = F.kept files.new; opened = F.opened files.new; input = I.remaining input.new; out = O.contents out.new; err = E.contents err.new }) result }
+    ensures { DiskCommandRuns F.Store.held F.Store.honest F.Store.full F.Store.mended F.Store.failed F.Syncs.synced F.Syncs.failed F.Syncs.marked F.Lists.kept F.Lists.says F.Lists.failed (F.answers files.old) (texts words.now)
+        (record { kept = F.kept files.old; part = F.part files.old; opened = F.opened files.old; input = I.remaining input.old; out = O.contents out.old; err = E.contents err.old })
+        (record { kept = F.kept files.new; part = F.part files.new; opened = F.opened files.new; input = I.remaining input.new; out = O.contents out.new; err = E.contents err.new }) result }
 {
     match obey(alloc, words, files, input, out, err) {
         Ok(()) => 0,

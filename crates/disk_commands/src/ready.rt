@@ -1,18 +1,18 @@
 //! The disk at a path is made ready to be served: it is looked at, the list of its lost sectors is kept, and it is opened.
-ghost use Rattle.std.specs.Prelude.{◌≡◌, ◌⊎◌, false, not, true, IfErr, IfOk, OnOk};
+ghost use Rattle.std.specs.Prelude.{◌≡◌, ◌⊎◌, false, true, IfErr, IfOk, OnOk};
 ghost use Rattle.image_check.specs.Agrees.{Agrees};
 ghost use Rattle.disk_server.specs.Disk.{contents_of, holds};
 ghost use Rattle.disk_server.specs.Opened.{SyncsWhen, is_honest_in, view_in};
 ghost use Rattle.disk_server.specs.Synced.{after_sync};
 ghost use Rattle.disk_commands.specs.Damage.{NamesAll};
-ghost use Rattle.disk_commands.specs.Files.{OpensMarked, with_mark_opened};
-ghost use Rattle.disk_commands.specs.Opening.{IsUnkeptAt};
-ghost use Rattle.disk_commands.specs.Ready.{HoldsPages, IsNoneOf, IsReadyAt, KeepsBy, IsUnkeptBy, IsUnreadyAt, MarksBy, access_of, sync_when};
+ghost use Rattle.disk_commands.specs.Files.{with_mark_opened};
+ghost use Rattle.disk_commands.specs.Opening.{IsUnkeptAt, OpensMarked};
+ghost use Rattle.disk_commands.specs.Ready.{HoldsPages, IsNoneOf, IsReadyAt, KeepsBy, IsUnkeptBy, IsUnreadyAt, MarksBy, access_of, keeps_mark, sync_when};
 ghost use Rattle.disk_commands.specs.ShapeText.{IsCacheSize};
-ghost use Rattle.disk_commands.specs.Told.{HasPrintingFailed};
+ghost use Rattle.disk_commands.specs.Told.{HasPrintingFailed, StopsCommand, StopsTelling};
 
 use crate::anew::reopening;
-use crate::damage::{Looked, look_at, name_lost, name_mended};
+use crate::damage::{Looked, look_at, name_lost, name_mended, no_disk};
 use crate::files::{Access, DiskFiles};
 use crate::guard::{guarded, keeper_at};
 use crate::mark::FoundMark;
@@ -29,8 +29,8 @@ use disk_server::{
     open_stopped,
 };
 use file_die::{Store, SyncWhen};
+use nbd_stream::Outgoing;
 use std::alloc::Global;
-use std::io::Write;
 
 /// The disk of a store, of which some sectors are lost, and which is opened anew where the store was full.
 pub(crate) type GuardedDisk<S, K> = SectorDisk<GuardedSectors<ReopenedDevice<S>, K>>;
@@ -84,7 +84,7 @@ fn disk_of<'a, S: Store + Drop, K: KeepsLost>(
         let (cache, share) = (told.shape.cache, told.shape.share);
         return match open_stopped(alloc, store, cache, share, when, false) {
             Ok(disk) => Ok(disk),
-            Err(why) => Err(DiskCommandFault::Open(words.disk, why)),
+            Err(why) => Err(no_disk(words.disk, why)),
         };
     }
     let listed = match list_first(store, keeper, lost) {
@@ -101,7 +101,7 @@ fn disk_of<'a, S: Store + Drop, K: KeepsLost>(
         when,
     ) {
         Ok(disk) => Ok(disk),
-        Err(why) => Err(DiskCommandFault::Open(words.disk, why)),
+        Err(why) => Err(no_disk(words.disk, why)),
     }
 }
 
@@ -116,7 +116,7 @@ fn keep_mark<'a, F: DiskFiles>(
 ) -> Result<F::Syncs, DiskCommandFault<'a>>
     ensures marked { IfOk result (λ keeps. F.Syncs.marked keeps ≡ after_sync next false found.mark) }
     ensures fault { IfErr result (IsUnkeptAt F.Syncs.failed (F.answers files.old) path.now) }
-    ensures opened { F.opened files.new ≡ with_mark_opened (F.opened files.old) path.now }
+    ensures opened { F.opened files.new ≡ with_mark_opened (F.opened files.old) path.now found }
     ensures kept { F.kept files.new ≡ F.kept files.old }
 {
     let mut syncs = match files.keep_mark(alloc, path, syncs, found) {
@@ -129,7 +129,14 @@ fn keep_mark<'a, F: DiskFiles>(
     }
 }
 
-// The same where the disk is to be written, and a mark of it counts.
+// Whether the mark of a disk is kept: it is to be written, and a mark of it counts.
+fn keeps_mark(words: &DiskServeWords<'_>, told: &DiskText) -> bool
+    ensures { result ≡ keeps_mark words.now.read_only told.now.marked }
+{
+    !words.read_only && told.marked
+}
+
+// The same where that mark is kept.
 fn keep_mark_of<'a, F: DiskFiles>(
     alloc: Global,
     files: &mut F,
@@ -139,19 +146,20 @@ fn keep_mark_of<'a, F: DiskFiles>(
     found: FoundMark,
     next: u64,
 ) -> Result<F::Syncs, DiskCommandFault<'a>>
-    ensures marked { IfOk result (λ keeps. words.now.read_only ≡ false → told.now.marked ≡ true → F.Syncs.marked keeps ≡ after_sync next false found.mark) }
-    ensures fault { IfErr result (IsUnkeptBy words.now.read_only F.Syncs.failed (F.answers files.old) words.now.disk.now) }
-    ensures opened { MarksBy (not words.now.read_only) words.now.disk.now (F.opened files.old) (F.opened files.new) }
+    ensures marked { IfOk result (λ keeps. keeps_mark words.now.read_only told.now.marked ≡ true → F.Syncs.marked keeps ≡ after_sync next false found.mark) }
+    ensures fault { IfErr result (IsUnkeptBy (keeps_mark words.now.read_only told.now.marked) F.Syncs.failed (F.answers files.old) words.now.disk.now) }
+    ensures opened { MarksBy (keeps_mark words.now.read_only told.now.marked) words.now.disk.now found (F.opened files.old) (F.opened files.new) }
     ensures kept { F.kept files.new ≡ F.kept files.old }
 {
-    if words.read_only || !told.marked {
-        return Ok(syncs);
+    if keeps_mark(words, told) {
+        keep_mark(alloc, files, words.disk, syncs, found, next)
+    } else {
+        Ok(syncs)
     }
-    keep_mark(alloc, files, words.disk, syncs, found, next)
 }
 
 // Names lost sectors, and tells what was wrong with the pages.
-fn name_all<'a, E: Write>(
+fn name_all<'a, E: Outgoing>(
     alloc: Global,
     lost: &[bool],
     code: Code,
@@ -160,6 +168,7 @@ fn name_all<'a, E: Write>(
 ) -> Result<(), DiskCommandFault<'a>>
     ensures named { OnOk result (NamesAll lost.now code mended (E.contents err.old) (E.contents err.new)) }
     ensures fault { IfErr result HasPrintingFailed }
+    ensures stops { IfErr result (StopsTelling E.fails err.new) }
 {
     match name_lost(alloc, lost, err) {
         Ok(()) => name_mended(alloc, code, mended, err),
@@ -169,17 +178,18 @@ fn name_all<'a, E: Write>(
 
 /// The disk at a path, whose lost sectors are named on standard error and guarded, with a second handle of its file, and what is told beside it. So is told there what was wrong with its pages. Where it is to be written, the list of its lost sectors is
 /// kept before anything is programmed.
-pub(crate) fn ready<'a, F: DiskFiles, E: Write>(
+pub(crate) fn ready<'a, F: DiskFiles, E: Outgoing>(
     alloc: Global,
     files: &mut F,
     words: &DiskServeWords<'a>,
     err: &mut E,
 ) -> Result<ReadyDisk<F::Store, F::Lists, F::Syncs>, DiskCommandFault<'a>>
-    ensures ok { IfOk result (λ r. IsReadyAt F.Store.held F.Store.honest F.Store.failed F.Store.mended F.Syncs.marked F.Lists.kept (F.answers files.old) words.now.disk.now words.now.read_only words.now.sync_always r.2 r.3 r.0 r.1) }
+    ensures ok { IfOk result (λ r. IsReadyAt F.Store.held F.Store.honest F.Store.failed F.Store.mended F.Syncs.marked F.Lists.kept F.Lists.says (F.answers files.old) words.now.disk.now words.now.read_only words.now.sync_always r.2 r.3 r.0 r.1) }
     ensures named { IfOk result (λ r. NamesAll r.0.lost.items r.2.shape.code r.3 (E.contents err.old) (E.contents err.new)) }
-    ensures fault { IfErr result (IsUnreadyAt F.Store.held F.Store.honest F.Store.failed F.Syncs.failed F.Lists.kept F.Lists.failed (F.answers files.old) words.now.disk.now words.now.read_only) }
+    ensures fault { IfErr result (IsUnreadyAt F.Store.held F.Store.honest F.Store.failed F.Syncs.failed F.Lists.kept F.Lists.says F.Lists.failed (F.answers files.old) words.now.disk.now words.now.read_only) }
+    ensures stops { IfErr result (StopsCommand E.fails err.new (F.answers files.old) words.now.disk.now) }
     ensures unnamed { IfErr result (λ fault. (E.contents err.new ≡ E.contents err.old) ⊎ HasPrintingFailed fault) }
-    ensures opened { OpensMarked words.now.disk.now (access_of words.now) (F.opened files.old) (F.opened files.new) }
+    ensures opened { OpensMarked (F.answers files.old) words.now.disk.now (access_of words.now) (F.opened files.old) (F.opened files.new) }
     ensures kept { F.kept files.new ≡ F.kept files.old }
 {
     let looked = look_at(alloc, files, words.disk, access_of(words))?;

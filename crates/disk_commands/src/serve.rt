@@ -2,7 +2,7 @@
 ghost use Rattle.std.specs.Prelude.{◌≡◌, ◌⊎◌, OnOk, IfOk, IfErr, Err, length, not, true, false};
 ghost use Rattle.std.specs.Io.KnownBytes.{Keeps};
 ghost use Rattle.disk_commands.specs.declared.text.DiskCommandFault.TheVariants as fault;
-ghost use Rattle.disk_commands.specs.Files.{OpensMarked};
+ghost use Rattle.disk_commands.specs.Opening.{OpensMarked};
 ghost use Rattle.disk_commands.specs.Ready.{access_of};
 ghost use Rattle.disk_commands.specs.Serve.{HasNotServed, HasReadDisk, HasServedAt, HasServedDisk, HasServedOn, IsDiskClosed, StreamStops, end_of, offer_of, pace_of, terms_told};
 ghost use Rattle.disk_server.specs.Asked.{AsksSectors};
@@ -22,7 +22,6 @@ use nbd_stream::{Incoming, Outgoing, StreamEnd};
 use page_layout::geometry::Geometry;
 use request_stream::ServeFault;
 use std::alloc::Global;
-use std::io::Write;
 
 // The most bytes that one request reads or writes.
 const MOST: u32 = 1_048_576;
@@ -190,7 +189,7 @@ fn serve_client<'a, S: Lasting + Drop, Y: Syncs + Drop, I: Incoming, O: Outgoing
 /// list was not kept; `Open` or `OutOfMemory` where the disk was not opened; any fault of a file where its mark cannot be kept, `Device` where the first sync failed; `Write` of `-` or `OutOfMemory`
 /// where lost sectors, or what was wrong with pages, were not told; `OutOfMemory` for the device and for the memory of a request. After each of these nothing was sent. Then `Device` where the flush at the end failed, or a sync;
 /// `BadFrame` where the client sent what is no request, `Stream` where `input` or `out` failed. (This project's.)
-pub(crate) fn serve_command<'a, F: DiskFiles, I: Incoming, O: Outgoing, E: Write>(
+pub(crate) fn serve_command<'a, F: DiskFiles, I: Incoming, O: Outgoing, E: Outgoing>(
     alloc: Global,
     words: DiskServeWords<'a>,
     files: &mut F,
@@ -198,11 +197,11 @@ pub(crate) fn serve_command<'a, F: DiskFiles, I: Incoming, O: Outgoing, E: Write
     out: &mut O,
     err: &mut E,
 ) -> Result<(), DiskCommandFault<'a>>
-    ensures served { HasServedAt F.Store.held F.Store.honest F.Store.full F.Store.mended F.Store.failed F.Syncs.synced F.Syncs.failed F.Syncs.marked F.Lists.kept (F.answers files.old) words.entry (I.remaining input.old) (I.remaining input.new) (O.contents out.old) (O.contents out.new)
+    ensures served { HasServedAt F.Store.held F.Store.honest F.Store.full F.Store.mended F.Store.failed F.Syncs.synced F.Syncs.failed F.Syncs.marked F.Lists.kept F.Lists.says (F.answers files.old) words.entry (I.remaining input.old) (I.remaining input.new) (O.contents out.old) (O.contents out.new)
         (E.contents err.old) (E.contents err.new) result
-        ⊎ HasNotServed F.Store.held F.Store.honest F.Store.failed F.Syncs.failed F.Lists.kept F.Lists.failed (F.answers files.old) words.entry (O.contents out.old) (O.contents out.new) (E.contents err.old) (E.contents err.new) result }
+        ⊎ HasNotServed F.Store.held F.Store.honest F.Store.failed F.Syncs.failed F.Lists.kept F.Lists.says F.Lists.failed (F.answers files.old) words.entry (O.contents out.old) (O.contents out.new) (E.contents err.old) (E.contents err.new) result }
     ensures stops { StreamStops I.fails O.fails (I.remaining input.old) (I.remaining input.new) input.new out.new result }
-    ensures opened { OpensMarked words.entry.disk.now (access_of words.entry) (F.opened files.old) (F.opened files.new) }
+    ensures opened { OpensMarked (F.answers files.old) words.entry.disk.now (access_of words.entry) (F.opened files.old) (F.opened files.new) }
     ensures kept { F.kept files.new ≡ F.kept files.old }
 {
     let (disk, syncs, told, _) = ready(alloc, files, &words, err)?;

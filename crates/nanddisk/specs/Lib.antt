@@ -2,3 +2,5 @@
 pub mod Stores
 -- and how its file is locked
 pub mod Locks
+-- and which slot of its mark's file is written next
+pub mod Marks

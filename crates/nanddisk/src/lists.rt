@@ -3,6 +3,7 @@ ghost use Rattle.std.specs.Prelude.{◌≡◌, []};
 
 use crate::names::FileNames;
 use crate::part::put_all;
+use disk_commands::ListPlace;
 use disk_damage::write_list;
 use disk_server::KeepsLost;
 use nbd_stream::DiskFault;
@@ -40,7 +41,8 @@ impl<'a, R: Files<File = File>> FileLists<'a, R> {
         names: ListNames,
         beside: Vec<u8>,
     ) -> FileLists<'a, R>
-        ensures { result.kept.items ≡ [] }
+        ensures kept { result.kept.items ≡ [] }
+        ensures beside { result.beside ≡ beside }
     {
         FileLists {
             system,
@@ -91,6 +93,10 @@ fn replaced<R: Files<File = File>>(
     }
     discard(&mut folder, part);
     false
+}
+
+impl<R> ListPlace for FileLists<'_, R> {
+    ghost says = { λ l. l.beside.items };
 }
 
 impl<R: Files<File = File>> KeepsLost for FileLists<'_, R> {

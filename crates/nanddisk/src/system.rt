@@ -1,4 +1,5 @@
 //! The files of the system.
+ghost use Rattle.nanddisk.specs.Marks.{BeginsBeside};
 ghost use Rattle.nanddisk.specs.Stores.{IsStoreOf};
 ghost use Rattle.std.specs.Prelude.{◌≡◌, IfOk, Ok};
 
@@ -187,7 +188,9 @@ fn mark_file<'a, R: Files<File = File> + AllocGlobal>(
     alloc: Global,
     path: &str,
     in_second: bool,
-) -> Result<Option<MarkFile<NotedFile<'a>>>, DiskFileFault> {
+) -> Result<Option<MarkFile<NotedFile<'a>>>, DiskFileFault>
+    ensures { IfOk result (BeginsBeside in_second) }
+{
     let names = names_beside(alloc, path, MARK)?;
     match open_mark(system, &names)? {
         Some(file) => Ok(Some(MarkFile::new(NotedFile::new(file, system.first), in_second))),
@@ -260,6 +263,8 @@ impl<'a, R: Files<File = File> + AllocGlobal + Clock> DiskFiles for DiskSystem<'
 
     ghost kept = { λ _. None };
 
+    ghost part = { λ _. None };
+
     ghost opened = { λ _. None };
 
     fn has(&mut self, path: &str) -> Result<bool, DiskFileFault> {
@@ -315,7 +320,10 @@ impl<'a, R: Files<File = File> + AllocGlobal + Clock> DiskFiles for DiskSystem<'
         path: &str,
         syncs: FileSyncs<NotedFile<'a>>,
         found: FoundMark,
-    ) -> Result<FileSyncs<NotedFile<'a>>, DiskFileFault> {
+    ) -> Result<FileSyncs<NotedFile<'a>>, DiskFileFault>
+        ensures slot { IfOk result (λ keeps. BeginsBeside found.in_second keeps.kept) }
+        ensures marked { IfOk result (λ keeps. keeps.mark ≡ found.mark) }
+    {
         match mark_file(&self.system, alloc, path, found.in_second) {
             Ok(kept) => Ok(syncs.with_mark(kept, found.mark)),
             Err(fault) => Err(fault),

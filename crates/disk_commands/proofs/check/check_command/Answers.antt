@@ -9,6 +9,7 @@ use Rattle.disk_commands.specs.Files.{DiskFileAnswers}
 use Rattle.disk_commands.specs.Check.{IsDamageAt, IsUnclean, damage_text}
 use Rattle.disk_commands.specs.Told.{IsPrintedInPart, form_of}
 use Rattle.disk_server.proofs.FaultLemmas.{is_handed_on}
+use Rattle.disk_commands.proofs.TellLemmas.{told_stops, unchecked_stops}
 use Rattle.disk_commands.proofs.check.check_command.Goals as goal
 
 module _ {S : Type 0} (held : S → Held) (honest : S → Bool) (failed : S → ℕ) (a : DiskFileAnswers) (words : InfoWords) (before after : Option (List ℕ)) (missing bad unsound text : List ℕ)
@@ -27,6 +28,7 @@ returns-in_err-damage g c =
     rw (is_handed_on _ _ c.from_residual.ensures.1) (record {
       ok = tt;
       fault = inl (c.in_err-damage.ensures.fault, Keeps-refl (g.W.Write.contents c.args.out.now));
+      stops = unchecked_stops g.W.Outgoing.fails _ g.F.Store.Store.held g.F.Store.Store.honest g.F.Store.Store.failed (g.F.DiskFiles.answers c.args.files.now) c.args.words.disk.now c.in_err-damage.field-0.0 c.in_err-damage.ensures.fault;
       kept = c.in_err-damage.ensures.kept;
       opened = c.in_err-damage.ensures.opened;
     })
@@ -35,6 +37,7 @@ pub returns-in_default : goal.returns-in_default
 returns-in_default g c = record {
   ok = tt;
   fault = inl (inr tt, Keeps-refl (g.W.Write.contents c.args.out.now));
+  stops = tt;
   kept = c.in_ok-damage.ensures.kept;
   opened = c.in_ok-damage.ensures.opened;
 }
@@ -47,6 +50,7 @@ returns-in_err-print_text g c =
       ok = tt;
       fault = not_printed g.F.Store.Store.held g.F.Store.Store.honest g.F.Store.Store.failed (g.F.DiskFiles.answers c.args.files.now) c.args.words (g.W.Write.contents c.args.out.now) (g.W.Write.contents c.print_text.new.out)
           found.lost.items found.bad.items found.unsound.items c.as_str.result.now c.in_ok-damage.ensures.ok is _ c.in_err-print_text.ensures.fault;
+      stops = told_stops g.W.Outgoing.fails c.print_text.new.out (g.F.DiskFiles.answers c.args.files.now) c.args.words.disk.now c.in_err-print_text.field-0.0 c.in_err-print_text.ensures.stops;
       kept = c.in_ok-damage.ensures.kept;
       opened = c.in_ok-damage.ensures.opened;
     })
@@ -61,6 +65,7 @@ returns g c =
       ok = tt;
       fault = some_lost g.F.Store.Store.held g.F.Store.Store.honest g.F.Store.Store.failed (g.F.DiskFiles.answers c.args.files.now) c.args.words (g.W.Write.contents c.args.out.now) (g.W.Write.contents c.print_text.new.out)
           found.lost.items found.bad.items found.unsound.items c.as_str.result.now c.in_ok-damage.ensures.ok is c.len.result count some c.in_ok-print_text.ensures.printed;
+      stops = tt;
       kept = c.in_ok-damage.ensures.kept;
       opened = c.in_ok-damage.ensures.opened;
     }

@@ -1,7 +1,7 @@
 use Rattle.std.proofs.Common.{◌∙◌, Bool, List, ap, inl, inr, refl, subst, sym}
-use Rattle.disk_commands.specs.Damage.{IsListAt, IsLookedAt, IsNoListAt}
+use Rattle.disk_commands.specs.Damage.{IsListAt, IsLookedAt, IsNoListAt, IsUnlookedAt}
 use Rattle.disk_commands.specs.Files.{SaysNoMore}
-use Rattle.disk_commands.proofs.DamageLemmas.{kept_flags, looked_at, mark_fault, no_list_back}
+use Rattle.disk_commands.proofs.DamageLemmas.{kept_flags, looked_at, mark_fault, no_list_back, told_no_disk}
 use Rattle.disk_server.proofs.FaultLemmas.{is_handed_on}
 use Rattle.disk_commands.proofs.damage.look_at.Goals as goal
 
@@ -72,7 +72,9 @@ returns g c =
     let same = c.in_ok-lost.ensures.same ∙ c.in_ok-found.ensures.same in
     record {
       ok = tt;
-      fault = inr (inr (inr (refl, (c.in_ok-store.told, c.in_ok-store.store, first.ok, c.in-Err.ensures.fault))));
+      fault = subst (IsUnlookedAt g.F.Store.Store.held g.F.Store.Store.honest g.F.Store.Store.failed (g.F.DiskFiles.answers c.args.files.now) c.args.path.now) (sym c.no_disk.ensures)
+          (told_no_disk (IsUnlookedAt g.F.Store.Store.held g.F.Store.Store.honest g.F.Store.Store.failed (g.F.DiskFiles.answers c.args.files.now) c.args.path.now) c.args.path c.in-Err.why (inr (inl tt))
+          (λ other. inr (inr (inr (refl, other, (c.in_ok-store.told, c.in_ok-store.store, first.ok, c.in-Err.ensures.fault))))));
       opened = ap g.F.DiskFiles.opened same ∙ first.opened;
       within = tt;
       no_more = tt;

@@ -4,8 +4,8 @@ ghost use Rattle.page_layout.specs.Geometry.{row_count};
 ghost use Rattle.page_layout.specs.Raw.{raw_image};
 
 use disk_commands::{
-    Access, DiskFileFault, DiskFiles, DiskShape, FoundMark, LockedDie, dump_bytes as raw_bytes,
-    none_found,
+    Access, DiskFileFault, DiskFiles, DiskShape, FoundMark, ListPlace, LockedDie,
+    dump_bytes as raw_bytes, none_found,
 };
 use disk_server::{KeepsLost, SyncMark, Syncs};
 use file_die::{MemoryStore, Store};
@@ -92,6 +92,7 @@ impl Syncs for MemorySyncs {
 pub struct MemoryLists {
     alloc: Global,
     kept: Vec<bool>,
+    beside: Vec<u8>,
     failed: u64,
     pub fails: bool,
 }
@@ -104,6 +105,7 @@ impl MemoryLists {
         MemoryLists {
             alloc,
             kept: Vec::new(alloc),
+            beside: Vec::new(alloc),
             failed: 0,
             fails: false,
         }
@@ -117,6 +119,10 @@ impl MemoryLists {
             self.kept.to_vec(self.alloc)
         }
     }
+}
+
+impl ListPlace for MemoryLists {
+    ghost says = { λ l. l.beside.items };
 }
 
 impl KeepsLost for MemoryLists {
@@ -247,6 +253,8 @@ impl DiskFiles for MemoryFiles {
     ghost answers = { λ _. record unknown_disk_files { honest = true } };
 
     ghost kept = { λ _. None };
+
+    ghost part = { λ _. None };
 
     ghost opened = { λ _. None };
 
@@ -389,9 +397,14 @@ impl DiskFiles for MemoryFiles {
         alloc: Global,
         _path: &str,
         _syncs: &MemorySyncs,
-        _beside: &[u8],
+        beside: &[u8],
     ) -> Result<MemoryLists, DiskFileFault> {
-        Ok(MemoryLists::new(alloc))
+        let Ok(copy) = beside.to_vec(alloc) else {
+            return Err(DiskFileFault::OutOfMemory);
+        };
+        let mut place = MemoryLists::new(alloc);
+        place.beside = copy;
+        Ok(place)
     }
 }
 
