@@ -9,14 +9,14 @@ use Rattle.file_die.specs.declared.die.SyncWhen.{SyncWhen}
 use Rattle.file_die.specs.declared.die.SyncWhen.TheVariants.{Always, Erases}
 use Rattle.ftl_device.specs.declared.device.Device.{Device}
 use Rattle.disk_recovery.specs.Listed.{IsUnkept, KeepsIfAny}
-use Rattle.disk_recovery.specs.Recovered.{HoldsRecovered, IsUnrecovered}
+use Rattle.disk_recovery.specs.Recovered.{HoldsRecovered, IsOpenedLeft, IsUnrecovered}
 use Rattle.disk_server.specs.declared.guarded.GuardedSectors.{GuardedSectors}
 use Rattle.disk_server.specs.declared.mark.SyncMark.{SyncMark}
 use Rattle.disk_server.specs.declared.opened.OpenStoreFault.{OpenStoreFault}
 use Rattle.disk_server.specs.Disk.{contents_of, holds}
 use Rattle.disk_server.specs.Reopened.{Reopened}
-use Rattle.disk_server.specs.Opened.{SyncsWhen, bytes_of, is_honest_in, view_in}
-use Rattle.disk_server.specs.Stopped.{IsUnopenedLater}
+use Rattle.disk_server.specs.Opened.{SyncsWhen, bytes_of, flash_as_opened, flash_in, is_honest_in, view_in}
+use Rattle.disk_server.specs.Stopped.{IsOpenedWith, IsUnopenedLater}
 use Rattle.disk_server.specs.Synced.{after_sync}
 use Rattle.disk_commands.specs.declared.files.Access.{Access}
 use Rattle.disk_commands.specs.declared.mark.FoundMark.{FoundMark}
@@ -49,11 +49,22 @@ abbrev pub HoldsPages : (read_only : Bool) → (mark : ℕ) → (honest : Type 0
 HoldsPages true mark honest s bytes = honest → bytes ≡ bytes_of s
 HoldsPages false mark honest s bytes = honest → HoldsRecovered mark s bytes
 
+-- THE ENTRIES OF ITS CACHE, by whether it is only read: its own, or as many as it has stale sectors; else its own, once it was flushed where it had too many stale ones
+abbrev pub HasCacheBy : {S : Type 0} → (read_only : Bool) → (S → Held) → (honest : S → Bool) → (failed : S → ℕ) → DiskText → (mark : ℕ) → S → (entries : ℕ) → Type 0
+HasCacheBy true held honest failed told mark store entries = IsOpenedWith held honest failed false store told.shape.cache told.shape.share entries
+HasCacheBy false held honest failed told mark store entries = IsOpenedLeft held honest failed mark store told.shape.cache told.shape.share entries
+
+-- ITS PAGES, where it is only read: of a store that is honest they stay as they were
+abbrev pub KeepsPages : {S : Type 0} → (read_only : Bool) → (S → Held) → (honest : S → Bool) → S → DriverState (FileState S) → Type 0
+KeepsPages read_only held honest store nand = read_only ≡ true → honest store ≡ true → flash_in held nand ≡ flash_as_opened (held store)
+
 -- THE DISK OF A STORE: of one that is honest it holds its array. Its device has the share that is told. Its die syncs the store as was asked. Where it is to be written and a mark counts, that is kept from then on, and all that the disk had programmed was synced
 pub record IsDiskOf {S Y : Type 0} (held : S → Held) (honest : S → Bool) (failed : S → ℕ) (marked : Y → SyncMark) (read_only always : Bool) (told : DiskText) (found : FoundMark) (store : S)
     (d : Device (DriverState (FileState S))) (syncs : Y) : Type 0 where
   pub held_array : honest store ≡ true → holds (is_honest_in honest) d ≡ true
   pub bytes : HoldsPages read_only found.mark.synced (honest store ≡ true) (held store) (contents_of (view_in held honest failed) d).bytes
+  pub pages : KeepsPages read_only held honest store d.engine.nand
+  pub cache : HasCacheBy read_only held honest failed told found.mark.synced store d.engine.mapping.capacity
   pub share : d.engine.mapping.share ≡ told.shape.share
   pub syncs_when : SyncsWhen (sync_when always) d.engine.nand
   pub keeps : read_only ≡ false → told.marked ≡ true → marked syncs ≡ after_sync d.engine.next false found.mark

@@ -7,7 +7,7 @@ ghost use Rattle.disk_server.specs.Synced.{after_sync};
 ghost use Rattle.disk_commands.specs.Damage.{NamesAll};
 ghost use Rattle.disk_commands.specs.Files.{with_mark_opened};
 ghost use Rattle.disk_commands.specs.Opening.{IsUnkeptAt, OpensMarked};
-ghost use Rattle.disk_commands.specs.Ready.{HoldsPages, IsNoneOf, IsReadyAt, KeepsBy, IsUnkeptBy, IsUnreadyAt, MarksBy, access_of, keeps_mark, sync_when};
+ghost use Rattle.disk_commands.specs.Ready.{HasCacheBy, HoldsPages, IsNoneOf, IsReadyAt, KeepsBy, KeepsPages, IsUnkeptBy, IsUnreadyAt, MarksBy, access_of, keeps_mark, sync_when};
 ghost use Rattle.disk_commands.specs.ShapeText.{IsCacheSize};
 ghost use Rattle.disk_commands.specs.Told.{HasPrintingFailed, StopsCommand, StopsTelling};
 
@@ -76,6 +76,8 @@ fn disk_of<'a, S: Store + Drop, K: KeepsLost>(
     ensures share { IfOk result (λ d. d.engine.mapping.share ≡ told.now.shape.share) }
     ensures honest { IfOk result (λ d. S.honest store ≡ true → holds (is_honest_in S.honest) d ≡ true) }
     ensures bytes { IfOk result (λ d. HoldsPages words.now.read_only found.mark.synced (S.honest store ≡ true) (S.held store) (contents_of (view_in S.held S.honest S.failed) d).bytes) }
+    ensures pages { IfOk result (λ d. KeepsPages words.now.read_only S.held S.honest store d.engine.nand) }
+    ensures cache { IfOk result (λ d. HasCacheBy words.now.read_only S.held S.honest S.failed told.now found.mark.synced store d.engine.mapping.capacity) }
     ensures listed { OnOk result (KeepsBy words.now.read_only K.kept lost.now keeper.old keeper.new) }
     ensures fault { IfErr result (IsNoneOf S.held S.honest S.failed K.kept K.failed words.now.disk.now words.now.read_only told.now found store lost.now keeper.old keeper.new) }
 {

@@ -1,8 +1,9 @@
 use Rattle.std.proofs.Common.{◌≡◌, true, refl, subst, sym}
-use Rattle.disk_recovery.specs.Recovered.{HoldsRecovered, IsUnrecovered}
+use Rattle.std.proofs.lemmas.Bool.{both_ways}
+use Rattle.disk_recovery.specs.Recovered.{HoldsRecovered, IsOpenedLeft, IsUnrecovered}
 use Rattle.disk_server.specs.Disk.{contents_of}
 use Rattle.disk_server.specs.Opened.{view_in}
-use Rattle.disk_commands.specs.Ready.{HoldsPages, IsNoDiskBy, IsNoneOf, KeepsBy}
+use Rattle.disk_commands.specs.Ready.{HasCacheBy, HoldsPages, IsNoDiskBy, IsNoneOf, KeepsBy}
 use Rattle.disk_commands.proofs.DamageLemmas.{told_no_disk}
 use Rattle.disk_commands.proofs.ready.disk_of.Goals as goal
 
@@ -15,6 +16,18 @@ returns-in-Ok-recover_listed-clause-bytes g c =
     let bytes = (contents_of (view_in held honest failed) c.in-Ok-recover_listed.disk).bytes in
     subst (λ r. HoldsPages r c.args.found.mark.synced (honest c.args.store ≡ true) (held c.args.store) bytes) (sym c.if-words.false)
     (subst (λ s. honest s ≡ true → HoldsRecovered c.args.found.mark.synced (held s) bytes) c.in-Ok-list_first.ensures.same c.in-Ok-recover_listed.ensures.bytes)
+
+pub returns-in-Ok-recover_listed-clause-pages : goal.returns-in-Ok-recover_listed-clause-pages
+returns-in-Ok-recover_listed-clause-pages g c only = absurd (both_ways c.args.words.now.read_only c.if-words.false only)
+
+pub returns-in-Ok-recover_listed-clause-cache : goal.returns-in-Ok-recover_listed-clause-cache
+returns-in-Ok-recover_listed-clause-cache g c =
+    let store = g.S.Store in
+    let told = c.args.told.now in
+    let mark = c.args.found.mark.synced in
+    let entries = c.in-Ok-recover_listed.disk.engine.mapping.capacity in
+    subst (λ r. HasCacheBy r store.held store.honest store.failed told mark c.args.store entries) (sym c.if-words.false)
+    (subst (λ s. IsOpenedLeft store.held store.honest store.failed mark s told.shape.cache told.shape.share entries) c.in-Ok-list_first.ensures.same c.in-Ok-recover_listed.ensures.entries)
 
 pub returns-in-Err-recover_listed-clause-fault : goal.returns-in-Err-recover_listed-clause-fault
 returns-in-Err-recover_listed-clause-fault g c =
