@@ -128,7 +128,8 @@ unready_stops {S} {Y} {K} P held honest failed missed kept says unlisted a path 
     unkept true (inr h) = h
     unkept false h = h
 
-    unopened : (h : IsNotOpened held honest failed missed kept says unlisted a path read_only fault.Stream) → IsNoneOf held honest failed kept unlisted path read_only h.told h.found h.store h.lost h.place h.left fault.Stream ⊎ IsUnkeptBy (keeps_mark read_only h.told.marked) missed a path fault.Stream → ⊥
+    unopened : (h : IsNotOpened held honest failed missed kept says unlisted a path read_only fault.Stream)
+        → IsNoneOf held honest failed kept unlisted path read_only h.told h.found h.store h.lost h.place h.left fault.Stream ⊎ IsUnkeptBy (keeps_mark read_only h.told.marked) missed a path fault.Stream → ⊥
     unopened h (inl none) = none
     unopened h (inr missing) = unkept (keeps_mark read_only h.told.marked) missing
 

@@ -74,8 +74,8 @@ pub record AsksNothing (words : List (List ℕ)) (old new : Around) (result : Re
 
 -- ---- all of it
 
-abbrev pub ObeysDiskWords : {S Y K : Type 0} → (S → Held) → (honest full : S → Bool) → (mended : S → Mended) → (failed : S → ℕ) → (synced missed : Y → ℕ) → (marked : Y → SyncMark) → (kept : K → List Bool) → (says : K → List ℕ) → (unlisted : K → ℕ) → DiskFileAnswers → (words : List (List ℕ)) → (old new : Around)
-    → Result (Unit {0}) DiskCommandFault → Type 0
+abbrev pub ObeysDiskWords : {S Y K : Type 0} → (S → Held) → (honest full : S → Bool) → (mended : S → Mended) → (failed : S → ℕ) → (synced missed : Y → ℕ) → (marked : Y → SyncMark) → (kept : K → List Bool) → (says : K → List ℕ) → (unlisted : K → ℕ) → DiskFileAnswers
+    → (words : List (List ℕ)) → (old new : Around) → Result (Unit {0}) DiskCommandFault → Type 0
 ObeysDiskWords held honest full mended failed synced missed marked kept says unlisted a words old new result =
     AsksNothing words old new result
     ⊎ ((found : DiskWords) × AsksDiskProgram words found × DoesAsked held honest full mended failed synced missed marked kept says unlisted a found old new result)
