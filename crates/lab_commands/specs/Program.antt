@@ -1,12 +1,12 @@
 -- What a run of the program comes to.
-use Rattle.std.specs.Prelude.{◌≡◌, ◌⊎◌, ℕ, Bool, List, Option, string_bytes}
+use Rattle.std.specs.Prelude.{◌≡◌, ◌⊎◌, ℕ, suc, Bool, List, length, Option, option_map, string_bytes}
 use Rattle.std.specs.Io.KnownBytes.{Appends, Keeps}
 use Rattle.lab_commands.specs.declared.words.Asked.{Asked}
 use Rattle.lab_commands.specs.declared.words.Asked.TheVariants as asked
 use Rattle.lab_commands.specs.Words.{AsksLabProgram, IsNoLabCommand}
 use Rattle.lab_commands.specs.declared.text.LabFault.{LabFault}
 use Rattle.lab_commands.specs.declared.text.LabFault.TheVariants.{NoSuchCommand, OutOfMemory}
-use Rattle.lab_commands.specs.Files.{Store, StoreAnswers}
+use Rattle.lab_commands.specs.Files.{Store, StoreAnswers, after_opens}
 use Rattle.lab_commands.specs.Text.{IsLabFaultTold}
 use Rattle.lab_commands.specs.Array.{WroteArray, IsArrayFault}
 use Rattle.lab_commands.specs.History.{ToldHistory, IsHistoryFault}
@@ -36,8 +36,16 @@ WroteOrToldAsked a (asked.Arrange read) before after out printed = WroteArranged
 WroteOrToldAsked a (asked.Origin read) before after out printed = WroteOrigin a read before after out printed
 WroteOrToldAsked a (asked.Text text) before after out printed = (after ≡ before) × Appends out printed (string_bytes text)
 
-abbrev pub Obeyed : StoreAnswers → List (List ℕ) → Option Store → Option Store → Option (List ℕ) → Option (List ℕ) → Type 0
-Obeyed a words before after out printed = (found : Asked) × AsksLabProgram words found × WroteOrToldAsked a found before after out printed
+-- EACH FILE THAT IS READ WAS OPENED JUST ONCE: a pipe that is opened again has lost what was read of it
+abbrev pub OpensEachOnce : Asked → (opens opened : Option ℕ) → Type 0
+OpensEachOnce (asked.Compare read) opens opened = opened ≡ option_map suc (option_map suc opens)
+OpensEachOnce (asked.Merge read) opens opened = opened ≡ after_opens (length read.dumps.items) opens
+OpensEachOnce (asked.Origin read) opens opened = opened ≡ after_opens (length read.readings.items) (option_map suc opens)
+OpensEachOnce (asked.Text text) opens opened = opened ≡ opens
+OpensEachOnce _ opens opened = opened ≡ option_map suc opens
+
+abbrev pub Obeyed : StoreAnswers → List (List ℕ) → Option Store → Option Store → (opens opened : Option ℕ) → Option (List ℕ) → Option (List ℕ) → Type 0
+Obeyed a words before after opens opened out printed = (found : Asked) × AsksLabProgram words found × WroteOrToldAsked a found before after out printed × OpensEachOnce found opens opened
 
 -- ---- not done
 
@@ -78,5 +86,5 @@ pub record Written : Type 0 where
 -- status 0 where all was done, with nothing on standard error; else the fault's line there, and its status
 abbrev pub LabCommandRuns : StoreAnswers → List (List ℕ) → Option Store → Option Store → (opens opened : Option ℕ) → (out err : Written) → ℕ → Type 0
 LabCommandRuns a words before after opens opened out err status =
-    (Obeyed a words before after out.before out.after × (status ≡ 0) × Keeps err.before err.after)
+    (Obeyed a words before after opens opened out.before out.after × (status ≡ 0) × Keeps err.before err.after)
     ⊎ ((fault : LabFault) × IsUnobeyed a words before after opens opened out.broke out.before out.after fault × IsLabFaultTold fault err.broke err.before err.after status)

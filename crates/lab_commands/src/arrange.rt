@@ -1,5 +1,5 @@
 //! The command `arrange GEOM DUMP OUT [--from WORDS]`.
-ghost use Rattle.std.specs.Prelude.{◌≡◌, OnOk, OnErr, IfOk, IfErr};
+ghost use Rattle.std.specs.Prelude.{◌≡◌, OnOk, OnErr, IfOk, IfErr, suc, option_map};
 ghost use Rattle.lab_arrange.specs.Place.{IsFitting};
 ghost use Rattle.lab_arrange.specs.Rooms.{IsArrangeRoom};
 ghost use Rattle.lab_commands.specs.Files.{AnswersNoMore, without_part};
@@ -71,6 +71,7 @@ fn put_in_order<'a, F: LabFiles>(
     ensures no_more { AnswersNoMore (F.answers files.old) (F.answers files.new) }
     ensures beside { OnOk result (without_part (F.kept files.new) ≡ F.kept files.old) }
     ensures kept { OnErr result (F.kept files.new ≡ F.kept files.old) }
+    ensures opened { OnOk result (F.opened files.new ≡ option_map suc (F.opened files.old)) }
 {
     let mut dump = open_dump(files, words.dump, progress_of(words.showing))?;
     let size = geometry.data_bytes() + geometry.spare_bytes();
@@ -96,6 +97,7 @@ fn place_in_order<'a, F: LabFiles>(
     ensures put { OnOk result (HasPutInOrder (F.answers files.old) words.now (F.kept files.old) (F.kept files.new) geometry.now arrangement.now) }
     ensures fault { IfErr result (IsArrangedUnput (F.answers files.old) words.now geometry.now arrangement.now (F.opened files.old) (F.opened files.new)) }
     ensures kept { OnErr result (F.kept files.new ≡ F.kept files.old) }
+    ensures opened { OnOk result (F.opened files.new ≡ option_map suc (F.opened files.old)) }
 {
     let room = ArrangeRoom::new(alloc, geometry)?;
     let target = put_in_order(room, words, geometry, arrangement, files)?;
@@ -111,6 +113,7 @@ fn place<'a, F: LabFiles>(
     ensures placed { IfOk result (PutArranged (F.answers files.old) words.now (F.kept files.old) (F.kept files.new)) }
     ensures fault { IfErr result (IsUnarrangedBy (F.answers files.old) words.now (F.opened files.old) (F.opened files.new)) }
     ensures kept { OnErr result (F.kept files.new ≡ F.kept files.old) }
+    ensures opened { OnOk result (F.opened files.new ≡ option_map suc (F.opened files.old)) }
 {
     let said = shape_of(words)?;
     allow(files, words.dump, words.out, words.force)?;
@@ -140,6 +143,7 @@ pub(crate) fn arrange_command<'a, F: LabFiles, W: Output>(
 ) -> Result<(), LabFault<'a>>
     ensures ok { OnOk result (WroteArranged (F.answers files.old) words.entry (F.kept files.old) (F.kept files.new) (W.contents out.old) (W.contents out.new)) }
     ensures fault { IfErr result (IsArrangeFault (F.answers files.old) words.entry (F.kept files.old) (F.kept files.new) (F.opened files.old) (F.opened files.new) (W.failed out.new) (W.contents out.old) (W.contents out.new)) }
+    ensures opened { OnOk result (F.opened files.new ≡ option_map suc (F.opened files.old)) }
 {
     let geometry = place(alloc, &words, files)?;
     ended(print_arranged(printer(alloc, words.showing), out, geometry.rows()))

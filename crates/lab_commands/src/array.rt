@@ -1,5 +1,5 @@
 //! The command `array GEOM DUMP OUT [--map FILE] [--until SEQUENCE] [--damaged]`.
-ghost use Rattle.std.specs.Prelude.{◌≡◌, OnOk, OnErr, IfOk, IfErr, IfSome, true, false, length, map, replicate};
+ghost use Rattle.std.specs.Prelude.{◌≡◌, OnOk, OnErr, IfOk, IfErr, IfSome, true, false, length, map, replicate, suc, option_map};
 ghost use Rattle.page_layout.specs.Array.{zeros};
 ghost use Rattle.lab_dump.specs.declared.map_head.Remark.TheVariants as remark;
 ghost use Rattle.lab_dump.specs.Held.{mark_in};
@@ -86,6 +86,7 @@ fn put_map<'a, F: LabFiles>(
     ensures ok { OnOk result (F.kept files.new ≡ with_map (F.kept files.old) words.now (map_text remark.Array geometry.now (map mark_in held.now))) }
     ensures fault { IfErr result (IsUnmapped (F.answers files.old) words.now) }
     ensures kept { OnErr result (F.kept files.new ≡ F.kept files.old) }
+    ensures opened { F.opened files.new ≡ F.opened files.old }
 {
     let Some(file) = words.map else {
         return Ok(());
@@ -133,6 +134,7 @@ fn make<'a, F: LabFiles>(
     ensures no_more { AnswersNoMore (F.answers files.old) (F.answers files.new) }
     ensures beside { OnOk result (without_part (F.kept files.new) ≡ F.kept files.old) }
     ensures kept { OnErr result (F.kept files.new ≡ F.kept files.old) }
+    ensures opened { OnOk result (F.opened files.new ≡ option_map suc (F.opened files.old)) }
 {
     let begun = begin_file(
         files,
@@ -170,6 +172,7 @@ fn put_sectors<'a, F: LabFiles>(
     ensures fault { IfErr result (IsArrayUnput (F.answers files.old) geometry.now words.now (F.opened files.old) (F.opened files.new)) }
     ensures no_more { OnOk result (AnswersNoMore (F.answers files.old) (F.answers files.new)) }
     ensures kept { OnErr result (F.kept files.new ≡ F.kept files.old) }
+    ensures opened { OnOk result (F.opened files.new ≡ option_map suc (F.opened files.old)) }
 {
     let room = ArrayRoom::new(alloc, geometry)?;
     let written = make(room, words, geometry, last, damaged, files)?;
@@ -200,6 +203,7 @@ fn place<'a, F: LabFiles>(
     ensures fault { IfErr result (IsArrayUndone (F.answers files.old) words.entry (F.opened files.old) (F.opened files.new)) }
     ensures no_more { OnOk result (AnswersNoMore (F.answers files.old) (F.answers files.new)) }
     ensures kept { OnErr result (F.kept files.new ≡ F.kept files.old) }
+    ensures opened { OnOk result (F.opened files.new ≡ option_map suc (F.opened files.old)) }
 {
     let UntilWords {
         array: words,
@@ -243,6 +247,7 @@ pub(crate) fn array_command<'a, F: LabFiles, W: Output>(
 ) -> Result<(), LabFault<'a>>
     ensures ok { OnOk result (WroteArray (F.answers files.old) words.entry (F.kept files.old) (F.kept files.new) (W.contents out.old) (W.contents out.new)) }
     ensures fault { IfErr result (IsArrayFault (F.answers files.old) words.entry (F.kept files.old) (F.kept files.new) (F.opened files.old) (F.opened files.new) (W.failed out.new) (W.contents out.old) (W.contents out.new)) }
+    ensures opened { OnOk result (F.opened files.new ≡ option_map suc (F.opened files.old)) }
 {
     let told = place(alloc, words, files)?;
     put_map(&words.array, &told.geometry, &told.held, files)?;

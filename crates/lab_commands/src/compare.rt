@@ -57,6 +57,7 @@ fn compare_with<'a, F: LabFiles>(
     ensures sizes { OnOk result (certificate.now.sizes ≡ sizes_of geometry.now) }
     ensures fault { IfErr result (IsDumpUnheld (F.answers files.old) geometry.now certificate.now dump.now) }
     ensures kept { F.kept files.new ≡ F.kept files.old }
+    ensures opened { F.opened files.new ≡ option_map suc (F.opened files.old) }
 {
     let mut reader = open_file(files, dump, progress_of(showing))?;
     match compare_dump(room, &mut reader, geometry, certificate) {
@@ -83,6 +84,7 @@ fn hold<'a, F: LabFiles>(
     ensures ok { IfOk result (λ held. HasCompared (F.answers files.old) words.now held.geometry held.compared) }
     ensures fault { IfErr result (IsUncomparedBy (F.answers files.old) words.now (F.opened files.old) (F.opened files.new)) }
     ensures kept { F.kept files.new ≡ F.kept files.old }
+    ensures opened { OnOk result (F.opened files.new ≡ option_map suc (option_map suc (F.opened files.old))) }
 {
     let geometry = geometry_at(words.geometry)?;
     let room = CompareRoom::new(alloc, &geometry)?;
@@ -119,6 +121,7 @@ pub(crate) fn compare_command<'a, F: LabFiles, W: Output>(
     ensures ok { OnOk result (ToldCompared (F.answers files.old) words.entry (W.contents out.old) (W.contents out.new)) }
     ensures kept { F.kept files.new ≡ F.kept files.old }
     ensures fault { IfErr result (IsCompareFault (F.answers files.old) words.entry (F.kept files.old) (F.kept files.new) (F.opened files.old) (F.opened files.new) (W.failed out.new) (W.contents out.old) (W.contents out.new)) }
+    ensures opened { OnOk result (F.opened files.new ≡ option_map suc (option_map suc (F.opened files.old))) }
 {
     let held = hold(alloc, &words, files)?;
     ended(print_compared(

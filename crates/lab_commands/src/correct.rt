@@ -1,5 +1,5 @@
 //! The command `correct GEOM DUMP OUT [--map FILE]`.
-ghost use Rattle.std.specs.Prelude.{◌≡◌, OnOk, OnErr, IfOk, IfErr};
+ghost use Rattle.std.specs.Prelude.{◌≡◌, OnOk, OnErr, IfOk, IfErr, suc, option_map};
 ghost use Rattle.page_code.specs.Chip.{IsChipOf};
 ghost use Rattle.lab_correct.specs.Map.{loss_map_text};
 ghost use Rattle.lab_correct.specs.Rooms.{IsCorrectRoom};
@@ -43,6 +43,7 @@ fn put_map<'a, F: LabFiles>(
     ensures ok { OnOk result (F.kept files.new ≡ with_map (F.kept files.old) words.now (loss_map_text geometry.now losses.now)) }
     ensures fault { IfErr result (IsUnmapped (F.answers files.old) words.now) }
     ensures kept { OnErr result (F.kept files.new ≡ F.kept files.old) }
+    ensures opened { F.opened files.new ≡ F.opened files.old }
 {
     let Some(file) = words.map else {
         return Ok(());
@@ -65,6 +66,7 @@ fn put_right<'a, F: LabFiles>(
     ensures no_more { AnswersNoMore (F.answers files.old) (F.answers files.new) }
     ensures beside { OnOk result (without_part (F.kept files.new) ≡ F.kept files.old) }
     ensures kept { OnErr result (F.kept files.new ≡ F.kept files.old) }
+    ensures opened { OnOk result (F.opened files.new ≡ option_map suc (F.opened files.old)) }
 {
     let begun = begin_pages(files, words.dump, words.out, words.showing, geometry)?;
     let (mut dump, target) = begun;
@@ -95,6 +97,7 @@ fn put_corrected<'a, F: LabFiles>(
     ensures fault { IfErr result (IsArrayUnput (F.answers files.old) chip.now.raw words.now (F.opened files.old) (F.opened files.new)) }
     ensures no_more { OnOk result (AnswersNoMore (F.answers files.old) (F.answers files.new)) }
     ensures kept { OnErr result (F.kept files.new ≡ F.kept files.old) }
+    ensures opened { OnOk result (F.opened files.new ≡ option_map suc (F.opened files.old)) }
 {
     let room = CorrectRoom::new(alloc, geometry, chip)?;
     let told = put_right(room, words, geometry, chip, files)?;
@@ -125,6 +128,7 @@ fn place<'a, F: LabFiles>(
     ensures fault { IfErr result (IsUncorrectedBy (F.answers files.old) words.now (F.opened files.old) (F.opened files.new)) }
     ensures no_more { OnOk result (AnswersNoMore (F.answers files.old) (F.answers files.new)) }
     ensures kept { OnErr result (F.kept files.new ≡ F.kept files.old) }
+    ensures opened { OnOk result (F.opened files.new ≡ option_map suc (F.opened files.old)) }
 {
     let geometry = geometry_at(words.geometry)?;
     let chip = chip_of(&geometry)?;
@@ -161,6 +165,7 @@ pub(crate) fn correct_command<'a, F: LabFiles, W: Output>(
 ) -> Result<(), LabFault<'a>>
     ensures ok { OnOk result (WroteCorrected (F.answers files.old) words.entry (F.kept files.old) (F.kept files.new) (W.contents out.old) (W.contents out.new)) }
     ensures fault { IfErr result (IsCorrectFault (F.answers files.old) words.entry (F.kept files.old) (F.kept files.new) (F.opened files.old) (F.opened files.new) (W.failed out.new) (W.contents out.old) (W.contents out.new)) }
+    ensures opened { OnOk result (F.opened files.new ≡ option_map suc (F.opened files.old)) }
 {
     let told = place(alloc, &words, files)?;
     put_map(&words, &told.geometry, &told.losses, files)?;

@@ -1,5 +1,5 @@
 //! The command `geometry DUMP`.
-ghost use Rattle.std.specs.Prelude.{◌≡◌, OnOk, OnErr, IfOk, IfErr, IfSome, true};
+ghost use Rattle.std.specs.Prelude.{◌≡◌, OnOk, OnErr, IfOk, IfErr, IfSome, true, suc, option_map};
 ghost use Rattle.lab_shapes.specs.Arranged.{IsPossibleAs};
 ghost use Rattle.lab_shapes.specs.Rooms.{HasRoomForLargestPage};
 ghost use Rattle.lab_commands.specs.Geometry.{ToldFits, FitNothing, FitsAre, HasFound, HasRooms, IsGeometryFault, IsTurned, IsGeometryUnfound, fitting_text};
@@ -109,6 +109,7 @@ fn find_fits<'a, F: LabFiles>(
     ensures found { IfOk result (HasFound (F.answers files.old) path.now) }
     ensures fault { IfErr result (IsGeometryUnfound (F.answers files.old) path.now) }
     ensures kept { F.kept files.new ≡ F.kept files.old }
+    ensures opened { F.opened files.new ≡ option_map suc (F.opened files.old) }
 {
     let mut dump = open_dump(files, path, progress_of(showing))?;
     search(rooms, path, &mut dump)
@@ -148,6 +149,7 @@ pub(crate) fn geometry_command<'a, F: LabFiles, W: Output>(
     ensures ok { OnOk result (ToldFits (F.answers files.old) words.entry (W.contents out.old) (W.contents out.new)) }
     ensures kept { F.kept files.new ≡ F.kept files.old }
     ensures fault { IfErr result (IsGeometryFault (F.answers files.old) words.entry (F.kept files.old) (F.kept files.new) (F.opened files.old) (F.opened files.new) (W.failed out.new) (W.contents out.old) (W.contents out.new)) }
+    ensures opened { OnOk result (F.opened files.new ≡ option_map suc (F.opened files.old)) }
 {
     let rooms = GeometryRooms::new(alloc)?;
     let fitting = find_fits(rooms, words.dump, words.showing, files)?;

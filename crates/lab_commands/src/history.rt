@@ -1,5 +1,5 @@
 //! The command `history GEOM DUMP SECTOR`.
-ghost use Rattle.std.specs.Prelude.{◌≡◌, OnOk, IfOk, IfErr};
+ghost use Rattle.std.specs.Prelude.{◌≡◌, OnOk, IfOk, IfErr, suc, option_map};
 ghost use Rattle.lab_dump.specs.Rooms.{IsHistoryRoom};
 ghost use Rattle.lab_commands.specs.History.{HasHistory, IsHistoryFault, IsHistoryUntold, IsRecalled, ToldHistory};
 ghost use Rattle.lab_commands.specs.Survey.{IsDumpUnsurveyed};
@@ -29,6 +29,7 @@ fn history_of<'a, F: LabFiles>(
     ensures recalled { IfOk result (IsRecalled (F.answers files.old) dump.now geometry.now sector) }
     ensures fault { IfErr result (IsDumpUnsurveyed (F.answers files.old) geometry.now dump.now) }
     ensures kept { F.kept files.new ≡ F.kept files.old }
+    ensures opened { F.opened files.new ≡ option_map suc (F.opened files.old) }
 {
     let mut reader = open_file(files, dump, progress_of(showing))?;
     match survey_sector(room, &mut reader, geometry, sector) {
@@ -54,6 +55,7 @@ fn recall<'a, F: LabFiles>(
     ensures recalled { IfOk result (λ found. HasHistory (F.answers files.old) words.now found.geometry found.history) }
     ensures fault { IfErr result (IsHistoryUntold (F.answers files.old) words.now (F.opened files.old) (F.opened files.new)) }
     ensures kept { F.kept files.new ≡ F.kept files.old }
+    ensures opened { OnOk result (F.opened files.new ≡ option_map suc (F.opened files.old)) }
 {
     let geometry = geometry_at(words.geometry)?;
     let sector = sector_at(words.sector, &geometry)?;
@@ -82,6 +84,7 @@ pub(crate) fn history_command<'a, F: LabFiles, W: Output>(
     ensures ok { OnOk result (ToldHistory (F.answers files.old) words.entry (W.contents out.old) (W.contents out.new)) }
     ensures kept { F.kept files.new ≡ F.kept files.old }
     ensures fault { IfErr result (IsHistoryFault (F.answers files.old) words.entry (F.kept files.old) (F.kept files.new) (F.opened files.old) (F.opened files.new) (W.failed out.new) (W.contents out.old) (W.contents out.new)) }
+    ensures opened { OnOk result (F.opened files.new ≡ option_map suc (F.opened files.old)) }
 {
     let found = recall(alloc, &words, files)?;
     ended(print_history(

@@ -37,7 +37,7 @@ fn obey<'a, F: LabFiles, W: Output>(
     files: &mut F,
     out: &mut W,
 ) -> Result<(), LabFault<'a>>
-    ensures ok { OnOk result (Obeyed (F.answers files.old) (texts words.now) (F.kept files.old) (F.kept files.new) (W.contents out.old) (W.contents out.new)) }
+    ensures ok { OnOk result (Obeyed (F.answers files.old) (texts words.now) (F.kept files.old) (F.kept files.new) (F.opened files.old) (F.opened files.new) (W.contents out.old) (W.contents out.new)) }
     ensures err { IfErr result (IsUnobeyed (F.answers files.old) (texts words.now) (F.kept files.old) (F.kept files.new) (F.opened files.old) (F.opened files.new) (W.failed out.new) (W.contents out.old) (W.contents out.new)) }
 {
     match parse(alloc, words) {

@@ -1,5 +1,5 @@
 //! The command `repair GEOM DUMP OUT`.
-ghost use Rattle.std.specs.Prelude.{◌≡◌, OnOk, OnErr, IfOk, IfErr};
+ghost use Rattle.std.specs.Prelude.{◌≡◌, OnOk, OnErr, IfOk, IfErr, suc, option_map};
 ghost use Rattle.lab_mend.specs.Rooms.{IsRepairRoom};
 ghost use Rattle.lab_commands.specs.Files.{AnswersNoMore, without_part};
 ghost use Rattle.lab_commands.specs.Undone.{IsFileUnmade};
@@ -32,6 +32,7 @@ fn mend<'a, F: LabFiles>(
     ensures no_more { AnswersNoMore (F.answers files.old) (F.answers files.new) }
     ensures beside { OnOk result (without_part (F.kept files.new) ≡ F.kept files.old) }
     ensures kept { OnErr result (F.kept files.new ≡ F.kept files.old) }
+    ensures opened { OnOk result (F.opened files.new ≡ option_map suc (F.opened files.old)) }
 {
     let begun = begin_pages(files, words.dump, words.out, words.showing, geometry)?;
     let (mut dump, target) = begun;
@@ -82,6 +83,7 @@ fn put_mends<'a, F: LabFiles>(
     ensures put { IfOk result (λ told. HasPutMends (F.answers files.old) words.now (F.kept files.old) (F.kept files.new) geometry.now asked told.tries told.mends.items) }
     ensures fault { IfErr result (IsRepairUnput (F.answers files.old) words.now geometry.now (F.opened files.old) (F.opened files.new)) }
     ensures kept { OnErr result (F.kept files.new ≡ F.kept files.old) }
+    ensures opened { OnOk result (F.opened files.new ≡ option_map suc (F.opened files.old)) }
 {
     let room = RepairRoom::new(alloc, geometry)?;
     let repaired = mend(room, words, geometry, asked, files)?;
@@ -102,6 +104,7 @@ fn put_mended<'a, F: LabFiles>(
     ensures put { IfOk result (λ told. HasPutRepair (F.answers files.old) words.now (F.kept files.old) (F.kept files.new) told.tries told.mends.items) }
     ensures fault { IfErr result (IsUnrepairedBy (F.answers files.old) words.now (F.opened files.old) (F.opened files.new)) }
     ensures kept { OnErr result (F.kept files.new ≡ F.kept files.old) }
+    ensures opened { OnOk result (F.opened files.new ≡ option_map suc (F.opened files.old)) }
 {
     let said = asked_at(words)?;
     allow(files, words.dump, words.out, words.force)?;
@@ -132,6 +135,7 @@ pub(crate) fn repair_command<'a, F: LabFiles, W: Output>(
 ) -> Result<(), LabFault<'a>>
     ensures ok { OnOk result (WroteRepair (F.answers files.old) words.entry (F.kept files.old) (F.kept files.new) (W.contents out.old) (W.contents out.new)) }
     ensures fault { IfErr result (IsRepairFault (F.answers files.old) words.entry (F.kept files.old) (F.kept files.new) (F.opened files.old) (F.opened files.new) (W.failed out.new) (W.contents out.old) (W.contents out.new)) }
+    ensures opened { OnOk result (F.opened files.new ≡ option_map suc (F.opened files.old)) }
 {
     let mended = put_mended(alloc, &words, files)?;
     ended(print_repaired(

@@ -1,5 +1,5 @@
 //! The command `survey GEOM DUMP`.
-ghost use Rattle.std.specs.Prelude.{◌≡◌, OnOk, IfOk, IfErr};
+ghost use Rattle.std.specs.Prelude.{◌≡◌, OnOk, IfOk, IfErr, suc, option_map};
 ghost use Rattle.lab_dump.specs.Rooms.{IsSurveyRoom};
 ghost use Rattle.lab_commands.specs.Survey.{HasSurvey, IsSurveyOfDump, IsSurveyFault, IsUnseen, IsDumpUnsurveyed, ToldSurvey};
 
@@ -28,6 +28,7 @@ fn survey_of<'a, F: LabFiles>(
     ensures seen { IfOk result (IsSurveyOfDump (F.answers files.old) dump.now geometry.now rows) }
     ensures fault { IfErr result (IsDumpUnsurveyed (F.answers files.old) geometry.now dump.now) }
     ensures kept { F.kept files.new ≡ F.kept files.old }
+    ensures opened { F.opened files.new ≡ option_map suc (F.opened files.old) }
 {
     let mut reader = open_file(files, dump, progress_of(showing))?;
     match survey_dump(room, &mut reader, geometry, rows) {
@@ -54,6 +55,7 @@ fn see<'a, F: LabFiles>(
     ensures seen { IfOk result (λ seen. HasSurvey (F.answers files.old) words.now seen.geometry seen.rows seen.survey) }
     ensures fault { IfErr result (IsUnseen (F.answers files.old) words.now (F.opened files.old) (F.opened files.new)) }
     ensures kept { F.kept files.new ≡ F.kept files.old }
+    ensures opened { OnOk result (F.opened files.new ≡ option_map suc (F.opened files.old)) }
 {
     let geometry = geometry_at(words.geometry)?;
     let rows = rows_at(words.rows, &geometry)?;
@@ -85,6 +87,7 @@ pub(crate) fn survey_command<'a, F: LabFiles, W: Output>(
     ensures ok { OnOk result (ToldSurvey (F.answers files.old) words.entry (W.contents out.old) (W.contents out.new)) }
     ensures kept { F.kept files.new ≡ F.kept files.old }
     ensures fault { IfErr result (IsSurveyFault (F.answers files.old) words.entry (F.kept files.old) (F.kept files.new) (F.opened files.old) (F.opened files.new) (W.failed out.new) (W.contents out.old) (W.contents out.new)) }
+    ensures opened { OnOk result (F.opened files.new ≡ option_map suc (F.opened files.old)) }
 {
     let seen = see(alloc, &words, files)?;
     ended(print_survey(

@@ -12,6 +12,7 @@ returns-in_err-dump g c =
       no_more = c.open_dump.ensures.no_more;
       beside = tt;
       kept = c.open_dump.ensures.kept;
+      opened = tt;
     })
 
 pub returns-in_err-target : goal.returns-in_err-target
@@ -24,6 +25,7 @@ returns-in_err-target g c =
       no_more = no_more_then _ _ _ c.open_dump.ensures.no_more c.create_beside.ensures.no_more;
       beside = tt;
       kept = c.in_err-target.ensures.kept ∙ c.open_dump.ensures.kept;
+      opened = tt;
     })
 
 pub returns-in-Ok-clause-no_more : goal.returns-in-Ok-clause-no_more
@@ -51,3 +53,6 @@ returns-clause-fault g c =
     subst (λ told. IsUnordered a c.args.geometry.now c.args.arrangement.now dump.now out.now told) (sym c.unordered_as.ensures)
     (unordered a dump out c.args.geometry.now c.args.arrangement.now _ err.undone.fault c.in_ok-dump.ensures.bytes err.ensures.err (λ is. c.open_dump.ensures.fails c.arrange_dump.new.dump (err.ensures.source is))
     (λ is. c.open_dump.ensures.no_more.writes_same (c.create_beside.ensures.fails err.undone.target (err.ensures.target is))))
+
+pub returns-in-Ok-clause-opened : goal.returns-in-Ok-clause-opened
+returns-in-Ok-clause-opened g c = c.in_ok-target.ensures.opened ∙ c.in_ok-dump.ensures.opened

@@ -6,7 +6,7 @@ use Rattle.lab_commands.proofs.array.make.Goals as goal
 pub returns-in_err-begun : goal.returns-in_err-begun
 returns-in_err-begun g c =
     let why = unbegun (g.F.LabFiles.answers c.args.files.now) c.args.geometry.now c.args.words.now.dump.now c.args.words.now.out.now c.in_err-begun.field-0.0 c.in_err-begun.ensures.fault in
-    rw (handed c.from_residual.result _ c.from_residual.ensures.1) (record { made = tt; sized = tt; fault = why; no_more = c.begin_file.ensures.no_more; beside = tt; kept = c.in_err-begun.ensures.kept })
+    rw (handed c.from_residual.result _ c.from_residual.ensures.1) (record { made = tt; sized = tt; fault = why; no_more = c.begin_file.ensures.no_more; beside = tt; kept = c.in_err-begun.ensures.kept; opened = tt })
 
 pub returns-in-Ok-clause-made : goal.returns-in-Ok-clause-made
 returns-in-Ok-clause-made g c = record { known = g.F.Reader.DumpReader.remaining c.in_ok-begun.begun.0; opened = c.in_ok-begun.ensures.bytes; made = c.in-Ok.ensures.ok }
@@ -32,3 +32,6 @@ returns-clause-no_more g c = no_more_then _ _ _ c.begin_file.ensures.no_more c.u
 
 pub returns-clause-kept : goal.returns-clause-kept
 returns-clause-kept g c = c.unmade.ensures.kept ∙ c.in_ok-begun.ensures.made
+
+pub returns-in-Ok-clause-opened : goal.returns-in-Ok-clause-opened
+returns-in-Ok-clause-opened g c = c.in_ok-begun.ensures.opened

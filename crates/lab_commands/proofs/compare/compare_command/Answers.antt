@@ -1,4 +1,4 @@
-use Rattle.std.proofs.Common.{inl, inr, subst}
+use Rattle.std.proofs.Common.{inl, inr, subst, ◌≡◌, suc, option_map}
 use Rattle.lab_commands.specs.Document.{Prints}
 use Rattle.lab_commands.proofs.PrintLemmas.{done_by, undone_by}
 use Rattle.lab_commands.specs.Reports.{compare_text}
@@ -15,6 +15,7 @@ returns-in_err-held g c =
       ok = tt;
       kept = c.hold.ensures.kept;
       fault = (inl (left_all _ _ o c.in_err-held.ensures.kept, c.in_err-held.ensures.fault));
+      opened = tt;
     })
 
 pub returns : goal.returns
@@ -29,6 +30,7 @@ returns g c =
     let printed : Prints broke o p (compare_text (form_of_showing c.args.words.showing) held.geometry held.compared) c.print_compared.result =
     subst (λ f. Prints broke o p (compare_text f held.geometry held.compared) c.print_compared.result) c.printer.ensures c.print_compared.ensures in
     record {
+      opened = done_by (g.F.LabFiles.opened c.hold.new.files ≡ option_map suc (option_map suc (g.F.LabFiles.opened c.args.files.now))) broke o p _ c.print_compared.result c.ended.result printed c.ended.ensures (λ told. c.in_ok-held.ensures.opened);
       ok = done_by (ToldCompared a c.args.words o p) broke o p _ c.print_compared.result c.ended.result printed c.ended.ensures (λ told. record { g = held.geometry; compared = held.compared; has = c.in_ok-held.ensures.ok; told = told });
       kept = c.in_ok-held.ensures.kept;
       fault =

@@ -11,6 +11,7 @@ returns-in_err-reader g c =
       sizes = tt;
       fault = (inl c.in_err-reader.ensures.fault);
       kept = c.open_file.ensures.kept;
+      opened = c.open_file.ensures.opened;
     })
 
 pub returns-in-Ok-clause-sizes : goal.returns-in-Ok-clause-sizes

@@ -1,4 +1,4 @@
-use Rattle.std.proofs.Common.{refl, inl, inr, ◌∙◌}
+use Rattle.std.proofs.Common.{refl, inl, inr, ◌∙◌, ap, suc, option_map}
 use Rattle.lab_commands.specs.declared.text.LabFault.TheVariants as fault
 use Rattle.lab_commands.proofs.CompareLemmas.{compared_before, unheld_before}
 use Rattle.lab_commands.proofs.UndoneLemmas.{handed}
@@ -10,6 +10,7 @@ returns-in_err-geometry g c =
       ok = tt;
       fault = (inl c.in_err-geometry.ensures.fault);
       kept = refl;
+      opened = tt;
     })
 
 pub returns-in_err-room : goal.returns-in_err-room
@@ -18,6 +19,7 @@ returns-in_err-room g c =
       ok = tt;
       fault = (inr (c.in_ok-geometry.geometry, c.in_ok-geometry.ensures.ok, inl (refl, refl)));
       kept = refl;
+      opened = tt;
     })
 
 pub returns-in_err-certificate : goal.returns-in_err-certificate
@@ -26,6 +28,7 @@ returns-in_err-certificate g c =
       ok = tt;
       fault = (inr (c.in_ok-geometry.geometry, c.in_ok-geometry.ensures.ok, inr (inl (c.in_err-certificate.ensures.fault, c.in_err-certificate.ensures.opened))));
       kept = c.load_certificate.ensures.kept;
+      opened = tt;
     })
 
 pub returns-in_err-compared : goal.returns-in_err-compared
@@ -37,6 +40,7 @@ returns-in_err-compared g c =
       ok = tt;
       fault = (inr (c.in_ok-geometry.geometry, c.in_ok-geometry.ensures.ok, inr (inr (c.in_ok-certificate.certificate, c.in_ok-certificate.ensures.ok, why))));
       kept = c.compare_with.ensures.kept ∙ c.load_certificate.ensures.kept;
+      opened = tt;
     })
 
 pub returns-clause-ok : goal.returns-clause-ok
@@ -50,3 +54,6 @@ returns-clause-ok g c =
       sizes = c.in_ok-compared.ensures.sizes;
       compared = compared_before a b c.args.words.now.dump.now c.in_ok-geometry.geometry c.in_ok-certificate.certificate c.in_ok-compared.compared c.in_ok-certificate.ensures.no_more c.in_ok-compared.ensures.ok;
     }
+
+pub returns-clause-opened : goal.returns-clause-opened
+returns-clause-opened g c = c.compare_with.ensures.opened ∙ ap (option_map suc) c.in_ok-certificate.ensures.opened

@@ -1,4 +1,4 @@
-use Rattle.std.proofs.Common.{List, inl, inr, ap, subst, ◌∙◌}
+use Rattle.std.proofs.Common.{List, inl, inr, ap, subst, ◌∙◌, ◌≡◌, suc, option_map}
 use Rattle.std.proofs.KnownBytes.{Keeps-refl}
 use Rattle.lab_correct.specs.declared.correcting.Loss.{Loss}
 use Rattle.lab_correct.specs.Map.{loss_map_text}
@@ -14,7 +14,7 @@ use Rattle.lab_commands.proofs.correct.correct_command.Goals as goal
 
 pub returns-in_err-told : goal.returns-in_err-told
 returns-in_err-told g c =
-    rw (handed c.from_residual.result _ c.from_residual.ensures.1) (record { ok = tt; fault = inl (left_all _ _ (g.W.Output.contents c.args.out.now) c.in_err-told.ensures.kept, c.in_err-told.ensures.fault) })
+    rw (handed c.from_residual.result _ c.from_residual.ensures.1) (record { ok = tt; fault = inl (left_all _ _ (g.W.Output.contents c.args.out.now) c.in_err-told.ensures.kept, c.in_err-told.ensures.fault); opened = tt })
 
 pub returns-in_err-put_map : goal.returns-in_err-put_map
 returns-in_err-put_map g c =
@@ -24,6 +24,7 @@ returns-in_err-put_map g c =
     rw (handed c.from_residual-in_err-put_map.result _ c.from_residual-in_err-put_map.ensures.1) (record {
       ok = tt;
       fault = (inr (inl (record { g = c.in_ok-told.told.geometry; pieces = placed.pieces; counts = record { turned = c.in_ok-told.told.turned; touched = c.in_ok-told.told.touched; losses = c.in_ok-told.told.losses.items }; made = placed.made; put = c.in_err-put_map.ensures.kept ∙ placed.put; silent = Keeps-refl o; unmapped = unmapped_before a (g.F.LabFiles.answers c.place.new.files) c.args.words _ c.in_ok-told.ensures.no_more c.in_err-put_map.ensures.fault })));
+      opened = tt;
     })
 
 pub returns : goal.returns
@@ -49,6 +50,7 @@ returns g c =
     subst (λ f. Prints broke o p (correct_text f counts.turned counts.touched counts.losses) c.print_corrected.result) c.printer.ensures
     (subst (λ (ls : List Loss). Prints broke o p (correct_text c.printer.result.form counts.turned counts.touched ls) c.print_corrected.result) c.deref-2.ensures.value c.print_corrected.ensures) in
     record {
+      opened = done_by (g.F.LabFiles.opened c.put_map.new.files ≡ option_map suc (g.F.LabFiles.opened c.args.files.now)) broke o p _ c.print_corrected.result c.ended.result printed c.ended.ensures (λ told. c.in_ok-put_map.ensures.opened ∙ c.in_ok-told.ensures.opened);
       ok = done_by (WroteCorrected a c.args.words k l o p) broke o p _ c.print_corrected.result c.ended.result printed c.ended.ensures (λ told. record { counts = counts; put = put; told = told });
       fault =
           undone_by (IsCorrectFault a c.args.words k l (g.F.LabFiles.opened c.args.files.now) (g.F.LabFiles.opened c.put_map.new.files) broke o p) broke o p _ c.print_corrected.result c.ended.result printed c.ended.ensures

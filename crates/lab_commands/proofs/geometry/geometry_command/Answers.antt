@@ -1,4 +1,4 @@
-use Rattle.std.proofs.Common.{inr, subst}
+use Rattle.std.proofs.Common.{inr, subst, ◌≡◌, suc, option_map}
 use Rattle.lab_commands.specs.Document.{Prints}
 use Rattle.lab_commands.proofs.PrintLemmas.{done_by, undone_by}
 use Rattle.lab_commands.specs.Geometry.{IsGeometryFault, ToldFits, fitting_text}
@@ -17,6 +17,7 @@ returns g c =
     let printed : Prints broke o p (fitting_text (form_of_showing c.args.words.showing) fitting) c.print_fitting.result =
     subst (λ f. Prints broke o p (fitting_text f fitting) c.print_fitting.result) c.printer.ensures c.print_fitting.ensures in
     record {
+      opened = done_by (g.F.LabFiles.opened c.find_fits.new.files ≡ option_map suc (g.F.LabFiles.opened c.args.files.now)) broke o p _ c.print_fitting.result c.ended.result printed c.ended.ensures (λ told. c.in_ok-fitting.ensures.opened);
       ok = done_by (ToldFits a c.args.words o p) broke o p _ c.print_fitting.result c.ended.result printed c.ended.ensures (λ told. record { fitting = fitting; found = c.in_ok-fitting.ensures.found; told = told });
       kept = c.in_ok-fitting.ensures.kept;
       fault =

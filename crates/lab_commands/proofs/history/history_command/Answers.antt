@@ -1,4 +1,4 @@
-use Rattle.std.proofs.Common.{List, inl, inr, subst}
+use Rattle.std.proofs.Common.{List, inl, inr, subst, ◌≡◌, suc, option_map}
 use Rattle.lab_dump.specs.declared.history.SectorPage.{SectorPage}
 use Rattle.lab_commands.specs.Document.{Prints}
 use Rattle.lab_commands.proofs.PrintLemmas.{done_by, undone_by}
@@ -16,6 +16,7 @@ returns-in_err-found g c =
       ok = tt;
       kept = c.recall.ensures.kept;
       fault = (inl (left_all _ _ o c.in_err-found.ensures.kept, c.in_err-found.ensures.fault));
+      opened = tt;
     })
 
 pub returns : goal.returns
@@ -31,6 +32,7 @@ returns g c =
     subst (λ f. Prints broke o p (history_text f found.geometry found.history.pages.items found.history.unsound) c.print_history.result) c.printer.ensures
     (subst (λ (ps : List SectorPage). Prints broke o p (history_text c.printer.result.form found.geometry ps found.history.unsound) c.print_history.result) c.deref.ensures.value c.print_history.ensures) in
     record {
+      opened = done_by (g.F.LabFiles.opened c.recall.new.files ≡ option_map suc (g.F.LabFiles.opened c.args.files.now)) broke o p _ c.print_history.result c.ended.result printed c.ended.ensures (λ told. c.in_ok-found.ensures.opened);
       ok = done_by (ToldHistory a c.args.words o p) broke o p _ c.print_history.result c.ended.result printed c.ended.ensures (λ told. record { g = found.geometry; history = found.history; has = c.in_ok-found.ensures.recalled; told = told });
       kept = c.in_ok-found.ensures.kept;
       fault =

@@ -8,4 +8,5 @@ returns-in_err-reader g c =
       recalled = tt;
       fault = (inl c.in_err-reader.ensures.fault);
       kept = c.open_file.ensures.kept;
+      opened = c.open_file.ensures.opened;
     })

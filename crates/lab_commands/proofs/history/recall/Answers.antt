@@ -9,6 +9,7 @@ returns-in_err-geometry g c =
       recalled = tt;
       fault = (inl c.in_err-geometry.ensures.fault);
       kept = refl;
+      opened = tt;
     })
 
 pub returns-in_err-sector : goal.returns-in_err-sector
@@ -17,6 +18,7 @@ returns-in_err-sector g c =
       recalled = tt;
       fault = (inr (c.in_ok-geometry.geometry, c.in_ok-geometry.ensures.ok, inl c.in_err-sector.ensures.fault));
       kept = refl;
+      opened = tt;
     })
 
 pub returns-in_err-room : goal.returns-in_err-room
@@ -25,6 +27,7 @@ returns-in_err-room g c =
       recalled = tt;
       fault = (inr (c.in_ok-geometry.geometry, c.in_ok-geometry.ensures.ok, inr (c.in_ok-sector.sector, c.in_ok-sector.ensures.ok, inl (refl, refl))));
       kept = refl;
+      opened = tt;
     })
 
 pub returns-in_err-history : goal.returns-in_err-history
@@ -33,4 +36,5 @@ returns-in_err-history g c =
       recalled = tt;
       fault = (inr (c.in_ok-geometry.geometry, c.in_ok-geometry.ensures.ok, inr (c.in_ok-sector.sector, c.in_ok-sector.ensures.ok, inr c.in_err-history.ensures.fault)));
       kept = c.history_of.ensures.kept;
+      opened = tt;
     })

@@ -1,3 +1,4 @@
+use Rattle.std.proofs.Common.{◌∙◌}
 use Rattle.lab_commands.proofs.BegunLemmas.{told_unmade}
 use Rattle.lab_commands.proofs.UndoneLemmas.{handed, no_more_then, unbegun}
 use Rattle.lab_commands.proofs.repair.mend.Goals as goal
@@ -5,7 +6,7 @@ use Rattle.lab_commands.proofs.repair.mend.Goals as goal
 pub returns-in_err-begun : goal.returns-in_err-begun
 returns-in_err-begun g c =
     let why = unbegun (g.F.LabFiles.answers c.args.files.now) c.args.geometry.now c.args.words.now.dump.now c.args.words.now.out.now c.in_err-begun.field-0.0 c.in_err-begun.ensures.fault in
-    rw (handed c.from_residual.result _ c.from_residual.ensures.1) (record { made = tt; fault = why; no_more = c.begin_pages.ensures.no_more; beside = tt; kept = c.in_err-begun.ensures.kept })
+    rw (handed c.from_residual.result _ c.from_residual.ensures.1) (record { made = tt; fault = why; no_more = c.begin_pages.ensures.no_more; beside = tt; kept = c.in_err-begun.ensures.kept; opened = tt })
 
 pub returns-in-Ok-clause-no_more : goal.returns-in-Ok-clause-no_more
 returns-in-Ok-clause-no_more g c = no_more_then _ _ _ c.begin_pages.ensures.no_more c.watch-watch.ensures.no_more
@@ -19,3 +20,6 @@ returns-clause-fault g c =
     let err = c.in-Err in
     told_unmade _ c.args.words.now.dump c.args.words.now.out c.args.geometry.now _ err.unwritten.fault c.unmade.result c.unmade.ensures.told begun.bytes err.ensures.err
     (λ is. begun.reads c.repair_dump.new.reader (err.ensures.source is)) (λ is. begun.writes err.unwritten.target (err.ensures.target is))
+
+pub returns-in-Ok-clause-opened : goal.returns-in-Ok-clause-opened
+returns-in-Ok-clause-opened g c = c.watch-watch.ensures.opened ∙ c.in_ok-begun.ensures.opened

@@ -1,14 +1,14 @@
-use Rattle.std.proofs.Common.{refl, inl, inr, ap, subst, ◌∙◌}
+use Rattle.std.proofs.Common.{refl, inl, inr, ap, subst, ◌∙◌, suc, option_map}
 use Rattle.std.specs.Prelude.{IfOk, IfErr}
 use Rattle.lab_commands.specs.Repair.{HasPutMends, IsRepairUnput}
-use Rattle.lab_commands.proofs.HandedLemmas.{err_more, ok_more, on_err_more}
+use Rattle.lab_commands.proofs.HandedLemmas.{err_more, ok_more, on_err_more, on_ok_more}
 use Rattle.lab_commands.proofs.RepairLemmas.{unasked}
 use Rattle.lab_commands.proofs.UndoneLemmas.{handed}
 use Rattle.lab_commands.proofs.repair.put_mended.Goals as goal
 
 pub returns-in_err-said : goal.returns-in_err-said
 returns-in_err-said g c =
-    rw (handed c.from_residual.result _ c.from_residual.ensures.1) (record { put = tt; fault = unasked _ c.args.words.now _ _ _ c.in_err-said.ensures.fault; kept = refl })
+    rw (handed c.from_residual.result _ c.from_residual.ensures.1) (record { put = tt; fault = unasked _ c.args.words.now _ _ _ c.in_err-said.ensures.fault; kept = refl; opened = tt })
 
 pub returns-in_err-allow : goal.returns-in_err-allow
 returns-in_err-allow g c =
@@ -19,6 +19,7 @@ returns-in_err-allow g c =
       put = tt;
       fault = inr (said.0, asked.geometry_is, inr (said.1.rows, asked.rows_are, inr (said.1.bits, asked.bits_are, inl c.in_err-allow.ensures.fault)));
       kept = ap g.F.LabFiles.kept c.allow.ensures.same;
+      opened = tt;
     })
 
 pub returns : goal.returns
@@ -48,5 +49,6 @@ returns g c =
         tried = has.tried;
       });
       fault = err_more _ _ done fault (λ told why. inr (said.0, asked.geometry_is, inr (said.1.rows, asked.rows_are, inr (said.1.bits, asked.bits_are, inr (allowed.ok, why)))));
+      opened = on_ok_more _ _ done c.put_mends.ensures.opened (λ is. is ∙ ap (λ f. option_map suc (g.F.LabFiles.opened f)) allowed.same);
       kept = on_err_more _ _ done c.put_mends.ensures.kept (λ is. is ∙ ap g.F.LabFiles.kept allowed.same);
     }

@@ -9,6 +9,7 @@ returns-in_err-geometry g c =
       seen = tt;
       fault = (inl c.in_err-geometry.ensures.fault);
       kept = refl;
+      opened = tt;
     })
 
 pub returns-in_err-rows : goal.returns-in_err-rows
@@ -17,6 +18,7 @@ returns-in_err-rows g c =
       seen = tt;
       fault = (inr (c.in_ok-geometry.geometry, c.in_ok-geometry.ensures.ok, inl c.in_err-rows.ensures.fault));
       kept = refl;
+      opened = tt;
     })
 
 pub returns-in_err-room : goal.returns-in_err-room
@@ -25,6 +27,7 @@ returns-in_err-room g c =
       seen = tt;
       fault = (inr (c.in_ok-geometry.geometry, c.in_ok-geometry.ensures.ok, inr (c.in_ok-rows.rows, c.in_ok-rows.ensures.ok, inl (refl, refl))));
       kept = refl;
+      opened = tt;
     })
 
 pub returns-in_err-survey : goal.returns-in_err-survey
@@ -33,4 +36,5 @@ returns-in_err-survey g c =
       seen = tt;
       fault = (inr (c.in_ok-geometry.geometry, c.in_ok-geometry.ensures.ok, inr (c.in_ok-rows.rows, c.in_ok-rows.ensures.ok, inr c.in_err-survey.ensures.fault)));
       kept = c.survey_of.ensures.kept;
+      opened = tt;
     })

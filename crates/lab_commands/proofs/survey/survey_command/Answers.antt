@@ -1,4 +1,4 @@
-use Rattle.std.proofs.Common.{inl, inr, subst}
+use Rattle.std.proofs.Common.{inl, inr, subst, ◌≡◌, suc, option_map}
 use Rattle.lab_commands.specs.Document.{Prints}
 use Rattle.lab_commands.proofs.PrintLemmas.{done_by, undone_by}
 use Rattle.lab_commands.specs.Reports.{survey_text}
@@ -15,6 +15,7 @@ returns-in_err-seen g c =
       ok = tt;
       kept = c.see.ensures.kept;
       fault = (inl (left_all _ _ o c.in_err-seen.ensures.kept, c.in_err-seen.ensures.fault));
+      opened = tt;
     })
 
 pub returns : goal.returns
@@ -29,6 +30,7 @@ returns g c =
     let printed : Prints broke o p (survey_text (form_of_showing c.args.words.showing) seen.geometry seen.rows seen.survey) c.print_survey.result =
     subst (λ f. Prints broke o p (survey_text f seen.geometry seen.rows seen.survey) c.print_survey.result) c.printer.ensures c.print_survey.ensures in
     record {
+      opened = done_by (g.F.LabFiles.opened c.see.new.files ≡ option_map suc (g.F.LabFiles.opened c.args.files.now)) broke o p _ c.print_survey.result c.ended.result printed c.ended.ensures (λ told. c.in_ok-seen.ensures.opened);
       ok = done_by (ToldSurvey a c.args.words o p) broke o p _ c.print_survey.result c.ended.result printed c.ended.ensures (λ told. record { g = seen.geometry; rows = seen.rows; survey = seen.survey; has = c.in_ok-seen.ensures.seen; told = told });
       kept = c.in_ok-seen.ensures.kept;
       fault =
