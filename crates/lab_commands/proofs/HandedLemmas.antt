@@ -16,3 +16,7 @@ on_err_more P Q (Err e) h more = more h
 pub on_ok_more : {T E : Type 0} (P Q : Type 0) (r : Result T E) → OnOk r P → (P → Q) → OnOk r Q
 on_ok_more P Q (Ok x) h more = more h
 on_ok_more P Q (Err e) h more = tt
+
+pub on_ok_both : {T E : Type 0} (P Q R : Type 0) (r : Result T E) → OnOk r P → OnOk r Q → (P → Q → R) → OnOk r R
+on_ok_both P Q R (Ok x) h k more = more h k
+on_ok_both P Q R (Err e) h k more = tt

@@ -36,7 +36,7 @@ WroteOrToldAsked a (asked.Arrange read) before after out printed = WroteArranged
 WroteOrToldAsked a (asked.Origin read) before after out printed = WroteOrigin a read before after out printed
 WroteOrToldAsked a (asked.Text text) before after out printed = (after ≡ before) × Appends out printed (string_bytes text)
 
--- EACH FILE THAT IS READ WAS OPENED JUST ONCE: a pipe that is opened again has lost what was read of it
+-- as many files were opened to be read as the words name, so NONE WAS OPENED AGAIN: a pipe that is opened again has lost what was read of it
 abbrev pub OpensEachOnce : Asked → (opens opened : Option ℕ) → Type 0
 OpensEachOnce (asked.Compare read) opens opened = opened ≡ option_map suc (option_map suc opens)
 OpensEachOnce (asked.Merge read) opens opened = opened ≡ after_opens (length read.dumps.items) opens
