@@ -97,11 +97,11 @@ module _ (a m t : DiskFileAnswers) (path : Bor (List ℕ)) (text : DiskText) (le
 -- what says no more than what says no more
 pub no_more_then : (a m t n : DiskFileAnswers) → DiskFilesAnswerNoMore a m → t ≡ m → SaysNoMore t n → SaysNoMore a n
 no_more_then a m t n less same more =
-    let then : SaysNoMore m n = subst (λ x. SaysNoMore x n) same more in
+    let later : SaysNoMore m n = subst (λ x. SaysNoMore x n) same more in
     record {
-      marks = λ path text h. less.says.marks path text (then.marks path text h);
-      lists = λ path most text h. less.says.lists path most text (then.lists path most text h);
-      fails = λ path f h. less.says.fails path f (then.fails path f h);
+      marks = λ path text h. less.says.marks path text (later.marks path text h);
+      lists = λ path most text h. less.says.lists path most text (later.lists path most text h);
+      fails = λ path f h. less.says.fails path f (later.fails path f h);
     }
 
 -- how it is told that a store has no disk

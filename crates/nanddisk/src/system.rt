@@ -1,7 +1,8 @@
 //! The files of the system.
+ghost use Rattle.disk_commands.specs.Files.{unknown_disk_files};
 ghost use Rattle.nanddisk.specs.Marks.{BeginsBeside};
 ghost use Rattle.nanddisk.specs.Stores.{IsStoreOf};
-ghost use Rattle.std.specs.Prelude.{◌≡◌, IfOk, Ok};
+ghost use Rattle.std.specs.Prelude.{◌≡◌, IfErr, IfOk, Ok};
 
 use crate::die::{DieStore, as_long, second_handle, store_in, store_over};
 use crate::fault::{unmade, unread, unseen, unwritten};
@@ -323,6 +324,7 @@ impl<'a, R: Files<File = File> + AllocGlobal + Clock> DiskFiles for DiskSystem<'
     ) -> Result<FileSyncs<NotedFile<'a>>, DiskFileFault>
         ensures slot { IfOk result (λ keeps. BeginsBeside found.in_second keeps.kept) }
         ensures marked { IfOk result (λ keeps. keeps.mark ≡ found.mark) }
+        ensures failed { IfErr result (unknown_disk_files.fails path.now) }
     {
         match mark_file(&self.system, alloc, path, found.in_second) {
             Ok(kept) => Ok(syncs.with_mark(kept, found.mark)),
