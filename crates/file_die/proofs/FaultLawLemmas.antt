@@ -6,7 +6,7 @@ use Rattle.file_die.specs.declared.bytes.ByteFault.{ByteFault}
 use Rattle.file_die.specs.declared.bytes.ByteFault.TheVariants as fault
 use Rattle.file_die.specs.Bytes.{WritesFailBy, HasAnswered, Gives, InARow, NoCall, NoRead, OneCall, OneMore, came_by}
 use Rattle.file_die.specs.Rows.{lacks_room}
-use Rattle.file_die.specs.FaultLaws.{GivesAll, HadRoom, EndedLaw, WholeReadLaw, NoWriteFailsLaw, OwnFaultLaw, FullLaw, ChangedLaw, RowReadLaw, SyncedLaw, FirstFaultLaw, NeverRefusedLaw, PatientLaw}
+use Rattle.file_die.specs.FaultLaws.{GivesAll, HadRoom, EndedLaw, WholeReadLaw, WholeWriteLaw, NoWriteFailsLaw, OwnFaultLaw, FullLaw, ChangedLaw, RowReadLaw, SyncedLaw, FirstFaultLaw, NeverRefusedLaw, PatientLaw}
 
 still_held : {F : Type 0} → (held : F → List ℕ) (gave : F → ℕ → ℕ → Result (List ℕ) ByteFault → F → Type 0) (old : F) (at : ℕ) (bytes : List ℕ) (new : F) → GivesAll held gave → Gives gave old at bytes new → held new ≡ held old
 still_held held gave old at _ _ all NoRead = refl
@@ -36,6 +36,25 @@ whole_read_law = record {
   same = λ old new at room answer gave. gave.0;
   done = λ old new at room why gave. no_fault _ _ gave.1;
   some = λ old new at room lt gave. omega (arith, ap length (same_bytes _ _ gave.1), length-take room (drop at old), length-drop at old, lt);
+}
+
+no_count : (why : ByteFault) (n : ℕ) → Err why ≡ Ok n → ⊥
+no_count why n e = let no : ⊥ = cc in no
+
+abbrev as_count : ℕ → Result ℕ ByteFault
+as_count n = Ok n
+
+abbrev count_in : Result ℕ ByteFault → ℕ
+count_in (Ok n) = n
+count_in (Err why) = 0
+
+same_count : (n k : ℕ) → as_count n ≡ as_count k → n ≡ k
+same_count n k e = ap count_in e
+
+pub whole_write_law : WholeWriteLaw
+whole_write_law = record {
+  done = λ old new at bytes why wrote. no_count _ _ wrote.1;
+  some = λ old new at bytes lt wrote. omega (arith, lt, same_count _ _ wrote.1);
 }
 
 pub taken_law : {F : Type 0} → (wrote : F → ℕ → List ℕ → Result ℕ ByteFault → F → Type 0) → NoWriteFailsLaw wrote

@@ -581,6 +581,10 @@ where_stopped wrote old at other bytes file new answer (Ok done) a f same by = t
 where_stopped wrote old at other bytes file new (Ok done) (Err fault) a f same by = let no : ⊥ = cc in absurd no
 where_stopped wrote old at other bytes file new (Err why) (Err fault) a f same by = (by.0, by.1, takes_at wrote old at other by.0 bytes file new a f by.2)
 
+pub fewer_blank : {F : Type 0} → (wrote : F → ℕ → List ℕ → Result ℕ ByteFault → F → Type 0) (old : F) (at n : ℕ) (bytes : List ℕ) (file : F) (answer : Result (Unit {0}) ByteFault)
+    → bytes ≡ replicate n 255 → OnErr answer (TakesFewer wrote old at bytes file) → OnErr answer (TakesFewer wrote old at (replicate n 255) file)
+fewer_blank wrote old at n bytes file answer e = subst (λ (xs : List ℕ). OnErr answer (TakesFewer wrote old at xs file)) e
+
 -- the parts of a file as it was taken: what stands in it was made to last
 pub parts_taken : (a b m : Bool) (u s t : Bytes) (g : Geometry) (size found : ℕ) (erased : List ℕ) → m ≡ a → b ≡ m → (a ≡ true → s ≡ u) → (a ≡ true → found ≡ length u.bytes) → (a ≡ true → HoldsOnlyBytes u) → found ≡ row_count g * size
     → (m ≡ true → SyncsBytes s true t) → erased ≡ replicate (g.pages * size) 255 → AreRows b t g size erased 0 None false

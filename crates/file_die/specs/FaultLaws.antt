@@ -2,7 +2,7 @@
 use Rattle.std.specs.Prelude.{◌≡◌, ◌≢◌, ◌<◌, ◌≤◌, ℕ, suc, ◌+◌, ◌*◌, ◌^◌, true, false, List, [], length, take, drop, Some, None, Result, Ok, Err}
 use Rattle.file_die.specs.declared.bytes.ByteFault.{ByteFault}
 use Rattle.file_die.specs.declared.bytes.ByteFault.TheVariants as fault
-use Rattle.file_die.specs.Bytes.{WritesFailBy, HasAnswered, HasEnded, HasRefused, IsPatient}
+use Rattle.file_die.specs.Bytes.{WritesFailBy, HasAnswered, HasEnded, HasRefused, IsPatient, over}
 use Rattle.file_die.specs.Rows.{Rows, FailsSync, TellsEnd, TellsFull}
 
 -- EACH READ is done, leaves what the file holds as it is, and gives a byte wherever one stands and there is room
@@ -33,6 +33,10 @@ WholeReadLaw = GivesAll {F = List ℕ} (λ bytes. bytes) (λ old at room answer 
 -- writes that are done and take bytes fail by nothing
 abbrev pub NoWriteFailsLaw : {F : Type 0} → (wrote : F → ℕ → List ℕ → Result ℕ ByteFault → F → Type 0) → Type 0
 NoWriteFailsLaw {F} wrote = (why : ByteFault) (new : F) → TakesAll wrote → WritesFailBy wrote why new → ⊥
+
+-- those of a file that takes all the bytes that it is given, do
+abbrev pub WholeWriteLaw : Type 0
+WholeWriteLaw = TakesAll {F = List ℕ} (λ old at bytes answer new. (new ≡ over at bytes old) × (answer ≡ Ok (length bytes)))
 
 -- a fault that is not `Other` is the file's last answer
 abbrev pub OwnFaultLaw : {F : Type 0} → (wrote : F → ℕ → List ℕ → Result ℕ ByteFault → F → Type 0) → Type 0

@@ -40,6 +40,12 @@ abbrev pub CountsFailedLoads : {A : Type 0} → Result A OpenDieFault → ℕ �
 CountsFailedLoads (Ok x) old new = new ≡ old
 CountsFailedLoads (Err fault) old new = CountsAs fault old new
 
+-- no page was read: the store is the one that was handed in, but where a load failed
+abbrev pub LeavesUnread : {S : Type 0} → OpenDieFault → (old new : S) → Type 0
+LeavesUnread OutOfMemory old new = new ≡ old
+LeavesUnread (BadBlock block) old new = new ≡ old
+LeavesUnread Store old new = Unit {0}
+
 -- the fault says which block is misnamed
 abbrev pub IsCause : Geometry → List ℕ → OpenDieFault → Type 0
 IsCause g bad OutOfMemory = Unit {0}

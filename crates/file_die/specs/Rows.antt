@@ -9,7 +9,7 @@ use Rattle.page_layout.specs.Counter.{HasRisen}
 use Rattle.file_die.specs.declared.bytes.ByteFault.{ByteFault}
 use Rattle.file_die.specs.declared.store.StoreFault.{StoreFault}
 use Rattle.file_die.specs.declared.bytes.ByteFault.TheVariants as fault
-use Rattle.file_die.specs.Bytes.{Bytes, HoldsOnlyBytes, WritesFailBy, HasEnded, Mixes, LastsMixed, AreAlike, TakesBytes, over, piece}
+use Rattle.file_die.specs.Bytes.{Bytes, HoldsOnlyBytes, WritesFailBy, HasEnded, Mixes, LastsMixed, AreAlike, TakesBytes, TakesFewer, over, piece}
 use Rattle.file_die.specs.Store.{Held}
 
 -- ---- a write of all bytes
@@ -113,6 +113,10 @@ pub record TellsEnd {F : Type 0} (gave : F → ℕ → ℕ → Result (List ℕ)
 -- A BLOCK WAS MADE FFh by writes that took so many bytes FFh as its rows have, from its first row on, by the file's own word for one
 abbrev pub BlanksBlock : {F : Type 0} → (wrote : F → ℕ → List ℕ → Result ℕ ByteFault → F → Type 0) → (block : ℕ) → (old new : Rows F) → Type 0
 BlanksBlock wrote block old new = (let n : ℕ = old.geometry.pages * old.size in TakesBytes wrote old.file (block * old.geometry.pages * old.size) (replicate n 255) n new.file)
+
+-- or by writes that took fewer, where it failed
+abbrev pub BlanksFewer : {F : Type 0} → (wrote : F → ℕ → List ℕ → Result ℕ ByteFault → F → Type 0) → (block : ℕ) → (old new : Rows F) → Type 0
+BlanksFewer wrote block old new = (let n : ℕ = old.geometry.pages * old.size in TakesFewer wrote old.file (block * old.geometry.pages * old.size) (replicate n 255) new.file)
 
 -- A SYNC THAT FAILED did so as the file's, by its own word for one, or comes after one that failed
 pub record FailsSync {F : Type 0} (refused : F → ByteFault → F → Type 0) (old new : Rows F) : Type 0 where

@@ -6,7 +6,7 @@ ghost use Rattle.onfi_cycles.specs.Cycles.{Ready, NoOutput, status_of, Moves, Pr
 ghost use Rattle.nand_die.specs.BusState.{IsProtocolFault, IsWithin, phase_of};
 ghost use Rattle.nand_die.specs.NextPages.{next_page_of};
 ghost use Rattle.nand_die.specs.Made.{AreNames, first_next_pages, next_in};
-ghost use Rattle.file_die.specs.Open.{newly_opened, OnlyLooks, IsCause, CountsAs};
+ghost use Rattle.file_die.specs.Open.{newly_opened, OnlyLooks, IsCause, CountsAs, LeavesUnread};
 
 use crate::asks;
 use crate::open::{OpenDieFault, Parts, parts_of};
@@ -79,7 +79,7 @@ impl<S: Store> FileDie<S> {
     ///
     /// With the store, whose pages are as they were:
     ///
-    /// - `OutOfMemory` where there is no memory for two pages and the next pages of the blocks.
+    /// - `OutOfMemory` where there is no memory for two pages and the next pages of the blocks. No page was read.
     /// - `BadBlock` of the first name that lies past the die or was named before. No page was read.
     /// - `Store` where the store failed to load a page.
     pub fn open(
@@ -94,6 +94,7 @@ impl<S: Store> FileDie<S> {
         ensures looks { MatchResult result (λ die. OnlyLooks S.held S.honest store die.store) (λ e. OnlyLooks S.held S.honest store e.0) }
         ensures uncounted { IfOk result (λ die. S.failed die.store ≡ S.failed store) }
         ensures err { IfErr result (λ e. IsCause (S.held store).geometry bad.now e.1 × CountsAs e.1 (S.failed store) (S.failed e.0)) }
+        ensures unread { IfErr result (λ e. LeavesUnread e.1 store e.0) }
     {
         let mut store = store;
         let geometry = store.geometry();

@@ -5,7 +5,7 @@ ghost use Rattle.page_layout.specs.Geometry.{row_count, page_bytes};
 ghost use Rattle.onfi_cycles.specs.Cycles.{page_of};
 ghost use Rattle.file_die.specs.Store.{Clears, Loads, Puts, Syncs};
 ghost use Rattle.file_die.specs.Bytes.{Gives, HasRefused, TakesBytes, TakesFewer};
-ghost use Rattle.file_die.specs.Rows.{BlanksBlock, FailsSync, TellsEnd, TellsFull};
+ghost use Rattle.file_die.specs.Rows.{BlanksBlock, BlanksFewer, FailsSync, TellsEnd, TellsFull};
 
 use crate::bytes::{ByteFault, ByteFile};
 use crate::row_file::{RowFault, RowFile};
@@ -141,7 +141,10 @@ impl<F: ByteFile> Store for DieFile<F> {
         // Whatever the file does: it is full just where the file's last answer was that.
         ensures room { OnOk result (self.new.rows.full ≡ false) }
         ensures full { OnErr result (TellsFull F.wrote self.old.rows self.new.rows) }
+
+        // And the block has the bytes FFh that its writes took.
         ensures taken { OnOk result (BlanksBlock F.wrote block self.old.rows self.new.rows) }
+        ensures stopped { OnErr result (BlanksFewer F.wrote block self.old.rows self.new.rows) }
     {
         self.rows.erase(block)
     }

@@ -1,7 +1,7 @@
 //! What the clauses of a store and of a die over one come to. Each function does nothing: its contract is the law.
 ghost use Rattle.file_die.specs.Bytes.{ReadInterrupted, WriteInterrupted};
 ghost use Rattle.file_die.specs.DieLaws.{AddingGoesLaw, AlwaysLaw, CopiesLaw, ImagesLaw, KeepsLaw, LandsLaw, SinceSyncLaw, WipesLaw};
-ghost use Rattle.file_die.specs.FaultLaws.{ChangedLaw, EndedLaw, FirstFaultLaw, FullLaw, OwnFaultLaw, PatientLaw, NeverRefusedLaw, RowReadLaw, SyncedLaw, NoWriteFailsLaw, WholeReadLaw};
+ghost use Rattle.file_die.specs.FaultLaws.{ChangedLaw, EndedLaw, FirstFaultLaw, FullLaw, OwnFaultLaw, PatientLaw, NeverRefusedLaw, RowReadLaw, SyncedLaw, NoWriteFailsLaw, WholeReadLaw, WholeWriteLaw};
 ghost use Rattle.file_die.specs.FileLaws.{FailedSyncLaw, OverLaw, PartWriteLaw, RawLaw};
 ghost use Rattle.file_die.specs.Laws.{StaysLaw, PutIsLoadedLaw, ClearedLaw, LoadLaw, SyncLaw, WholeLaw};
 
@@ -45,13 +45,14 @@ pub fn file_laws()
 {}
 
 /// Why the bytes of a file were not read or written. Reads that give all that stands there have ended only where more was wanted, as those of a file in memory
-/// do, and so a row that stands there is read; writes that are done and take bytes fail by nothing, and so rows are changed; a fault that is not `Other` is the
+/// do, and so a row that stands there is read; writes that are done and take bytes fail by nothing, as those that take all bytes do, and so rows are changed; a fault that is not `Other` is the
 /// file's last answer, and so is want of room, and the first fault that rows remember; and a file whose syncs and tellings of its length never fail is taken,
 /// and synced. One that counts its calls that were interrupted is told as interrupted by none, until these are 2^64. (This project's.)
 pub fn fault_laws<F: ByteFile>()
     ensures ended { EndedLaw F.gave }
     ensures whole { WholeReadLaw }
     ensures taken { NoWriteFailsLaw F.wrote }
+    ensures whole_write { WholeWriteLaw }
     ensures own { OwnFaultLaw F.wrote }
     ensures full { FullLaw F.wrote }
     ensures changed { ChangedLaw F.wrote }

@@ -5,7 +5,7 @@ ghost use Rattle.page_layout.specs.Sound.{is_erased_page};
 ghost use Rattle.nand_die.specs.NextPages.{next_page_of};
 ghost use Rattle.nand_die.specs.Made.{AreNames, IsFirstMisnamed, first_next_pages, next_in};
 ghost use Rattle.file_die.specs.Store.{page_in};
-ghost use Rattle.file_die.specs.Open.{OnlyLooks, CountsFailedLoads, IsCause};
+ghost use Rattle.file_die.specs.Open.{OnlyLooks, CountsFailedLoads, IsCause, LeavesUnread};
 
 use crate::asks::load;
 use crate::store::Store;
@@ -181,6 +181,7 @@ pub fn parts_of<S: Store>(
     ensures looks { OnlyLooks S.held S.honest store.old store.new }
     ensures counts { CountsFailedLoads result (S.failed store.old) (S.failed store.new) }
     ensures err { IfErr result (IsCause geometry.now bad.now) }
+    ensures unread { IfErr result (λ fault. LeavesUnread fault store.old store.new) }
 {
     let mut parts = new_parts(alloc, geometry)?;
     name_bad(&mut parts.next_pages, geometry, bad)?;

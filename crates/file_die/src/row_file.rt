@@ -6,7 +6,7 @@ ghost use Rattle.page_layout.specs.Geometry.{row_count};
 ghost use Rattle.page_layout.specs.Counter.{counted, HasRisen};
 ghost use Rattle.file_die.specs.Bytes.{Gives, HasRefused, TakesBytes, TakesFewer, piece};
 ghost use Rattle.file_die.specs.Store.{AreImages, Loads, Puts, Clears, Syncs};
-ghost use Rattle.file_die.specs.Rows.{BlanksBlock, CountsRowFailures, FailsSync, IsReading, TellsEnd, TellsFull, held_in, is_kept, lacks_room};
+ghost use Rattle.file_die.specs.Rows.{BlanksBlock, BlanksFewer, CountsRowFailures, FailsSync, IsReading, TellsEnd, TellsFull, held_in, is_kept, lacks_room};
 
 use crate::bytes::{ByteFault, ByteFile};
 use crate::moves::{read_all, write_all};
@@ -208,6 +208,7 @@ impl<F: ByteFile> RowFile<F> {
         ensures full { OnErr result (TellsFull F.wrote self.old self.new) }
         ensures room { OnOk result (self.new.full ≡ false) }
         ensures taken { OnOk result (BlanksBlock F.wrote block self.old self.new) }
+        ensures stopped { OnErr result (BlanksFewer F.wrote block self.old self.new) }
     {
         let start = self.offset(self.geometry.row(block, 0));
         let answer = write_all(&mut self.file, &self.erased, start);

@@ -1,5 +1,5 @@
 use Rattle.file_die.specs.Bytes.{ReadInterrupted, WriteInterrupted}
-use Rattle.file_die.proofs.FaultLawLemmas.{ended_law, whole_read_law, taken_law, own_fault_law, full_law, changed_law, first_fault_law, row_read_law, synced_law, refused_law, patient_law}
+use Rattle.file_die.proofs.FaultLawLemmas.{ended_law, whole_read_law, whole_write_law, taken_law, own_fault_law, full_law, changed_law, first_fault_law, row_read_law, synced_law, refused_law, patient_law}
 use Rattle.file_die.proofs.laws.fault_laws.Goals as goal
 
 pub returns-clause-ended : goal.returns-clause-ended
@@ -10,6 +10,9 @@ returns-clause-whole g c = whole_read_law
 
 pub returns-clause-taken : goal.returns-clause-taken
 returns-clause-taken g c = taken_law g.F.ByteFile.wrote
+
+pub returns-clause-whole_write : goal.returns-clause-whole_write
+returns-clause-whole_write g c = whole_write_law
 
 pub returns-clause-own : goal.returns-clause-own
 returns-clause-own g c = own_fault_law g.F.ByteFile.wrote

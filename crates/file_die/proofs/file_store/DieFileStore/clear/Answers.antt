@@ -24,4 +24,5 @@ returns g c =
       room = c.erase.ensures.room;
       full = c.erase.ensures.full;
       taken = c.erase.ensures.taken;
+      stopped = c.erase.ensures.stopped;
     }

@@ -5,7 +5,7 @@ use Rattle.std.specs.Result.{is_ok}
 use Rattle.page_layout.specs.Page.{Page}
 use Rattle.file_die.specs.Store.{Held, Clears}
 use Rattle.file_die.specs.Rows.{WritesAll, held_in}
-use Rattle.file_die.proofs.RowLemmas.{counts_settled, full_told, room_settled, rows_held, clears, rows_of, kept_of, kept_settled, held_is, parts_written, block_within_rows, rows_blank, fits_blank, takes_at, takes_blank, where_ok}
+use Rattle.file_die.proofs.RowLemmas.{counts_settled, full_told, room_settled, rows_held, clears, rows_of, kept_of, kept_settled, held_is, parts_written, block_within_rows, rows_blank, fits_blank, takes_at, takes_blank, where_ok, where_stopped, fewer_blank}
 use Rattle.file_die.proofs.row_file.RowFile.erase.Goals as goal
 
 pub invariant_of-self : goal.invariant_of-self
@@ -53,6 +53,8 @@ returns g c =
       full = full_told g.F.ByteFile.wrote _ new left c.write_all-answer.result c.settle.result c.write_all-answer.ensures.fails made.full made.told made.answer made.file;
       taken = where_ok c.settle.result (λ d. takes_at g.F.ByteFile.wrote i.file c.offset-start.result _ _ _ left new.file at_is (sym made.file)
           (takes_blank g.F.ByteFile.wrote i.file c.offset-start.result (i.geometry.pages * i.size) given left blank (c.write_all-answer.ensures.taken (sym made.answer ∙ d))));
+      stopped = where_stopped g.F.ByteFile.wrote i.file c.offset-start.result _ _ left new.file c.write_all-answer.result c.settle.result at_is (sym made.file) made.answer
+          (fewer_blank g.F.ByteFile.wrote i.file c.offset-start.result (i.geometry.pages * i.size) given left c.write_all-answer.result blank c.write_all-answer.ensures.stopped);
       room = room_settled new.full i.sync_failed c.write_all-answer.result c.settle.result made.full made.answer;
     })
 
