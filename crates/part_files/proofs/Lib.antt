@@ -3,3 +3,4 @@ pub mod NameLemmas
 pub mod FolderLemmas
 pub mod MeansLemmas
 pub mod PairLemmas
+pub mod EffectLemmas

@@ -10,3 +10,5 @@ pub mod PartNames
 pub mod Folder
 -- what becomes of names by what is asked of them
 pub mod FolderLaws
+-- what each call makes of names, worked out
+pub mod CallLaws
