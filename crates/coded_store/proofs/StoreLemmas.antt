@@ -1,5 +1,6 @@
 -- Rows of pages with their codes are, as they read, those of a store.
-use Rattle.std.proofs.Common.{◌≡◌, ℕ, ◌+◌, ◌-◌, ◌*◌, ◌<◌, ◌≤◌, zero, suc, Bool, List, [], ◌∷◌, take, drop, map, replicate, refl, sym, ap, ◌∙◌, subst, arith}
+use Rattle.std.proofs.Common.{◌≡◌, ℕ, ◌+◌, ◌-◌, ◌*◌, ◌<◌, ◌≤◌, zero, suc, Bool, List, [], ◌∷◌, length, take, drop, map, replicate, refl, sym, ap, ◌∙◌, subst, arith}
+use Rattle.std.specs.Prelude.{Result, Ok, Err, OnOk, OnErr}
 use Rattle.std.specs.List.{range_with_len}
 use Rattle.std.proofs.Math.Nat.{mul-le-mul_right}
 use Rattle.std.proofs.lemmas.List.{ext_get_or, get_or-replicate, length-replicate, take-replicate, drop-replicate}
@@ -8,12 +9,15 @@ use Rattle.page_layout.specs.Geometry.{row_count}
 use Rattle.page_layout.specs.Page.{Page, page}
 use Rattle.page_layout.specs.Flash.{no_page, with_block}
 use Rattle.onfi_cycles.specs.Cycles.{page_of}
-use Rattle.page_code.specs.Layout.{outer_bytes}
-use Rattle.file_die.specs.Bytes.{Bytes, piece}
+use Rattle.page_code.specs.Layout.{coded, outer_bytes}
+use Rattle.file_die.specs.Bytes.{Bytes, TakesBytes, TakesFewer, piece}
+use Rattle.file_die.specs.declared.bytes.ByteFault.{ByteFault}
+use Rattle.file_die.specs.declared.store.StoreFault.{StoreFault}
 use Rattle.file_die.specs.Rows.{Rows, IsReading, read_rows, held_in}
 use Rattle.file_die.specs.Store.{Puts, page_in}
 use Rattle.file_die.proofs.RowLemmas.{rows_length, row_is}
 use Rattle.coded_store.specs.Reading.{coded_bytes, read_as, page_as_read, erased_with_codes}
+use Rattle.coded_store.specs.Coded.{TakesWithCodes, TakesFewerWithCodes}
 use Rattle.coded_store.specs.File.{image_with_codes}
 use Rattle.coded_store.specs.Laws.{BlankLaw, BlankFileLaw, RowsLaw}
 use Rattle.coded_store.proofs.ReadLemmas.{read_sized}
@@ -50,6 +54,17 @@ pub stood_at : (g : Geometry) (size row : ℕ) (given bytes : List ℕ) → size
 stood_at g size row given bytes is lt e = ap (page_of g) (e ∙ ap (λ n. piece n row bytes) is) ∙ sym (row_is (page_of g) (coded_bytes g) (row_count g) row bytes lt)
 
 -- ---- calls
+
+-- what a write took, and what one that failed took, are the bytes of the page with its codes
+pub takes_with_codes : {F : Type 0} → (wrote : F → ℕ → List ℕ → Result ℕ ByteFault → F → Type 0) (g : Geometry) (row size : ℕ) (p : Page) (bytes : List ℕ) (old new : Rows F) (result : Result (Unit {0}) StoreFault) → size ≡ coded_bytes g → page_of g bytes ≡ coded g p
+    → OnOk result (TakesBytes wrote old.file (row * size) bytes (length bytes) new.file) → OnOk result (TakesWithCodes wrote g row p old new)
+takes_with_codes wrote g row size p bytes old new (Ok done) e are takes = record { bytes = bytes; are = are; takes = subst (λ n. TakesBytes wrote old.file (row * n) bytes (length bytes) new.file) e takes }
+takes_with_codes wrote g row size p bytes old new (Err fault) e are takes = tt
+
+pub takes_fewer_with_codes : {F : Type 0} → (wrote : F → ℕ → List ℕ → Result ℕ ByteFault → F → Type 0) (g : Geometry) (row size : ℕ) (p : Page) (bytes : List ℕ) (old new : Rows F) (result : Result (Unit {0}) StoreFault) → size ≡ coded_bytes g → page_of g bytes ≡ coded g p
+    → OnErr result (TakesFewer wrote old.file (row * size) bytes new.file) → OnErr result (TakesFewerWithCodes wrote g row p old new)
+takes_fewer_with_codes wrote g row size p bytes old new (Ok done) e are takes = tt
+takes_fewer_with_codes wrote g row size p bytes old new (Err fault) e are takes = record { bytes = bytes; are = are; takes = subst (λ n. TakesFewer wrote old.file (row * n) bytes new.file) e takes }
 
 -- a put is of what was given, which is what is shown of its codes and it
 pub puts_shown : {F : Type 0} → (held : F → Bytes) (old new : Rows F) (row : ℕ) (bytes : List ℕ) (p : Page) (done : Bool) → new.geometry ≡ old.geometry → page_as_read old.geometry bytes ≡ p

@@ -6,7 +6,8 @@ use Rattle.page_layout.specs.Page.{Page, Image}
 use Rattle.onfi_cycles.specs.Cycles.{page_of}
 use Rattle.file_die.specs.Store.{Held}
 use Rattle.file_die.specs.declared.bytes.ByteFault.{ByteFault}
-use Rattle.file_die.specs.Bytes.{Bytes, Gives}
+use Rattle.page_code.specs.Layout.{coded}
+use Rattle.file_die.specs.Bytes.{Bytes, Gives, TakesBytes, TakesFewer}
 use Rattle.file_die.specs.Rows.{Rows, held_in, is_kept}
 use Rattle.coded_store.specs.declared.wrong.Wrong.{Wrong}
 use Rattle.coded_store.specs.declared.wrong.Wrong.TheVariants.{Turned, Lost}
@@ -52,6 +53,29 @@ pub record ShowsRow {F : Type 0} (gave : F → ℕ → ℕ → Result (List ℕ)
   pub whole : IsWithCodes g (page_of g bytes)
   pub shows : shown ≡ read_as g (page_of g bytes)
   pub tells : new.wrong ≡ slice_set old.wrong row (wrong_with g (page_of g bytes))
+
+-- ---- a change
+
+-- A PUT OF A PAGE had the file take the bytes of the page with its codes, from the first of the row on, each write of all that were left. `wrote` is the
+-- file's own word for one write.
+pub record TakesWithCodes {F : Type 0} (wrote : F → ℕ → List ℕ → Result ℕ ByteFault → F → Type 0) (g : Geometry) (row : ℕ) (p : Page) (old new : Rows F) : Type 0 where
+  pub bytes : List ℕ
+  pub are : page_of g bytes ≡ coded g p
+  pub takes : TakesBytes wrote old.file (row * coded_bytes g) bytes (length bytes) new.file
+
+-- or fewer of them, where it failed
+pub record TakesFewerWithCodes {F : Type 0} (wrote : F → ℕ → List ℕ → Result ℕ ByteFault → F → Type 0) (g : Geometry) (row : ℕ) (p : Page) (old new : Rows F) : Type 0 where
+  pub bytes : List ℕ
+  pub are : page_of g bytes ≡ coded g p
+  pub takes : TakesFewer wrote old.file (row * coded_bytes g) bytes new.file
+
+-- A CLEAR had it take as many bytes FFh as the pages of the block have with their codes, from its first row on
+abbrev pub BlanksWithCodes : {F : Type 0} → (wrote : F → ℕ → List ℕ → Result ℕ ByteFault → F → Type 0) → (g : Geometry) → (block : ℕ) → (old new : Rows F) → Type 0
+BlanksWithCodes wrote g block old new = (let n : ℕ = g.pages * coded_bytes g in TakesBytes wrote old.file (block * g.pages * coded_bytes g) (replicate n 255) n new.file)
+
+-- or fewer, where it failed
+abbrev pub BlanksFewerWithCodes : {F : Type 0} → (wrote : F → ℕ → List ℕ → Result ℕ ByteFault → F → Type 0) → (g : Geometry) → (block : ℕ) → (old new : Rows F) → Type 0
+BlanksFewerWithCodes wrote g block old new = (let n : ℕ = g.pages * coded_bytes g in TakesFewer wrote old.file (block * g.pages * coded_bytes g) (replicate n 255) new.file)
 
 -- ---- in all
 

@@ -9,7 +9,7 @@ ghost use Rattle.file_die.specs.Bytes.{HasRefused};
 ghost use Rattle.file_die.specs.Rows.{FailsSync, TellsEnd, TellsFull};
 ghost use Rattle.file_die.specs.Store.{Loads, Puts, Clears, Syncs, page_in};
 ghost use Rattle.coded_store.specs.Reading.{coded_bytes, erased_with_codes, page_as_read, wrong_with};
-ghost use Rattle.coded_store.specs.Coded.{none_read, turned_of, mended_of, reading, standing_with_codes, is_reading_kept, ShowsRow};
+ghost use Rattle.coded_store.specs.Coded.{none_read, turned_of, mended_of, reading, standing_with_codes, is_reading_kept, BlanksFewerWithCodes, BlanksWithCodes, ShowsRow, TakesFewerWithCodes, TakesWithCodes};
 
 use crate::show::{coded_length, show, spell};
 use crate::wrong::Wrong;
@@ -227,6 +227,10 @@ impl<F: ByteFile> Store for CodedStore<F> {
         // Whatever the file does: it is full just where the file's last answer was that.
         ensures room { OnOk result (self.new.rows.full ≡ false) }
         ensures full { OnErr result (TellsFull F.wrote self.old.rows self.new.rows) }
+
+        // And what its writes took are the page's bytes with its codes.
+        ensures taken { OnOk result (TakesWithCodes F.wrote self.old.rows.geometry row (page_of self.old.rows.geometry page.now) self.old.rows self.new.rows) }
+        ensures stopped { OnErr result (TakesFewerWithCodes F.wrote self.old.rows.geometry row (page_of self.old.rows.geometry page.now) self.old.rows self.new.rows) }
     {
         spell(&self.rows.geometry(), page, &mut self.stands);
         self.rows.write(row, &self.stands)
@@ -252,6 +256,10 @@ impl<F: ByteFile> Store for CodedStore<F> {
         // Whatever the file does: it is full just where the file's last answer was that.
         ensures room { OnOk result (self.new.rows.full ≡ false) }
         ensures full { OnErr result (TellsFull F.wrote self.old.rows self.new.rows) }
+
+        // And what its writes took are bytes FFh.
+        ensures taken { OnOk result (BlanksWithCodes F.wrote self.old.rows.geometry block self.old.rows self.new.rows) }
+        ensures stopped { OnErr result (BlanksFewerWithCodes F.wrote self.old.rows.geometry block self.old.rows self.new.rows) }
     {
         self.rows.erase(block)
     }
