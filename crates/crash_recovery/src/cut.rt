@@ -109,12 +109,12 @@ fn cut_found<S: Store>(
 }
 
 /// Cuts back each block that is torn, from its first page on that isn't sound, where no page behind that one has a sequence below `mark`: those pages are made
-/// erased, the last one of a block first, and the store is synced. Answers whether any row was to be cut. The certificate is that of the store's pages. **Of an honest store just those rows are erased, and
+/// erased, and the store is synced. Answers whether any row was to be cut. The certificate is that of the store's pages. **Of an honest store just those rows are erased, and
 /// all pages last; whatever fails, no other row is touched.** So a run that was stopped at any write is finished by the next one.
 ///
 /// # Errors
 ///
-/// `OutOfMemory` where a growth was refused: the store was not asked. `Store` where it failed: some of these rows may be erased or torn. (This project's.)
+/// `OutOfMemory` where a growth was refused: the store was not asked. `Store` where it failed: of an honest store each of these rows is as it was, or has no sound record. (This project's.)
 pub fn cut_back<S: Store>(
     alloc: Global,
     store: &mut S,

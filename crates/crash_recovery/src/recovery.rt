@@ -32,7 +32,7 @@ fn is_of(certificate: &Certificate, geometry: &Geometry) -> bool
 ///
 /// # Errors
 ///
-/// `OutOfMemory` where a growth was refused: pages were loaded at most, and all is as it was. `Store` as of these two. What was begun is finished by the next call over what mounts then. (This project's.)
+/// `OutOfMemory` where a growth was refused: of an honest store the pages are as they were. `Store` as of these two. (This project's.)
 pub fn recover<S: Store>(
     alloc: Global,
     store: &mut S,
