@@ -1,5 +1,5 @@
 -- How a session goes on, and how it ends.
-use Rattle.std.proofs.Common.{◌≡◌, ◌≢◌, ◌+◌, ℕ, List, [], ◌∷◌, ◌++◌, Option, Some, None, Result, Ok, Err, map, length, sym}
+use Rattle.std.proofs.Common.{◌≡◌, ◌≢◌, ◌≤◌, ◌+◌, ◌-◌, ◌*◌, ◌^◌, ℕ, List, [], ◌∷◌, ◌++◌, Option, Some, None, Result, Ok, Err, map, length, sym}
 use Rattle.std.proofs.Common.{subst, ap, ◌∙◌, refl, append_assoc, append-nil, length-append, arith, inl, inr, lit<}
 use Rattle.std.specs.Prelude.{IfSome}
 use Rattle.std.specs.List.{flat_map}
@@ -7,7 +7,7 @@ use Rattle.std.proofs.lemmas.List.{map-append, take_at, length-map}
 use Rattle.std.specs.Io.KnownBytes.{Appends, Consumes}
 use Rattle.std.proofs.KnownBytes.{Appends-trans, Appends-nil, Consumes-trans, Consumes-nil, Keeps-refl}
 use Rattle.page_layout.specs.View.{View}
-use Rattle.promises.specs.Stream.{Request, IsRequest, IsBeginning, IsRest, Splits, command_of, is_header, request_bytes, reply_bytes, replies_bytes}
+use Rattle.promises.specs.Stream.{Request, IsRequest, header_bytes, IsBeginning, IsRest, Splits, command_of, is_header, request_bytes, reply_bytes, replies_bytes}
 use Rattle.promises.specs.Stream.{last_bytes}
 use Rattle.promises.specs.declared.stream.End.{End}
 use Rattle.promises.specs.declared.stream.End.TheVariants.{Boundary, Unfinished, BadFrame}
@@ -15,6 +15,7 @@ use Rattle.promises.proofs.StreamLemmas.{replies_join}
 use Rattle.request_stream.specs.declared.reply.ServeFault.{ServeFault}
 use Rattle.request_stream.specs.declared.reply.ServeFault.TheVariants as fault
 use Rattle.request_stream.specs.Frames.{AppendsFront, HasReadNoRequest, known_bytes_left, last_count, Rests}
+use Rattle.request_stream.specs.Streams.{IsCountSpent}
 use Rattle.request_stream.proofs.Writing.{front_more}
 use Rattle.ftl_device.specs.declared.device.Device.{Device}
 use Rattle.ftl_device.specs.Device.{IsDevice}
@@ -36,6 +37,11 @@ requests_more (y ∷ rs) r = ap (λ l. request_bytes y ++ l) (requests_more rs r
 as_many : (xs : List Exchange) (rs : List Request) → commands_in xs ≡ map command_of rs → length (replies_in xs) ≡ length rs
 as_many xs rs e =
     length-map xs reply_in ∙ (sym (length-map xs (λ (x : Exchange). x.command)) ∙ (ap length e ∙ length-map rs command_of))
+
+-- each request has a header of twelve bytes
+long_requests : (rs : List Request) → 12 * length rs ≤ length (flat_map request_bytes rs)
+long_requests [] = omega arith
+long_requests (r ∷ rs) = omega (arith, length-append (request_bytes r) (flat_map request_bytes rs), length-append (header_bytes r) r.body, long_requests rs)
 
 -- ---- a session so far
 
@@ -132,6 +138,12 @@ module _ {N : Type 0} (view : View N) (old : Device N) where
       told = so_far.told;
       stream = ([], so_far.read, inl (lit< tt), so_far.written);
     }
+
+    -- and these were all that can be counted
+    pub spent : 2 ^ 64 - 1 ≤ n → IsCountSpent 12 u v
+    spent is =
+        let all : List ℕ = flat_map request_bytes so_far.requests in
+        (all ++ [], omega (arith, length-append all [], long_requests so_far.requests, so_far.counted, is), so_far.read.bytes)
 
     module _ (new : Device N) (w d a : Option (List ℕ)) (end : End) (none : HasReadNoRequest mid new v w c d (λ tail. Rests mid.engine.geometry.data_bytes end tail w)) where
       rests : Rests old.engine.geometry.data_bytes end none.tail w

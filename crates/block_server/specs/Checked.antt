@@ -16,6 +16,7 @@ use Rattle.image_check.specs.Stale.{stale_sectors}
 use Rattle.image_check.specs.declared.refusal.Refusal.{Refusal}
 use Rattle.image_check.specs.declared.refusal.Refusal.TheVariants as refusal
 use Rattle.request_stream.specs.declared.reply.ServeFault.{ServeFault}
+use Rattle.request_stream.specs.declared.reply.ServeFault.TheVariants.{OutOfMemory}
 use Rattle.collection.specs.Safe.{ram}
 use Rattle.ftl_device.specs.declared.device.Device.{Device}
 use Rattle.ftl_device.specs.Device.{IsDevice}
@@ -123,3 +124,9 @@ abbrev pub FailsToServe : {N : Type 0} → (view : View N) → N → Geometry �
 FailsToServe view nand g share capacity c unread left before after (Refused why given) = AreStreamsUntouched unread left before after × IsUnaccepted view nand g capacity c why given
 FailsToServe view nand g share capacity c unread left before after (Start given) = AreStreamsUntouched unread left before after × IsRunUnstarted view nand g capacity c given
 FailsToServe view nand g share capacity c unread left before after (Serve stop given) = IsServed view nand g share capacity c unread left before after (Err stop) given
+
+-- and where the server stopped, it was for this, unless memory was refused
+abbrev pub StopsServer : {N : Type 0} → (stops : ServeFault → Type 0) → RunFault N → Type 0
+StopsServer stops (Refused why given) = Unit {0}
+StopsServer stops (Start given) = Unit {0}
+StopsServer stops (Serve stop given) = stop ≢ OutOfMemory → stops stop

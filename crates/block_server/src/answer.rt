@@ -1,8 +1,9 @@
 //! One request is answered.
-ghost use Rattle.std.specs.Prelude.{◌≡◌, ℕ, List, length, IfOk};
+ghost use Rattle.std.specs.Prelude.{◌≡◌, ℕ, List, length, IfErr, None, Ok, OnErr, OnOk};
 ghost use Rattle.promises.specs.Stream.{reply_status, reply_body};
 ghost use Rattle.promises.specs.Stream as stream;
 ghost use Rattle.request_stream.specs.Frames.{request_at};
+ghost use Rattle.request_stream.specs.Streams.{EndsBy, HasStreamFailed};
 ghost use Rattle.ftl_device.specs.Device.{IsDevice};
 ghost use Rattle.command_queue.specs.Commands.{promised_command, HasDataArea};
 ghost use Rattle.command_queue.specs.Exchanges.{reply_to_command};
@@ -12,8 +13,7 @@ use command_queue::{Command, tell};
 use ftl_device::{Device, DeviceFault};
 use onfi_cycles::Nand;
 use promises::stream::{End, Op};
-use request_stream::{Header, Next, ServeFault, read_request, send_reply};
-use std::io::{Read, Write};
+use request_stream::{Header, Incoming, Next, Outgoing, ServeFault, read_request, send_reply};
 
 // What a request tells the device.
 fn command_for<'a>(header: Header, body: &'a [u8]) -> Command<'a>
@@ -54,7 +54,7 @@ fn sector_for<'a>(header: Header, done: Result<(), DeviceFault>, bytes: &'a [u8]
 }
 
 // Tells the device what a request asks, and writes the reply. `bytes` is room for a sector.
-fn answer<N: Nand, W: Write>(
+fn answer<N: Nand, W: Outgoing>(
     writer: &mut W,
     device: &mut Device<N>,
     header: Header,
@@ -67,6 +67,8 @@ fn answer<N: Nand, W: Write>(
     ensures calm { N.view.calm device.new.engine.nand ≡ N.view.calm device.old.engine.nand }
     ensures answers { AnswersRequest N.view device.old device.new (request_at header body.now)
         (W.contents writer.old) (W.contents writer.new) result }
+    ensures fails { OnErr result (EndsBy W.fails writer.new) }
+    ensures hands { OnOk result (EndsBy W.hands writer.new) }
 {
     let done = tell(device, command_for(header, body), bytes);
     send_reply(
@@ -84,7 +86,7 @@ fn answer<N: Nand, W: Write>(
 ///
 /// `Read` where a read failed: the device was told nothing. `Write` where the reply could not be
 /// written: the device was told.
-pub(crate) fn serve_next<N: Nand, R: Read, W: Write>(
+pub(crate) fn serve_next<N: Nand, R: Incoming, W: Outgoing>(
     reader: &mut R,
     writer: &mut W,
     device: &mut Device<N>,
@@ -97,6 +99,8 @@ pub(crate) fn serve_next<N: Nand, R: Read, W: Write>(
     ensures calm { N.view.calm device.new.engine.nand ≡ N.view.calm device.old.engine.nand }
     ensures serves { ServesNextCommand N.view device.old device.new (R.remaining reader.old) (R.remaining reader.new)
         (W.contents writer.old) (W.contents writer.new) result }
+    ensures fails { IfErr result (HasStreamFailed R.fails W.fails reader.new writer.new) }
+    ensures hands { result ≡ Ok None → EndsBy W.hands writer.new }
 {
     match read_request(reader, body)? {
         Next::Ended(end) => Ok(Some(end)),

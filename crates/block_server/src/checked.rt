@@ -1,7 +1,8 @@
 //! A die is checked, a device is started over it, and requests are served.
 ghost use Rattle.std.specs.Prelude.{◌≡◌, Ok, IfOk, IfErr};
 ghost use Rattle.page_layout.specs.Geometry.{IsShare};
-ghost use Rattle.block_server.specs.Checked.{IsServed, FailsToServe};
+ghost use Rattle.request_stream.specs.Streams.{HasStopped};
+ghost use Rattle.block_server.specs.Checked.{IsServed, FailsToServe, StopsServer};
 
 use crate::server::{Served, serve};
 use certificate::Certificate;
@@ -9,9 +10,8 @@ use ftl_device::{Device, StartFault};
 use image_check::{Refusal, check};
 use onfi_cycles::Nand;
 use page_layout::geometry::Geometry;
-use request_stream::ServeFault;
+use request_stream::{Incoming, Outgoing, ServeFault};
 use std::alloc::Global;
-use std::io::{Read, Write};
 use thiserror::Error;
 
 /// Why requests were not served to the end of their stream. The die comes back. (This project's.)
@@ -60,7 +60,7 @@ pub enum RunFault<N> {
 /// faults counted.
 ///
 /// (This project's.)
-pub fn serve_checked<N: Nand, R: Read, W: Write>(
+pub fn serve_checked<N: Nand, R: Incoming, W: Outgoing>(
     alloc: Global,
     nand: N,
     geometry: &Geometry,
@@ -74,6 +74,8 @@ pub fn serve_checked<N: Nand, R: Read, W: Write>(
         (R.remaining reader.old) (R.remaining reader.new) (W.contents writer.old) (W.contents writer.new) (Ok done.0) done.1) }
     ensures fault { IfErr result (FailsToServe N.view nand geometry.now 0 capacity certificate.now
         (R.remaining reader.old) (R.remaining reader.new) (W.contents writer.old) (W.contents writer.new)) }
+    ensures stops { IfErr result (StopsServer (HasStopped 12 R.fails W.fails
+        (R.remaining reader.old) (R.remaining reader.new) reader.new writer.new)) }
 {
     serve_checked_at(
         alloc,
@@ -94,7 +96,7 @@ pub fn serve_checked<N: Nand, R: Read, W: Write>(
 /// # Errors
 ///
 /// As there. (This project's.)
-pub fn serve_checked_at<N: Nand, R: Read, W: Write>(
+pub fn serve_checked_at<N: Nand, R: Incoming, W: Outgoing>(
     alloc: Global,
     mut nand: N,
     geometry: &Geometry,
@@ -110,6 +112,8 @@ pub fn serve_checked_at<N: Nand, R: Read, W: Write>(
         (R.remaining reader.old) (R.remaining reader.new) (W.contents writer.old) (W.contents writer.new) (Ok done.0) done.1) }
     ensures fault { IfErr result (FailsToServe N.view nand geometry.now share capacity certificate.now
         (R.remaining reader.old) (R.remaining reader.new) (W.contents writer.old) (W.contents writer.new)) }
+    ensures stops { IfErr result (StopsServer (HasStopped 12 R.fails W.fails
+        (R.remaining reader.old) (R.remaining reader.new) reader.new writer.new)) }
 {
     let accepted = match check(alloc, &mut nand, geometry, capacity, certificate) {
         Ok(accepted) => accepted,

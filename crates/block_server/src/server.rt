@@ -1,15 +1,15 @@
 //! Requests are answered until the reader ends.
-ghost use Rattle.std.specs.Prelude.{◌≡◌, ◌≢◌, length, Err};
+ghost use Rattle.std.specs.Prelude.{◌≡◌, ◌≢◌, length, Err, IfErr};
 ghost use Rattle.ftl_device.specs.Device.{IsDevice};
+ghost use Rattle.request_stream.specs.Streams.{HasStopped};
 ghost use Rattle.block_server.specs.Session.{Session};
 
 use crate::answer::serve_next;
 use ftl_device::Device;
 use onfi_cycles::Nand;
 use promises::stream::End;
-use request_stream::{ServeFault, send_last};
+use request_stream::{Incoming, Outgoing, ServeFault, send_last};
 use std::alloc::Global;
-use std::io::{Read, Write};
 
 /// How many frames a server wrote, and what ended the stream of requests. (This project's.)
 #[derive(Clone, Copy, Debug, PartialEq, Eq)]
@@ -21,7 +21,7 @@ pub struct Served {
 }
 
 // Serves requests with room for a sector that is written and for one that is read.
-fn serve_with<N: Nand, R: Read, W: Write>(
+fn serve_with<N: Nand, R: Incoming, W: Outgoing>(
     reader: &mut R,
     writer: &mut W,
     device: &mut Device<N>,
@@ -35,6 +35,7 @@ fn serve_with<N: Nand, R: Read, W: Write>(
     ensures session { Session N.view device.old device.new (R.remaining reader.old) (R.remaining reader.new)
         (W.contents writer.old) (W.contents writer.new) result }
     ensures never { result ≢ Err ServeFault.OutOfMemory }
+    ensures stops { IfErr result (HasStopped 12 R.fails W.fails (R.remaining reader.old) (R.remaining reader.new) reader.new writer.new) }
 {
     for replies in 0..u64::MAX {
         match serve_next(reader, writer, device, body, bytes)? {
@@ -60,19 +61,19 @@ fn serve_with<N: Nand, R: Read, W: Write>(
 /// device's replies in order, with one frame of status 7 where a header was bad. The device was told
 /// just these requests, one call a request, and each did what `tell` says of it, from a device to the
 /// next. Before the first fault of the bus they are a run, as `run` says, whose events are those calls,
-/// and from it on each reply is `BusFault`. No clause says that a reply is handed on before the next
-/// request is read; tests show it.
+/// and from it on each reply is `BusFault`. No clause of this call says that a reply is handed on before the
+/// next request is read: that of each reply does (`send_reply`: `hands`).
 ///
 /// # Errors
 ///
-/// - `Read` where a read failed or was interrupted, or 2^64 - 1 requests were answered: what was
-///   written answers the requests that were read whole.
-/// - `Write` where a write failed, was interrupted or took nothing: what was written is a beginning of
-///   the replies.
+/// - `Read` where a read failed or was interrupted, or 2^64 - 1 requests were answered, and else never: what
+///   was written answers the requests that were read whole.
+/// - `Write` where a write failed, was interrupted or took nothing, and else never: what was written is a
+///   beginning of the replies.
 /// - `OutOfMemory` where a growth was refused: nothing was read, and the device is as it was.
 ///
 /// (This project's.)
-pub fn serve<N: Nand, R: Read, W: Write>(
+pub fn serve<N: Nand, R: Incoming, W: Outgoing>(
     alloc: Global,
     reader: &mut R,
     writer: &mut W,
@@ -82,6 +83,8 @@ pub fn serve<N: Nand, R: Read, W: Write>(
     ensures calm { N.view.calm device.new.engine.nand ≡ N.view.calm device.old.engine.nand }
     ensures session { Session N.view device.old device.new (R.remaining reader.old) (R.remaining reader.new)
         (W.contents writer.old) (W.contents writer.new) result }
+    ensures stops { IfErr result (λ e. e ≢ ServeFault.OutOfMemory →
+        HasStopped 12 R.fails W.fails (R.remaining reader.old) (R.remaining reader.new) reader.new writer.new e) }
     ensures unread { result ≡ Err ServeFault.OutOfMemory → reader.new ≡ reader.old }
     ensures unwritten { result ≡ Err ServeFault.OutOfMemory → writer.new ≡ writer.old }
     ensures untold { result ≡ Err ServeFault.OutOfMemory → device.new ≡ device.old }

@@ -26,7 +26,7 @@ use Rattle.disk_server.specs.declared.synced.SyncPace.{SyncPace}
 use Rattle.disk_server.specs.declared.mark.SyncMark.{SyncMark}
 use Rattle.disk_server.specs.Synced.{Closes, RestsSynced, SyncsTask, export_of}
 use Rattle.disk_server.specs.Reading.{OnlyAsksReads, RestsNever}
-use Rattle.nbd_stream.specs.Streams.{HasStopped}
+use Rattle.request_stream.specs.Streams.{HasStopped}
 use Rattle.nbd_stream.specs.Through.{Through}
 use Rattle.disk_commands.specs.declared.text.DiskCommandFault.{DiskCommandFault}
 use Rattle.disk_commands.specs.declared.text.DiskCommandFault.TheVariants as fault
@@ -68,7 +68,7 @@ end_of (Err e) = Err fault.Stream
 
 -- WHERE IT IS TOLD THAT A STREAM FAILED the last call of the client's input or output failed, or as many requests were read as can be counted
 abbrev pub StreamStops : {I O : Type 0} → (reads : I → I → Type 0) → (writes : O → O → Type 0) → (unread left : Option (List ℕ)) → I → O → Result (Unit {0}) DiskCommandFault → Type 0
-StreamStops reads writes unread left input out result = result ≡ Err fault.Stream → (e : ServeFault) × HasStopped reads writes unread left input out e
+StreamStops reads writes unread left input out result = result ≡ Err fault.Stream → (e : ServeFault) × HasStopped 16 reads writes unread left input out e
 
 -- but a disk that was not closed is told first
 abbrev pub told_at_end : Result (Unit {0}) NbdFault → Bor (List ℕ) → Result StreamEnd ServeFault → Result (Unit {0}) DiskCommandFault

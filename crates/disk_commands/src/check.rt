@@ -13,7 +13,7 @@ use crate::words::InfoWords;
 use disk_damage::{bad_blocks, counted, joined, numbers_of, unsound_rows};
 use disk_server::OpenStoreFault;
 use lost_sectors::LostFault;
-use nbd_stream::Outgoing;
+use request_stream::Outgoing;
 use std::alloc::{AllocError, Global};
 
 /// What a look at all of a disk finds, each by rising number. (This project's.)

@@ -17,7 +17,7 @@ use coded_store::Mended;
 use disk_damage::{ListFault, mount_and_find, numbers_of, read_list};
 use disk_server::OpenStoreFault;
 use image_check::Refusal;
-use nbd_stream::Outgoing;
+use request_stream::Outgoing;
 use std::alloc::{AllocError, Global};
 
 // How it is told that the list beside a disk could not be read.

@@ -12,7 +12,7 @@ use crate::text::DiskCommandFault;
 use crate::words::InfoWords;
 use coded_store::TellsMended;
 use disk_damage::numbers_of;
-use nbd_stream::Outgoing;
+use request_stream::Outgoing;
 use std::alloc::Global;
 
 // What is told of the disk at a path, and its lost sectors.

@@ -29,7 +29,7 @@ use disk_server::{
     open_stopped,
 };
 use file_die::{Store, SyncWhen};
-use nbd_stream::Outgoing;
+use request_stream::Outgoing;
 use std::alloc::Global;
 
 /// The disk of a store, of which some sectors are lost, and which is opened anew where the store was full.

@@ -18,9 +18,9 @@ use disk_server::{
     Lasting, Offer, ReadOnlyDisk, SectorDisk, Sectors, SyncPace, SyncedDisk, Syncs, serve_reading,
     serve_synced,
 };
-use nbd_stream::{Incoming, Outgoing, StreamEnd};
+use nbd_stream::StreamEnd;
 use page_layout::geometry::Geometry;
-use request_stream::ServeFault;
+use request_stream::{Incoming, Outgoing, ServeFault};
 use std::alloc::Global;
 
 // The most bytes that one request reads or writes.

@@ -4,15 +4,15 @@ ghost use Rattle.nbd_stream.specs.Transmission.{Serves};
 ghost use Rattle.disk_server.specs.Asked.{AsksSectors};
 ghost use Rattle.disk_server.specs.Synced.{RestsSynced, SyncsTask, export_of};
 ghost use Rattle.disk_server.specs.Reading.{OnlyAsksReads, RestsNever};
-ghost use Rattle.nbd_stream.specs.Streams.{HasStopped};
+ghost use Rattle.request_stream.specs.Streams.{HasStopped};
 ghost use Rattle.nbd_stream.specs.Through.{Through};
 
 use crate::reading::ReadOnlyDisk;
 use crate::sector_disk::SectorDisk;
 use crate::sectors::{Lasting, Sectors};
 use crate::synced::{SyncedDisk, Syncs};
-use nbd_stream::{Export, Incoming, Outgoing, StreamEnd, serve};
-use request_stream::ServeFault;
+use nbd_stream::{Export, StreamEnd, serve};
+use request_stream::{Incoming, Outgoing, ServeFault};
 
 /// What a client is told of a disk, beside its bytes. (This project's.)
 #[derive(Clone, Copy)]
@@ -55,7 +55,7 @@ pub fn serve_synced<S: Lasting, Y: Syncs, R: Incoming, W: Outgoing>(
         (SyncsTask (AsksSectors S.contents S.honest S.reads S.changes S.flushes) Y.synced Y.failed Y.marked S.next) (RestsSynced S.rests)
         (export_of offer (length (S.contents disk.old.disk).bytes)) (length buffer.new) disk.old disk.new (R.remaining reader.old) (R.remaining reader.new)
         (W.contents writer.old) (W.contents writer.new) result }
-    ensures stops { IfErr result (HasStopped R.fails W.fails (R.remaining reader.old) (R.remaining reader.new) reader.new writer.new) }
+    ensures stops { IfErr result (HasStopped 16 R.fails W.fails (R.remaining reader.old) (R.remaining reader.new) reader.new writer.new) }
 {
     let export = export_of(offer, disk.disk().bytes());
     serve(reader, writer, disk, &export, buffer)
@@ -80,7 +80,7 @@ pub fn serve_reading<S: Sectors, R: Incoming, W: Outgoing>(
         (export_of offer (length (S.contents disk.old).bytes)) (length buffer.new) disk.old disk.new (R.remaining reader.old) (R.remaining reader.new)
         (W.contents writer.old) (W.contents writer.new) result }
     ensures reads { Through S.reads disk.old disk.new }
-    ensures stops { IfErr result (HasStopped R.fails W.fails (R.remaining reader.old) (R.remaining reader.new) reader.new writer.new) }
+    ensures stops { IfErr result (HasStopped 16 R.fails W.fails (R.remaining reader.old) (R.remaining reader.new) reader.new writer.new) }
 {
     let export = export_of(offer, disk.bytes());
     serve(reader, writer, disk, &export, buffer)

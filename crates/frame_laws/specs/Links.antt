@@ -1,7 +1,7 @@
 -- What is said of an exchange of a frame of a bus over a reader and a writer that tell their bytes.
 use Rattle.std.specs.Prelude.{◌≡◌, ◌≢◌, ◌≤◌, ◌⊎◌, ℕ, List, [], ◌∷◌, ◌++◌, length, Option, Some}
 use Rattle.page_layout.specs.Counter.{counted}
-use Rattle.nbd_stream.specs.Streams.{EndsBy}
+use Rattle.request_stream.specs.Streams.{EndsBy}
 use Rattle.stream_bus.specs.Streamed.{StreamWords, Streamed}
 
 -- all of the frame was written, and just its answer was read: a status, and behind a 0 the bytes that came out

@@ -8,7 +8,8 @@ ghost use Rattle.frame_laws.specs.Lines.{PartLaw, SentLineLaw};
 ghost use Rattle.frame_laws.specs.Links.{ExchangeLaw};
 ghost use Rattle.frame_laws.specs.RestWords.{RestWordLaw};
 
-use nbd_stream::{Disk, Incoming, Outgoing};
+use nbd_stream::Disk;
+use request_stream::{Incoming, Outgoing};
 
 /// A stream that ends at the end of a request or inside one has ended; a bad frame is twelve bytes that are no header; and a read that failed
 /// came inside a request. (This project.)

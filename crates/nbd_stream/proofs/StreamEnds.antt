@@ -7,7 +7,7 @@ use Rattle.nbd_stream.specs.declared.export.Export.{Export}
 use Rattle.nbd_stream.specs.declared.negotiation.Negotiated.TheVariants.{Transmission}
 use Rattle.nbd_stream.specs.Negotiation.{Negotiates}
 use Rattle.nbd_stream.specs.Options.{AskedOption, option_bytes}
-use Rattle.nbd_stream.specs.Streams.{HasStopped}
+use Rattle.request_stream.specs.Streams.{HasStopped}
 use Rattle.nbd_stream.specs.Frames.{NbdRequest, nbd_header_bytes, nbd_request_bytes}
 use Rattle.std.proofs.KnownBytes.{Consumes-nil, Consumes-trans}
 
@@ -39,7 +39,7 @@ long_option o = omega arith
 
 -- what stopped after some bytes were read, stopped after all of them were
 pub stop_later : {R W T : Type 0} (reads : R → R → Type 0) (writes : W → W → Type 0) (unread middle left : Option (List ℕ)) (reader : R) (writer : W) (bytes : List ℕ) (result : Result T ServeFault)
-    → Consumes unread middle bytes → IfErr result (HasStopped reads writes middle left reader writer) → IfErr result (HasStopped reads writes unread left reader writer)
+    → Consumes unread middle bytes → IfErr result (HasStopped 16 reads writes middle left reader writer) → IfErr result (HasStopped 16 reads writes unread left reader writer)
 stop_later reads writes unread middle left reader writer bytes (Ok done) before stops = tt
 stop_later reads writes unread middle left reader writer bytes (Err e) before (inl failed) = inl failed
 stop_later reads writes unread middle left reader writer bytes (Err e) before (inr (is, (more, many, after))) =

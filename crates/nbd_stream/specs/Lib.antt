@@ -1,7 +1,6 @@
 pub mod Frames
 pub mod Options
 pub mod Negotiation
-pub mod Streams
 pub mod Tasks
 -- steps of one kind, any number
 pub mod Through

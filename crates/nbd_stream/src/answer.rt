@@ -1,5 +1,5 @@
 //! What an option is answered.
-ghost use Rattle.nbd_stream.specs.Streams.{EndsBy};
+ghost use Rattle.request_stream.specs.Streams.{EndsBy};
 ghost use Rattle.std.specs.Prelude.{◌≡◌, ◌≢◌, OnErr, OnOk, ◌≤◌, ℕ, Bool, List, length, take, false, true, IfSome, IsNone};
 ghost use Rattle.request_stream.specs.Frames.{SendsBytes};
 ghost use Rattle.nbd_stream.specs.Options.{IsData, option_from, answer_to_option, question_answer, is_question, name_length, step_after, option_answer_bytes, asked_option, option_reply_header, transmission_flags, export_bytes, export_info, block_info};
@@ -7,9 +7,8 @@ ghost use Rattle.nbd_stream.specs.Options.{IsData, option_from, answer_to_option
 use crate::export::Export;
 use crate::option::OptionHeader;
 use crate::reply::send_parts;
-use crate::streams::Outgoing;
 use byteorder::{BigEndian, ByteOrder};
-use request_stream::ServeFault;
+use request_stream::{Outgoing, ServeFault};
 
 /// The options that are answered with more than that they are not supported. (The NBD protocol, "Option types".)
 #[derive(Clone, Copy)]

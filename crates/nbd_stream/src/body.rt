@@ -1,10 +1,9 @@
 //! The bytes that follow a header: taken into a buffer where they fit, and else read past.
-ghost use Rattle.nbd_stream.specs.Streams.{EndsBy};
+ghost use Rattle.request_stream.specs.Streams.{EndsBy};
 ghost use Rattle.std.specs.Prelude.{OnErr, ◌≡◌, ◌≤◌, ◌<◌, ℕ, List, length, true, false, Ok, Err};
 ghost use Rattle.nbd_stream.specs.Frames.{ReadsBody};
 
-use crate::streams::Incoming;
-use request_stream::ServeFault;
+use request_stream::{Incoming, ServeFault};
 
 // How many bytes are read past at a time.
 const PIECE: usize = 512;

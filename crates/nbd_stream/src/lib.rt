@@ -13,7 +13,6 @@ mod negotiation;
 mod option;
 mod reply;
 mod request;
-mod streams;
 mod task;
 mod transmission;
 
@@ -25,6 +24,5 @@ pub use negotiation::{Negotiated, negotiate};
 pub use option::{NextOption, OptionHeader, read_option};
 pub use reply::{RequestError, send_reply};
 pub use request::{NbdHeader, NextRequest, StreamEnd, read_request};
-pub use streams::{Incoming, Outgoing};
 pub use task::{NbdCommand, Task, admit};
 pub use transmission::{serve, transmit};

@@ -2,15 +2,14 @@
 ghost use Rattle.std.specs.Prelude.{◌≡◌, ◌≤◌, ◌+◌, length, replicate, slice_range, IfErr};
 ghost use Rattle.nbd_stream.specs.Disk.{with_bytes};
 ghost use Rattle.nbd_stream.specs.Memory.{ServesBytes};
-ghost use Rattle.nbd_stream.specs.Streams.{HasStopped};
+ghost use Rattle.request_stream.specs.Streams.{HasStopped};
 
 use crate::disk::Disk;
 use crate::export::Export;
 use crate::fault::DiskFault;
 use crate::request::StreamEnd;
-use crate::streams::{Incoming, Outgoing};
 use crate::transmission::serve;
-use request_stream::ServeFault;
+use request_stream::{Incoming, Outgoing, ServeFault};
 
 /// A disk whose bytes stand in memory. It holds what it is given and does what it is asked. There is no power stop that it outlives: what
 /// lasts is what stands.
@@ -117,7 +116,7 @@ pub fn serve_memory<R: Incoming, W: Outgoing>(
     requires room { export.now.maximum ≤ length buffer.old }
     ensures serves { ServesBytes export.now (length buffer.new) disk.old.bytes.items disk.new.bytes.items
         (R.remaining reader.old) (R.remaining reader.new) (W.contents writer.old) (W.contents writer.new) result }
-    ensures stops { IfErr result (HasStopped R.fails W.fails (R.remaining reader.old) (R.remaining reader.new) reader.new writer.new) }
+    ensures stops { IfErr result (HasStopped 16 R.fails W.fails (R.remaining reader.old) (R.remaining reader.new) reader.new writer.new) }
 {
     serve(reader, writer, disk, export, buffer)
 }

@@ -1,6 +1,6 @@
 //! The negotiation: a greeting, and answers to options until one of them begins the transmission.
 ghost use Rattle.std.specs.Prelude.{IfErr, OnErr, length};
-ghost use Rattle.nbd_stream.specs.Streams.{EndsBy, HasStopped, HasStreamFailed};
+ghost use Rattle.request_stream.specs.Streams.{EndsBy, HasStopped, HasStreamFailed};
 ghost use Rattle.nbd_stream.specs.Negotiation.{AnswersNext, AnswersOptions, Negotiates, ReadsFlags};
 
 use crate::answer::{AnswerStep, answer_to, send_answer, step_after};
@@ -8,8 +8,7 @@ use crate::export::Export;
 use crate::option::{NextOption, read_option};
 use crate::reply::send_parts;
 use crate::request::StreamEnd;
-use crate::streams::{Incoming, Outgoing};
-use request_stream::ServeFault;
+use request_stream::{Incoming, Outgoing, ServeFault};
 
 /// How a negotiation ended. (This project's.)
 #[derive(Clone, Copy, Debug, PartialEq, Eq)]
@@ -64,7 +63,7 @@ fn answer_options<R: Incoming, W: Outgoing>(
     body: &mut [u8],
 ) -> Result<Negotiated, ServeFault>
     ensures answers { AnswersOptions export.now no_zeroes (length body.new) (R.remaining reader.old) (R.remaining reader.new) (W.contents writer.old) (W.contents writer.new) result }
-    ensures stops { IfErr result (HasStopped R.fails W.fails (R.remaining reader.old) (R.remaining reader.new) reader.new writer.new) }
+    ensures stops { IfErr result (HasStopped 16 R.fails W.fails (R.remaining reader.old) (R.remaining reader.new) reader.new writer.new) }
 {
     for _ in 0..u64::MAX {
         match answer_next(reader, writer, export, no_zeroes, body)? {
@@ -111,7 +110,7 @@ pub fn negotiate<R: Incoming, W: Outgoing>(
     body: &mut [u8],
 ) -> Result<Negotiated, ServeFault>
     ensures negotiates { Negotiates export.now (length body.new) (R.remaining reader.old) (R.remaining reader.new) (W.contents writer.old) (W.contents writer.new) result }
-    ensures stops { IfErr result (HasStopped R.fails W.fails (R.remaining reader.old) (R.remaining reader.new) reader.new writer.new) }
+    ensures stops { IfErr result (HasStopped 16 R.fails W.fails (R.remaining reader.old) (R.remaining reader.new) reader.new writer.new) }
 {
     send_parts(writer, &[&GREETING])?;
     match read_flags(reader)? {

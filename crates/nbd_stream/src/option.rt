@@ -1,13 +1,12 @@
 //! The next option of a negotiation.
-ghost use Rattle.nbd_stream.specs.Streams.{EndsBy};
+ghost use Rattle.request_stream.specs.Streams.{EndsBy};
 ghost use Rattle.std.specs.Prelude.{◌≡◌, OnErr, length};
 ghost use Rattle.nbd_stream.specs.Options.{ReadsOption, ReadsOptionRest};
 
 use crate::body::read_body;
 use crate::request::StreamEnd;
-use crate::streams::Incoming;
 use byteorder::{BigEndian, ByteOrder};
-use request_stream::ServeFault;
+use request_stream::{Incoming, ServeFault};
 
 /// The header of an option: its number, and how many bytes of data follow. (The NBD protocol, "Option haggling".)
 #[derive(Clone, Copy, Debug, PartialEq, Eq)]

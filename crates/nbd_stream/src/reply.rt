@@ -1,12 +1,11 @@
 //! Replies to requests.
-ghost use Rattle.nbd_stream.specs.Streams.{EndsBy};
+ghost use Rattle.request_stream.specs.Streams.{EndsBy};
 ghost use Rattle.std.specs.Prelude.{◌≡◌, OnErr, OnOk};
 ghost use Rattle.std.specs.List.{flat_map};
 ghost use Rattle.request_stream.specs.Frames.{SendsBytes};
 ghost use Rattle.nbd_stream.specs.Frames.{simple_reply_bytes, reply_header_bytes, error_number_of};
 
-use crate::streams::Outgoing;
-use request_stream::ServeFault;
+use request_stream::{Outgoing, ServeFault};
 use thiserror::Error;
 
 /// Why a request was not done, under the protocol's numbers. (The NBD protocol, "Error values".)

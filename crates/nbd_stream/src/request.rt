@@ -1,12 +1,11 @@
 //! The next request of a transmission.
-ghost use Rattle.nbd_stream.specs.Streams.{EndsBy};
+ghost use Rattle.request_stream.specs.Streams.{EndsBy};
 ghost use Rattle.std.specs.Prelude.{◌≡◌, OnErr, length};
 ghost use Rattle.nbd_stream.specs.Frames.{ReadsNbdRequest, ReadsRest};
 
 use crate::body::read_body;
-use crate::streams::Incoming;
 use byteorder::{BigEndian, ByteOrder};
-use request_stream::ServeFault;
+use request_stream::{Incoming, ServeFault};
 
 /// The header of a request: its flags and the number of its command, the cookie that its reply carries, and the range of bytes
 /// that it speaks of. (The NBD protocol, "Request message".)

@@ -1,6 +1,6 @@
 //! Requests are asked of a disk and answered, one after another.
 ghost use Rattle.std.specs.Prelude.{◌≡◌, ◌≤◌, ◌+◌, ℕ, List, None, Ok, IfErr, OnErr, OnOk, false, length, take, true};
-ghost use Rattle.nbd_stream.specs.Streams.{EndsBy, HasStopped, HasStreamFailed};
+ghost use Rattle.request_stream.specs.Streams.{EndsBy, HasStopped, HasStreamFailed};
 ghost use Rattle.nbd_stream.specs.Disk.{IsInside, PerformsTask, answer_from, asked_as, count_given, count_taken};
 ghost use Rattle.nbd_stream.specs.Exchanges.{RestsAfter};
 ghost use Rattle.nbd_stream.specs.Frames.{IsNbdRequest, request_with_body};
@@ -14,9 +14,8 @@ use crate::fault::{DiskFault, error_for};
 use crate::negotiation::{Negotiated, negotiate};
 use crate::reply::{RequestError, send_reply};
 use crate::request::{NbdHeader, NextRequest, StreamEnd, read_request};
-use crate::streams::{Incoming, Outgoing};
 use crate::task::{Task, admit};
-use request_stream::ServeFault;
+use request_stream::{Incoming, Outgoing, ServeFault};
 
 // Has the disk do a task. The buffer has at its front the bytes of a write, and takes there those of a read.
 fn perform<D: Disk>(disk: &mut D, task: Task, buffer: &mut [u8]) -> Result<(), DiskFault>
@@ -165,7 +164,7 @@ pub fn transmit<R: Incoming, W: Outgoing, D: Disk>(
     ensures transmits { Transmits D.contents D.honest D.calm D.does D.rests export.now disk.old disk.new (R.remaining reader.old) (R.remaining reader.new)
         (W.contents writer.old) (W.contents writer.new) result }
     ensures leaves { export.now.read_only ≡ true → Through D.leaves disk.old disk.new }
-    ensures stops { IfErr result (HasStopped R.fails W.fails (R.remaining reader.old) (R.remaining reader.new) reader.new writer.new) }
+    ensures stops { IfErr result (HasStopped 16 R.fails W.fails (R.remaining reader.old) (R.remaining reader.new) reader.new writer.new) }
 {
     for _ in 0..u64::MAX {
         match serve_next(reader, writer, disk, export, buffer)? {
@@ -193,7 +192,7 @@ pub fn serve<R: Incoming, W: Outgoing, D: Disk>(
     ensures serves { Serves D.contents D.honest D.calm D.does D.rests export.now (length buffer.new) disk.old disk.new (R.remaining reader.old) (R.remaining reader.new)
         (W.contents writer.old) (W.contents writer.new) result }
     ensures leaves { export.now.read_only ≡ true → Through D.leaves disk.old disk.new }
-    ensures stops { IfErr result (HasStopped R.fails W.fails (R.remaining reader.old) (R.remaining reader.new) reader.new writer.new) }
+    ensures stops { IfErr result (HasStopped 16 R.fails W.fails (R.remaining reader.old) (R.remaining reader.new) reader.new writer.new) }
 {
     match negotiate(reader, writer, export, buffer)? {
         Negotiated::Ended(end) => Ok(end),

@@ -1,12 +1,12 @@
 //! Replies.
-ghost use Rattle.std.specs.Prelude.{◌≡◌, [], IfOk, IsErr};
+ghost use Rattle.std.specs.Prelude.{◌≡◌, [], IfOk, IsErr, OnErr, OnOk};
 ghost use Rattle.promises.specs.Stream.{op_code, last_bytes};
 ghost use Rattle.request_stream.specs.Frames.{answer_bytes, last_count, SendsBytes};
+ghost use Rattle.request_stream.specs.Streams.{EndsBy};
 
 use crate::header::Header;
-use crate::transfer::send;
+use crate::streams::Outgoing;
 use promises::stream::End;
-use std::io::Write;
 use thiserror::Error;
 
 /// Why requests are answered no more before their stream has ended. (This project's.)
@@ -34,29 +34,21 @@ fn reply_header(code: u8, status: u8, tag: u32) -> [u8; 8]
     [b'd', b'f', code, status, t0, t1, t2, t3]
 }
 
-// Has the writer hand on what it took.
-fn flush<W: Write>(writer: &mut W) -> Result<(), ServeFault>
-    ensures { SendsBytes (W.contents writer.old) (W.contents writer.new) [] result }
-{
-    match writer.flush() {
-        Ok(()) => Ok(()),
-        Err(_) => Err(ServeFault::Write),
-    }
-}
-
 // Writes a frame and its sector, and has the writer hand them on, so that no reply waits in a buffer.
-fn send_frame<W: Write>(
+fn send_frame<W: Outgoing>(
     writer: &mut W,
     code: u8,
     status: u8,
     tag: u32,
     sector: &[u8],
 ) -> Result<(), ServeFault>
-    ensures { SendsBytes (W.contents writer.old) (W.contents writer.new) (answer_bytes code status tag sector.now) result }
+    ensures sends { SendsBytes (W.contents writer.old) (W.contents writer.new) (answer_bytes code status tag sector.now) result }
+    ensures fails { OnErr result (EndsBy W.fails writer.new) }
+    ensures hands { OnOk result (EndsBy W.hands writer.new) }
 {
-    send(writer, &reply_header(code, status, tag))?;
-    send(writer, sector)?;
-    flush(writer)
+    writer.put(&reply_header(code, status, tag))?;
+    writer.put(sector)?;
+    writer.hand_on()
 }
 
 /// Writes the reply to a request, with the sector that a read gave, or no bytes, and has the writer
@@ -66,13 +58,15 @@ fn send_frame<W: Write>(
 ///
 /// `Write` where a write or the handing on failed, was interrupted or took nothing: a beginning of the
 /// reply is out. (This project's layout.)
-pub fn send_reply<W: Write>(
+pub fn send_reply<W: Outgoing>(
     writer: &mut W,
     header: Header,
     status: u8,
     sector: &[u8],
 ) -> Result<(), ServeFault>
-    ensures { SendsBytes (W.contents writer.old) (W.contents writer.new) (answer_bytes (op_code header.op) status header.tag sector.now) result }
+    ensures sends { SendsBytes (W.contents writer.old) (W.contents writer.new) (answer_bytes (op_code header.op) status header.tag sector.now) result }
+    ensures fails { OnErr result (EndsBy W.fails writer.new) }
+    ensures hands { OnOk result (EndsBy W.hands writer.new) }
 {
     send_frame(writer, header.op.code(), status, header.tag, sector)
 }
@@ -83,10 +77,12 @@ pub fn send_reply<W: Write>(
 /// # Errors
 ///
 /// `Write` as of `send_reply`, only after a bad header. (This project's layout.)
-pub fn send_last<W: Write>(writer: &mut W, end: End) -> Result<u64, ServeFault>
+pub fn send_last<W: Outgoing>(writer: &mut W, end: End) -> Result<u64, ServeFault>
     ensures sends { SendsBytes (W.contents writer.old) (W.contents writer.new) (last_bytes end) result }
     ensures count { IfOk result (λ count. count ≡ last_count end) }
     ensures bad { IsErr result → end ≡ End.BadFrame }
+    ensures fails { OnErr result (EndsBy W.fails writer.new) }
+    ensures hands { end ≡ End.BadFrame → OnOk result (EndsBy W.hands writer.new) }
 {
     match end {
         End::Boundary | End::Unfinished => Ok(0),

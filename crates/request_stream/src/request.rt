@@ -1,12 +1,12 @@
 //! The next request of a stream.
-ghost use Rattle.std.specs.Prelude.{length};
+ghost use Rattle.std.specs.Prelude.{length, OnErr};
 ghost use Rattle.request_stream.specs.Frames.{ReadsAfterHeader, ReadsRequest};
+ghost use Rattle.request_stream.specs.Streams.{EndsBy};
 
 use crate::header::Header;
 use crate::reply::ServeFault;
-use crate::transfer::fill;
+use crate::streams::Incoming;
 use promises::stream::{End, Op};
-use std::io::Read;
 
 /// What stands next in a stream of requests. (This project's.)
 #[derive(Clone, Copy, Debug, PartialEq, Eq)]
@@ -18,13 +18,18 @@ pub enum Next {
 }
 
 // Reads what follows a header that was read.
-fn read_body<R: Read>(reader: &mut R, header: Header, body: &mut [u8]) -> Result<Next, ServeFault>
-    ensures { ReadsAfterHeader (length body.new) header (R.remaining reader.old) (R.remaining reader.new) body.new result }
+fn read_body<R: Incoming>(
+    reader: &mut R,
+    header: Header,
+    body: &mut [u8],
+) -> Result<Next, ServeFault>
+    ensures reads { ReadsAfterHeader (length body.new) header (R.remaining reader.old) (R.remaining reader.new) body.new result }
+    ensures fails { OnErr result (EndsBy R.fails reader.new) }
 {
     if header.op != Op::Write {
         return Ok(Next::Whole(header));
     }
-    let filled = fill(reader, body);
+    let filled = reader.receive(body);
     if filled.failed {
         Err(ServeFault::Read)
     } else if filled.count < body.len() {
@@ -40,11 +45,12 @@ fn read_body<R: Read>(reader: &mut R, header: Header, body: &mut [u8]) -> Result
 /// # Errors
 ///
 /// `Read` where a read failed or was interrupted: what was read of a request is lost. (This project's.)
-pub fn read_request<R: Read>(reader: &mut R, body: &mut [u8]) -> Result<Next, ServeFault>
-    ensures { ReadsRequest (length body.new) (R.remaining reader.old) (R.remaining reader.new) body.new result }
+pub fn read_request<R: Incoming>(reader: &mut R, body: &mut [u8]) -> Result<Next, ServeFault>
+    ensures reads { ReadsRequest (length body.new) (R.remaining reader.old) (R.remaining reader.new) body.new result }
+    ensures fails { OnErr result (EndsBy R.fails reader.new) }
 {
     let mut bytes = [0; 12];
-    let filled = fill(reader, &mut bytes);
+    let filled = reader.receive(&mut bytes);
     if filled.failed {
         return Err(ServeFault::Read);
     }

@@ -45,5 +45,5 @@ returns-clause-answers g c =
       tells = subst (λ k. Tells g.N.PageSource.view old (as_told k) new) c.command_for.ensures.command tells;
       sends =
           subst (λ l. SendsBytes (g.W.Write.contents c.args.writer.now) (g.W.Write.contents c.send_reply.new.writer) (answer_bytes (op_code c.args.header.op) (reply_status (reply_to_command asked c.tell-done.new.bytes c.tell-done.result)) c.args.header.tag l) c.send_reply.result) given
-          (subst (λ n. SendsBytes (g.W.Write.contents c.args.writer.now) (g.W.Write.contents c.send_reply.new.writer) (answer_bytes (op_code c.args.header.op) n c.args.header.tag c.sector_for.result.now) c.send_reply.result) status c.send_reply.ensures);
+          (subst (λ n. SendsBytes (g.W.Write.contents c.args.writer.now) (g.W.Write.contents c.send_reply.new.writer) (answer_bytes (op_code c.args.header.op) n c.args.header.tag c.sector_for.result.now) c.send_reply.result) status c.send_reply.ensures.sends);
     }

@@ -1,9 +1,9 @@
-use Rattle.std.proofs.Common.{◌≡◌, ◌∙◌, refl, rules}
+use Rattle.std.proofs.Common.{◌≡◌, ◌≤◌, ◌-◌, ◌^◌, ◌∙◌, arith, inr, refl, rules}
 use Rattle.std.proofs.lemmas.Result.{err_from_is_err_and}
 use Rattle.std.specs.Io.KnownBytes.{Appends}
 use Rattle.std.proofs.KnownBytes.{Appends-trans}
 use Rattle.promises.specs.declared.stream.End.TheVariants.{BadFrame}
-use Rattle.block_server.proofs.Serving.{serving_none, serving_more, stopped, finished, unfinished, never_next, never_last}
+use Rattle.block_server.proofs.Serving.{serving_none, serving_more, spent, stopped, finished, unfinished, never_next, never_last}
 use Rattle.block_server.proofs.server.serve_with.Goals as goal
 
 pub loop-replies-init : goal.loop-replies-init
@@ -57,3 +57,8 @@ pub returns-in_err-last-in-Some-clause-never : goal.returns-in_err-last-in-Some-
 returns-in_err-last-in-Some-clause-never g c =
     let p = err_from_is_err_and c.from_residual-in_err-last-in-Some.result c.from_residual-in_err-last-in-Some.ensures.1 in
     rw (p.1, p.2) (never_last c.in_err-last-in-Some.field-0.0 c.in_err-last-in-Some.ensures.sends.0)
+
+pub returns-clause-stops : goal.returns-clause-stops
+returns-clause-stops g c =
+    let counted : 2 ^ 64 - 1 ≤ c.loop-replies.replies = omega arith in
+    inr (refl, spent g.N.PageSource.view c.args.device.now c.loop-replies.device _ _ _ _ c.loop-replies.replies c.requires.device c.loop-replies.invariant.2 counted)

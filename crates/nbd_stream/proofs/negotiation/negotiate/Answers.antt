@@ -1,7 +1,7 @@
 use Rattle.std.proofs.Common.{Err, refl, sym, subst, ap, inl, inr}
 use Rattle.std.proofs.lemmas.Result.{err_from_is_err_and}
 use Rattle.request_stream.specs.declared.reply.ServeFault.{ServeFault}
-use Rattle.nbd_stream.specs.Streams.{HasStreamFailed}
+use Rattle.request_stream.specs.Streams.{HasStreamFailed}
 use Rattle.nbd_stream.proofs.StreamEnds.{stop_later}
 use Rattle.nbd_stream.proofs.negotiation.negotiate.Goals as goal
 

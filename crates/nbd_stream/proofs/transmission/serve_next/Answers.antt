@@ -1,6 +1,6 @@
 use Rattle.std.proofs.Common.{refl, subst, sym}
 use Rattle.std.proofs.lemmas.Result.{err_from_is_err_and}
-use Rattle.nbd_stream.specs.Streams.{HasStreamFailed}
+use Rattle.request_stream.specs.Streams.{HasStreamFailed}
 use Rattle.nbd_stream.proofs.ThroughLemmas.{joined, no_change, none}
 use Rattle.nbd_stream.proofs.Serving.{next_served, next_unsent}
 use Rattle.nbd_stream.proofs.transmission.serve_next.Goals as goal

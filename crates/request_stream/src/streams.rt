@@ -1,5 +1,7 @@
 //! The two streams of a client. Std's readers and writers have no word for a call that failed, nor for what was handed on: here they have.
-use request_stream::{Filled, ServeFault, fill, send};
+//! Each reader and each writer of std is one.
+use crate::reply::ServeFault;
+use crate::transfer::{Filled, fill, send};
 use std::io::{Read, Write};
 
 /// What a client sends.
