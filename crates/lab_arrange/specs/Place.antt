@@ -65,10 +65,10 @@ pub record IsFitting (g : Geometry) (a : Arrangement) : Type 0 where
   pub even : a.planes ≡ true → g.blocks % 2 ≡ 0
   pub cut : unwrap_or a.cut 0 ≤ image_bytes g
 
--- why a die does not stand so: the blocks are no pairs, or more is cut off
+-- why a die does not stand so: the blocks are no pairs, or they are and more is cut off
 abbrev pub IsUnfit : Geometry → Arrangement → UnfitFault → Type 0
 IsUnfit g a unfit.OddBlocks = (a.planes ≡ true) × (g.blocks % 2 ≡ 1)
-IsUnfit g a unfit.CutRange = image_bytes g < unwrap_or a.cut 0
+IsUnfit g a unfit.CutRange = (a.planes ≡ true → g.blocks % 2 ≡ 0) × (image_bytes g < unwrap_or a.cut 0)
 
 -- ---- what a byte was
 
