@@ -1,5 +1,5 @@
 -- What files that say no more answer was answered before.
-use Rattle.std.proofs.Common.{◌≡◌, ◌∙◌, ◌+◌, ◌*◌, ◌++◌, inl, inr, zero, suc, ℕ, Bool, true, false, List, [], ◌∷◌, ap, drop, length, refl, replicate, subst, sym, take}
+use Rattle.std.proofs.Common.{◌≡◌, ◌∙◌, ◌+◌, ◌++◌, inl, inr, zero, suc, ℕ, Bool, true, false, List, [], ◌∷◌, ap, drop, length, refl, replicate, subst, sym, take}
 use Rattle.std.specs.Borrow.{Bor}
 use Rattle.page_layout.specs.declared.geometry.Geometry.{Geometry}
 use Rattle.certificate.specs.Claim.{Claim}
@@ -12,7 +12,7 @@ use Rattle.page_layout.specs.Counter.{HasRisen}
 use Rattle.lost_sectors.specs.declared.fault.LostFault.{LostFault}
 use Rattle.lost_sectors.specs.declared.fault.LostFault.TheVariants as lost
 use Rattle.disk_commands.specs.Check.{IsUncheckedAt, unseen}
-use Rattle.std.specs.Prelude.{IfOk, Option, Result, if◌then◌else◌}
+use Rattle.std.specs.Prelude.{IfOk, Result, if◌then◌else◌}
 use Rattle.disk_damage.specs.Numbers.{with_commas}
 use Rattle.disk_commands.specs.declared.printed.Form.{Form}
 use Rattle.disk_commands.specs.declared.printed.Form.TheVariants.{Json}

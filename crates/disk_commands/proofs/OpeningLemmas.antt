@@ -1,12 +1,12 @@
 -- How a fault of a file is told.
-use Rattle.std.proofs.Common.{◌≡◌, ◌*◌, inl, inr, ℕ, Bool, List, refl, subst, sym}
+use Rattle.std.proofs.Common.{◌≡◌, inl, inr, ℕ, List, refl, subst, sym}
 use Rattle.std.specs.Borrow.{Bor}
 use Rattle.disk_commands.specs.declared.files.DiskFileFault.{DiskFileFault}
 use Rattle.disk_commands.specs.declared.files.DiskFileFault.TheVariants as file
 use Rattle.disk_commands.specs.declared.text.DiskCommandFault.{DiskCommandFault}
 use Rattle.disk_commands.specs.Files.{DiskFileAnswers, FailsCopy}
 use Rattle.disk_commands.specs.declared.shape_text.DiskText.{DiskText}
-use Rattle.disk_commands.specs.Opening.{file_bytes, IsCopyFault, IsFaultAt, IsNotAt, IsNotFree, IsShapeFault, IsStoreAt, IsTextAt, told_at, told_of_copy}
+use Rattle.disk_commands.specs.Opening.{file_bytes, IsCopyFault, IsFaultAt, IsNotAt, IsNotFree, IsShapeFault, IsTextAt, told_at, told_of_copy}
 
 pub fault_at : (a : DiskFileAnswers) (f : DiskFileFault) (path : Bor (List ℕ)) (wanted : ℕ) → a.fails path.now f → IsFaultAt a path.now wanted (told_at f path wanted)
 fault_at a file.Read path wanted h = (refl, h)

@@ -1,4 +1,4 @@
-use Rattle.std.proofs.Common.{◌≡◌, ℕ, Result, Ok, Err, inr, refl, sym, ap, ◌∙◌}
+use Rattle.std.proofs.Common.{◌≡◌, ℕ, Result, Ok, Err, inr, refl, sym, ◌∙◌}
 use Rattle.disk_commands.specs.declared.sizes.SizeWordFault.{SizeWordFault}
 use Rattle.disk_commands.proofs.asked.share_from.Goals as goal
 

@@ -1,4 +1,4 @@
-use Rattle.std.proofs.Common.{rules, ◌≡◌, ◌+◌, ℕ, List, replicate, arith}
+use Rattle.std.proofs.Common.{rules, ◌≡◌, ◌+◌, replicate, arith}
 use Rattle.disk_commands.proofs.BadLemmas.{mark_is}
 use Rattle.disk_commands.proofs.named_blocks.mark_page.Goals as goal
 

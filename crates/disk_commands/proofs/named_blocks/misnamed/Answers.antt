@@ -1,4 +1,4 @@
-use Rattle.std.proofs.Common.{inl, inr, refl, sym, subst, ◌∙◌, ◌≤◌, arith}
+use Rattle.std.proofs.Common.{inl, inr, sym, ◌∙◌, arith}
 use Rattle.disk_commands.proofs.BadLemmas.{all_right, first_wrong, found_again, none_before, one_right}
 use Rattle.disk_commands.proofs.named_blocks.misnamed.Goals.{then-block-blocks-via-then-block-blocks, then-block-blocks-via-else-block-blocks+then-contains}
 use Rattle.disk_commands.proofs.named_blocks.misnamed.Goals as goal

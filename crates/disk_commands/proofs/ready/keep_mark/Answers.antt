@@ -1,4 +1,4 @@
-use Rattle.std.proofs.Common.{inl, inr, refl, ◌∙◌}
+use Rattle.std.proofs.Common.{inl}
 use Rattle.disk_commands.proofs.OpeningLemmas.{told_fault}
 use Rattle.disk_commands.proofs.ready.keep_mark.Goals as goal
 

@@ -1,4 +1,4 @@
-use Rattle.std.proofs.Common.{◌≡◌, ◌<◌, ◌≤◌, ◌⊎◌, ◌%◌, ◌/◌, ◌*◌, ◌^◌, inl, inr, refl, sym, ap, subst, ◌∙◌, arith, rules}
+use Rattle.std.proofs.Common.{◌≡◌, ◌<◌, ◌/◌, ◌*◌, sym, ap, subst, ◌∙◌}
 use Rattle.disk_commands.proofs.SizeLemmas.{divided, no_part, out_of_range, ten_positive}
 use Rattle.disk_commands.proofs.sizes.amount.Goals as goal
 

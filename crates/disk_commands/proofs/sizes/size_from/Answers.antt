@@ -1,8 +1,8 @@
 use Rattle.std.proofs.Common.{◌≡◌, ◌≤◌, ◌<◌, ◌*◌, ◌^◌, ◌⊎◌, ◌++◌, inl, inr, ℕ, List, length, Option, Some, None, Result, Ok, Err, IfOk, refl, sym, ap, subst, ◌∙◌, arith, rules}
 use Rattle.disk_commands.specs.declared.sizes.SizeWordFault.{SizeWordFault}
 use Rattle.disk_commands.specs.declared.sizes.SizeWordFault.TheVariants as fault
-use Rattle.disk_commands.specs.Sizes.{SaysUnits, SpellsPart, SpellsSize, count_from, digits_behind_point, rest_of, suffix_of, unit_of, whole_of}
-use Rattle.disk_commands.proofs.SizeLemmas.{Parts, parts_of, same_amount, says_by, taken_apart}
+use Rattle.disk_commands.specs.Sizes.{SaysUnits, SpellsSize, count_from, digits_behind_point, rest_of, suffix_of, unit_of, whole_of}
+use Rattle.disk_commands.proofs.SizeLemmas.{parts_of, same_amount, says_by, taken_apart}
 use Rattle.disk_commands.proofs.sizes.size_from.Goals as goal
 
 -- what a word without digits, or with too many of them behind a point, says

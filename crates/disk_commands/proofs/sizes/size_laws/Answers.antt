@@ -1,7 +1,7 @@
 use Rattle.std.proofs.Common.{◌≡◌, ◌*◌, ◌^◌, Option, Some, refl, sym, ap, ◌∙◌}
 use Rattle.std.specs.Prelude.{ℕ, length}
 use Rattle.disk_commands.specs.Sizes.{SaysUnits}
-use Rattle.disk_commands.proofs.SizeLemmas.{Parts, parts_of, same_amount}
+use Rattle.disk_commands.proofs.SizeLemmas.{parts_of, same_amount}
 use Rattle.disk_commands.proofs.sizes.size_laws.Goals as goal
 
 -- a word's units are said in one way
