@@ -1,5 +1,5 @@
 -- What the command `array` comes to where it isn't done.
-use Rattle.std.proofs.Common.{inl, inr, ℕ, List, Option, Some, None}
+use Rattle.std.proofs.Common.{inl, inr, ℕ, false, List, Option, Some, None}
 use Rattle.std.specs.Prelude.{IsSomeAnd}
 use Rattle.std.specs.Borrow.{Bor}
 use Rattle.lab_commands.specs.declared.words.ArrayWords.{ArrayWords}
@@ -17,18 +17,18 @@ map_unasked_out a words file fault.OutOfMemory k = inl k
 map_unasked_out a words file (fault.Write word) k = inl k
 map_unasked_out a words file _ k = absurd k
 
-pub map_not_allowed : (a : StoreAnswers) (words : ArrayWords) (file : List ℕ) (told : LabFault) → MayNotWrite a words.dump.now file words.force told → IsMapNotAllowed a words file (as_map told)
-map_not_allowed a words file fault.IsDump k = k
-map_not_allowed a words file fault.Exists k = k
-map_not_allowed a words file fault.NoFile k = k
-map_not_allowed a words file fault.OutOfMemory (inl k) = inr (inl k)
-map_not_allowed a words file fault.OutOfMemory (inr (stands, k)) = inr (inr k)
-map_not_allowed a words file (fault.Write word) (inl k) = inr (inl k)
-map_not_allowed a words file (fault.Write word) (inr (stands, k)) = absurd k
-map_not_allowed a words file (fault.Read word) (inl k) = absurd k
-map_not_allowed a words file (fault.Read word) (inr (stands, k)) = inr (inr k)
-map_not_allowed a words file _ (inl k) = absurd k
-map_not_allowed a words file _ (inr (stands, k)) = absurd k
+pub map_not_allowed : (a : StoreAnswers) (words : ArrayWords) (file : List ℕ) (told : LabFault) → a.says_same words.out.now file false → MayNotWrite a words.dump.now file words.force told → IsMapNotAllowed a words file (as_map told)
+map_not_allowed a words file fault.IsDump other k = (other, k)
+map_not_allowed a words file fault.Exists other k = (other, k)
+map_not_allowed a words file fault.NoFile other k = (other, k)
+map_not_allowed a words file fault.OutOfMemory other (inl k) = inr (other, inl k)
+map_not_allowed a words file fault.OutOfMemory other (inr k) = inr (other, inr k)
+map_not_allowed a words file (fault.Write word) other (inl k) = inr (other, inl k)
+map_not_allowed a words file (fault.Write word) other (inr (stands, k)) = absurd k
+map_not_allowed a words file (fault.Read word) other (inl k) = absurd k
+map_not_allowed a words file (fault.Read word) other (inr k) = inr (other, inr k)
+map_not_allowed a words file _ other (inl k) = absurd k
+map_not_allowed a words file _ other (inr (stands, k)) = absurd k
 
 -- ---- the map
 

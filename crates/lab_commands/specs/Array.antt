@@ -14,7 +14,7 @@ use Rattle.lab_commands.specs.declared.words.ArrayWords.{ArrayWords}
 use Rattle.lab_commands.specs.declared.words.UntilWords.{UntilWords}
 use Rattle.lab_commands.specs.declared.text.LabFault.{LabFault}
 use Rattle.lab_commands.specs.declared.text.LabFault.TheVariants as fault
-use Rattle.lab_commands.specs.Files.{IsFileOpened, Store, StoreAnswers, with_kept}
+use Rattle.lab_commands.specs.Files.{IsFileOpened, StandsAtPath, Store, StoreAnswers, with_kept}
 use Rattle.lab_commands.specs.Numbers.{IsLastAt, IsNoLast}
 use Rattle.lab_commands.specs.Undone.{IsGeometryAt, IsHalfPrinted, IsNoGeometry, IsMapUnplaced, IsFileUnmade, IsUnplaced, IsUnread, IsUnroomed, IsUnwritten, LeavesAll, MayNotWrite, MayWrite, form_of_showing}
 
@@ -89,13 +89,13 @@ as_map told = told
 abbrev pub IsNotAllowed : StoreAnswers → ArrayWords → LabFault → Type 0
 IsNotAllowed a words told = MayNotWrite a words.dump.now words.out.now words.force told
 
--- FILE is OUT, or the dump, or may not be replaced; or they could not be asked
+-- FILE is OUT; or it is not, and is the dump, or may not be replaced; or they could not be asked
 abbrev pub IsMapNotAllowed : StoreAnswers → ArrayWords → List ℕ → LabFault → Type 0
 IsMapNotAllowed a words file fault.MapIsOut = a.says_same words.out.now file true
-IsMapNotAllowed a words file fault.MapIsDump = MayNotWrite a words.dump.now file words.force fault.IsDump
-IsMapNotAllowed a words file fault.MapExists = MayNotWrite a words.dump.now file words.force fault.Exists
-IsMapNotAllowed a words file fault.MapNoFile = MayNotWrite a words.dump.now file words.force fault.NoFile
-IsMapNotAllowed a words file told = IsUnwritten a words.out.now told ⊎ IsUnwritten a file told ⊎ IsUnread a words.dump.now told
+IsMapNotAllowed a words file fault.MapIsDump = a.says_same words.out.now file false × MayNotWrite a words.dump.now file words.force fault.IsDump
+IsMapNotAllowed a words file fault.MapExists = a.says_same words.out.now file false × MayNotWrite a words.dump.now file words.force fault.Exists
+IsMapNotAllowed a words file fault.MapNoFile = a.says_same words.out.now file false × MayNotWrite a words.dump.now file words.force fault.NoFile
+IsMapNotAllowed a words file told = IsUnwritten a words.out.now told ⊎ (a.says_same words.out.now file false × (IsUnwritten a file told ⊎ (StandsAtPath a file × IsUnread a words.dump.now told)))
 
 -- a map is wanted, and FILE may not be written
 abbrev pub HasMapFault : StoreAnswers → ArrayWords → LabFault → Type 0

@@ -150,7 +150,7 @@ fn place<'a, F: LabFiles>(
 /// The first of this order: `BadNumber` where GEOM writes no numbers, `Geometry` where they are no geometry, or `SpareSize` where the chip's spare area
 /// with the codes would have more than 256 bytes, `IsDump` where OUT is the dump, `Exists` where something stands at OUT and is not to be replaced,
 /// `NoFile` where that is neither a file nor a link to one, `MapIsOut`, `MapIsDump`, `MapExists` or `MapNoFile` where FILE is OUT or the dump, or so,
-/// `OutOfMemory` where a growth was refused, `Read` where DUMP cannot be opened, `Write` where no file can be made beside OUT; then each when it
+/// `Write` of FILE where it cannot be asked about, `OutOfMemory` where a growth was refused, `Read` where DUMP cannot be opened, `Write` where no file can be made beside OUT; then each when it
 /// happens: `Read` where a read of DUMP fails, `WrongLength` where it has not as many bytes as the chip's geometry says, `Write` where OUT cannot be
 /// written or put in its place, `Exists` where another program gave its name to a file meanwhile and it is not to be replaced. After each of these OUT
 /// and FILE are as they were, nothing stands beside them, and nothing was printed. `Write` of FILE, `MapExists`, or `OutOfMemory` of the files, where FILE

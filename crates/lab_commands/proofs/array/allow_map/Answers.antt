@@ -1,4 +1,4 @@
-use Rattle.std.proofs.Common.{sym, subst, ◌∙◌}
+use Rattle.std.proofs.Common.{false, sym, subst, ◌∙◌}
 use Rattle.lab_commands.specs.Array.{IsMapNotAllowed}
 use Rattle.lab_commands.specs.Undone.{MayNotWrite, MayWrite}
 use Rattle.lab_commands.proofs.ArrayLemmas.{map_not_allowed, map_unasked_out}
@@ -24,5 +24,6 @@ returns-in-Err g c =
     let words = c.args.words.now in
     let file = c.args.file.now in
     let told = c.in-Err.fault in
-    let why = map_not_allowed a words file told (subst (λ f. MayNotWrite (g.F.LabFiles.answers f) words.dump.now file words.force told) c.is_out.ensures.same c.in-Err.ensures.fault) in
+    let other : a.says_same words.out.now file false = subst (λ same. a.says_same words.out.now file same) c.if-branch.false c.in_ok-is_out.ensures.said in
+    let why = map_not_allowed a words file told other (subst (λ f. MayNotWrite (g.F.LabFiles.answers f) words.dump.now file words.force told) c.is_out.ensures.same c.in-Err.ensures.fault) in
     record { other = tt; ok = tt; fault = subst (λ it. IsMapNotAllowed a words file it) (sym c.as_map.ensures) why; same = c.allow.ensures.same ∙ c.is_out.ensures.same }
