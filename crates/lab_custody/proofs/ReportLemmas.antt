@@ -1,11 +1,12 @@
 -- What a report says of files, one after another.
-use Rattle.std.proofs.Common.{◌≡◌, ◌⊎◌, inl, inr, ℕ, zero, suc, ◌+◌, ◌<◌, List, [], ◌∷◌, ◌++◌, length, map, take, get_or, Bool, false, below_more, Option, refl, sym, ap, subst, ◌∙◌, arith}
+use Rattle.std.proofs.Common.{◌≡◌, ◌⊎◌, inl, inr, ℕ, zero, suc, ◌+◌, ◌<◌, List, [], ◌∷◌, ◌++◌, length, map, take, get_or, Bool, true, false, below_more, Option, refl, sym, ap, subst, ◌∙◌, arith}
 use Rattle.std.specs.Prelude.{Result, Ok, Err, IfErr}
 use Rattle.std.specs.Result.{IsErrAnd}
 use Rattle.std.specs.Borrow.{Bor}
-use Rattle.std.proofs.lemmas.List.{get_or-map, length-map, map-append, take_more}
+use Rattle.std.proofs.lemmas.List.{get_or-map, length-map, map-append, take-map, take_more}
 use Rattle.program_words.specs.Met.{texts}
 use Rattle.lab_commands.specs.declared.files.LabFileFault.TheVariants as file
+use Rattle.lab_commands.specs.declared.files.Standing.TheVariants as standing
 use Rattle.lab_commands.specs.declared.text.LabFault.{LabFault}
 use Rattle.lab_commands.specs.declared.text.LabFault.TheVariants as lab
 use Rattle.lab_commands.specs.Files.{AnswersNoMore, Store, StoreAnswers}
@@ -14,7 +15,7 @@ use Rattle.lab_report.specs.declared.note.Noted.{Noted}
 use Rattle.lab_report.specs.Note.{Note, noted_of}
 use Rattle.lab_custody.specs.declared.fault.CustodyFault.{CustodyFault}
 use Rattle.lab_custody.specs.declared.fault.CustodyFault.TheVariants as fault
-use Rattle.lab_custody.specs.Reported.{AreNoted, IsFileNoted, IsSomeUnnoted, IsUnnoted, IsReportUnstored}
+use Rattle.lab_custody.specs.Reported.{AreNoted, AreOthersBelow, HasAskingFailed, IsFileNoted, IsSomeUnnoted, IsUnnoted, IsReportUnstored, MayNotReport}
 use Rattle.lab_custody.proofs.CheckLemmas.{unread_before}
 
 -- a fault that a `?` hands on
@@ -61,13 +62,15 @@ path_in [] i d within = absurd (omega arith)
 path_in (p ∷ ps) zero d within = refl
 path_in (p ∷ ps) (suc i) d within = path_in ps i d (omega arith)
 
--- one that is not noted
-pub some_unnoted : (a b : StoreAnswers) (paths : List (Bor (List ℕ))) (i : ℕ) (d : Bor (List ℕ)) (told : CustodyFault) → i < length paths → AnswersNoMore a b → IsUnnoted b (get_or paths i d).now told → IsSomeUnnoted a (texts paths) told
-some_unnoted a b paths i d told within h k =
+-- the first one that is not noted
+pub some_unnoted : (a b : StoreAnswers) (kept : Option Store) (paths : List (Bor (List ℕ))) (i : ℕ) (d : Bor (List ℕ)) (notes : List Note) (told : CustodyFault) → i < length paths → AnswersNoMore a b → AreNoted a kept (texts (take i paths)) notes
+    → IsUnnoted b (get_or paths i d).now told → IsSomeUnnoted a kept (texts paths) told
+some_unnoted a b kept paths i d notes told within h before k =
     let size : length (texts paths) ≡ length paths = length-map paths (λ (w : Bor (List ℕ)). w.now) in
     let inside : i < length (texts paths) = omega arith in (
       i,
       inside,
+      (notes, subst (λ ps. AreNoted a kept ps notes) (sym (take-map (λ (w : Bor (List ℕ)). w.now) i paths)) before),
       subst (λ path. IsUnnoted a path told) (sym (path_in paths i d within)) (unnoted_before a b (get_or paths i d).now told h k),
     )
 
@@ -76,6 +79,34 @@ unstored_before a b path fault.ReportExists h k = h.taken_same path k
 unstored_before a b path (fault.Lab (lab.Write word)) h k = (k.0, h.fails_same path file.Failed k.1)
 unstored_before a b path (fault.Lab lab.OutOfMemory) h k = tt
 unstored_before a b path _ h k = absurd k
+
+-- ---- whether it may be written
+
+-- a file that is to be written could not be asked about
+unasked_written : (a : StoreAnswers) (path : List ℕ) (wrote : List (List ℕ)) (i : ℕ) (told : CustodyFault) → i < length wrote → a.says path standing.Nothing → AreOthersBelow a path wrote i → HasAskingFailed a (get_or wrote i []) told → MayNotReport a path wrote told
+unasked_written a path wrote i (fault.Lab (lab.Write word)) within free before k = inr (free, (i, within, before, k))
+unasked_written a path wrote i (fault.Lab lab.OutOfMemory) within free before k = inr (free, (i, within, before, k))
+unasked_written a path wrote i _ within free before k = absurd k
+
+pub unasked_in : {F : Type 0} (answers : F → StoreAnswers) (old now : F) (paths : List (Bor (List ℕ))) (i : ℕ) (d : Bor (List ℕ)) (file : List ℕ) (told : CustodyFault) → now ≡ old → i < length paths → d ≡ get_or paths i d
+    → (answers old).says file standing.Nothing → AreOthersBelow (answers old) file (texts paths) i → HasAskingFailed (answers now) d.now told → MayNotReport (answers old) file (texts paths) told
+unasked_in answers old now paths i d file told same within at free before k =
+    let size : length (texts paths) ≡ length paths = length-map paths (λ (w : Bor (List ℕ)). w.now) in
+    let inside : i < length (texts paths) = omega arith in
+    let there : get_or (texts paths) i [] ≡ d.now = path_in paths i d within ∙ ap (λ (w : Bor (List ℕ)). w.now) (sym at) in
+    unasked_written (answers old) file (texts paths) i told inside free before
+    (subst (λ path. HasAskingFailed (answers old) path told) (sym there) (subst (λ f. HasAskingFailed (answers f) d.now told) same k))
+
+-- one is the file of the report
+pub written_at : {F : Type 0} (answers : F → StoreAnswers) (old now : F) (paths : List (Bor (List ℕ))) (i : ℕ) (d : Bor (List ℕ)) (file : List ℕ) (b : Bool) → now ≡ old → i < length paths → d ≡ get_or paths i d → b ≡ true
+    → (answers now).says_same d.now file b → AreOthersBelow (answers old) file (texts paths) i
+    → (k : ℕ) × (k < length (texts paths)) × AreOthersBelow (answers old) file (texts paths) k × (answers old).says_same (get_or (texts paths) k []) file true
+written_at answers old now paths i d file b same within at is said before =
+    let size : length (texts paths) ≡ length paths = length-map paths (λ (w : Bor (List ℕ)). w.now) in
+    let inside : i < length (texts paths) = omega arith in
+    let there : get_or (texts paths) i [] ≡ d.now = path_in paths i d within ∙ ap (λ (w : Bor (List ℕ)). w.now) (sym at) in
+    let here : (answers old).says_same d.now file true = subst (λ v. (answers old).says_same d.now file v) is (subst (λ f. (answers f).says_same d.now file b) same said) in
+    (i, inside, before, subst (λ path. (answers old).says_same path file true) (sym there) here)
 
 -- one more file that is not that of the report
 pub others_more : {F : Type 0} (answers : F → StoreAnswers) (old now : F) (paths : List (Bor (List ℕ))) (i : ℕ) (d : Bor (List ℕ)) (file : List ℕ) (b : Bool) → now ≡ old → i < length paths → d ≡ get_or paths i d → b ≡ false

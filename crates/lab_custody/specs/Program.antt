@@ -1,9 +1,9 @@
 -- What a run of the program comes to.
-use Rattle.std.specs.Prelude.{◌≡◌, ◌≢◌, ◌⊎◌, ℕ, Bool, false, List, [], ◌∷◌, Option, Some}
+use Rattle.std.specs.Prelude.{◌≡◌, ◌≢◌, ◌⊎◌, ℕ, Bool, false, List, [], ◌∷◌, length, Option, Some}
 use Rattle.std.specs.Io.KnownBytes.{Keeps}
 use Rattle.program_words.specs.Met.{texts}
 use Rattle.lab_commands.specs.declared.text.LabFault.TheVariants as lab
-use Rattle.lab_commands.specs.Files.{AnswersNoMore, Store, StoreAnswers, with_kept}
+use Rattle.lab_commands.specs.Files.{AnswersNoMore, Store, StoreAnswers, after_opens, with_kept}
 use Rattle.lab_commands.specs.Program.{LabCommandRuns, Written}
 use Rattle.lab_report.specs.Note.{Note}
 use Rattle.lab_report.specs.Written.{report_text}
@@ -21,43 +21,45 @@ use Rattle.lab_custody.specs.Words.{IsCustody}
 -- ---- a report
 
 -- why a command was not begun: no report may be written, memory was refused before a file was opened, or a file that it reads cannot be read
-abbrev pub IsCommandUnbegun : StoreAnswers → ReportedWords → (opens opened : Option ℕ) → CustodyFault → Type 0
-IsCommandUnbegun a asked opens opened told =
+abbrev pub IsCommandUnbegun : StoreAnswers → Option Store → ReportedWords → (opens opened : Option ℕ) → CustodyFault → Type 0
+IsCommandUnbegun a kept asked opens opened told =
     MayNotReport a asked.file.now (texts asked.wrote.items) told
-    ⊎ (MayReport a asked.file.now (texts asked.wrote.items) × (((told ≡ fault.Lab lab.OutOfMemory) × (opened ≡ opens)) ⊎ IsSomeUnnoted a (texts asked.read.items) told))
+    ⊎ (MayReport a asked.file.now (texts asked.wrote.items) × (((told ≡ fault.Lab lab.OutOfMemory) × (opened ≡ opens)) ⊎ IsSomeUnnoted a kept (texts asked.read.items) told))
 
 -- why no report was written of one that was done: a file that it wrote cannot be read, or the report was not stored
-abbrev pub IsUnfinished : StoreAnswers → ReportedWords → CustodyFault → Type 0
-IsUnfinished a asked told = IsSomeUnnoted a (texts asked.wrote.items) told ⊎ IsReportUnstored a asked.file.now told
+abbrev pub IsUnfinished : StoreAnswers → Option Store → ReportedWords → CustodyFault → Type 0
+IsUnfinished a kept asked told = IsSomeUnnoted a kept (texts asked.wrote.items) told ⊎ IsReportUnstored a asked.file.now told
 
--- the report was put in its place, over no file: it says these words, these files that were read, and those that were written as they were put in their places
-pub record WroteReport (a : StoreAnswers) (words : List (List ℕ)) (asked : ReportedWords) (read : List Note) (before after : Option Store) : Type 0 where
+-- the report was put in its place, over no file: it says these words, these files that were read, and those that were written, each opened once, as they were put in their places
+pub record WroteReport (a : StoreAnswers) (words : List (List ℕ)) (asked : ReportedWords) (read : List Note) (before after : Option Store) (opens opened : Option ℕ) : Type 0 where
   pub wrote : List Note
   pub noted : AreNoted a before (texts asked.wrote.items) wrote
+  pub once : opened ≡ after_opens (length asked.wrote.items) opens
   pub stored : after ≡ with_kept before asked.file.now (Some (report_text (told_of_run words read wrote) ∷ [])) false
 
 -- ---- a command with its report, by what the files answer, which of them were put in their places, and how many were opened
 
--- THE FILES WERE NOTED, AND THEN THE COMMAND RAN OVER FILES THAT MAY ANSWER NOTHING NEW
-pub record HasBegun {F : Type 0} (answers : F → StoreAnswers) (kept : F → Option Store) (asked : ReportedWords) (old begun : F) (read : List Note) : Type 0 where
+-- THE FILES WERE NOTED, EACH OPENED ONCE, AND THEN THE COMMAND RAN OVER FILES THAT MAY ANSWER NOTHING NEW
+pub record HasBegun {F : Type 0} (answers : F → StoreAnswers) (kept : F → Option Store) (opened : F → Option ℕ) (asked : ReportedWords) (old begun : F) (read : List Note) : Type 0 where
   pub may : MayReport (answers old) asked.file.now (texts asked.wrote.items)
   pub noted : AreNoted (answers old) (kept old) (texts asked.read.items) read
   pub no_more : AnswersNoMore (answers old) (answers begun)
   pub same : kept begun ≡ kept old
+  pub once : opened begun ≡ after_opens (length asked.read.items) (opened old)
 
 -- all was done, and the report was put in its place
 pub record HasReported {F : Type 0} (answers : F → StoreAnswers) (kept : F → Option Store) (opened : F → Option ℕ) (words : List (List ℕ)) (asked : ReportedWords) (old new : F) (out err : Written) : Type 0 where
   pub begun : F
   pub done : F
   pub read : List Note
-  pub begins : HasBegun answers kept asked old begun read
+  pub begins : HasBegun answers kept opened asked old begun read
   pub ran : LabCommandRuns (answers begun) words (kept begun) (kept done) (opened begun) (opened done) out err 0
-  pub wrote : WroteReport (answers done) words asked read (kept done) (kept new)
+  pub wrote : WroteReport (answers done) words asked read (kept done) (kept new) (opened done) (opened new)
 
 -- it was not begun, and nothing was done
 pub record IsNotBegun {F : Type 0} (answers : F → StoreAnswers) (kept : F → Option Store) (opened : F → Option ℕ) (asked : ReportedWords) (old new : F) (out err : Written) (status : ℕ) : Type 0 where
   pub why : CustodyFault
-  pub is : IsCommandUnbegun (answers old) asked (opened old) (opened new) why
+  pub is : IsCommandUnbegun (answers old) (kept old) asked (opened old) (opened new) why
   pub same : kept new ≡ kept old
   pub silent : Keeps out.before out.after
   pub told : IsCustodyFaultTold why err.broke err.before err.after status
@@ -66,7 +68,7 @@ pub record IsNotBegun {F : Type 0} (answers : F → StoreAnswers) (kept : F → 
 pub record IsNotDone {F : Type 0} (answers : F → StoreAnswers) (kept : F → Option Store) (opened : F → Option ℕ) (words : List (List ℕ)) (asked : ReportedWords) (old new : F) (out err : Written) (status : ℕ) : Type 0 where
   pub begun : F
   pub read : List Note
-  pub begins : HasBegun answers kept asked old begun read
+  pub begins : HasBegun answers kept opened asked old begun read
   pub ran : LabCommandRuns (answers begun) words (kept begun) (kept new) (opened begun) (opened new) out err status
   pub failed : status ≢ 0
 
@@ -76,11 +78,11 @@ pub record IsNotReported {F : Type 0} (answers : F → StoreAnswers) (kept : F �
   pub done : F
   pub read : List Note
   pub said : Written
-  pub begins : HasBegun answers kept asked old begun read
+  pub begins : HasBegun answers kept opened asked old begun read
   pub ran : LabCommandRuns (answers begun) words (kept begun) (kept done) (opened begun) (opened done) out said 0
   pub first : said.before ≡ err.before
   pub why : CustodyFault
-  pub is : IsUnfinished (answers done) asked why
+  pub is : IsUnfinished (answers done) (kept done) asked why
   pub same : kept new ≡ kept done
   pub told : IsCustodyFaultTold why err.broke said.after err.after status
 

@@ -1,5 +1,5 @@
 -- A command whose run is told in a report.
-use Rattle.std.specs.Prelude.{◌≡◌, ◌≢◌, ◌⊎◌, ◌<◌, ℕ, true, false, All, List, [], ◌∷◌, codes, length, get_or, Option, Some, IfSome}
+use Rattle.std.specs.Prelude.{◌≡◌, ◌≢◌, ◌⊎◌, ◌<◌, ℕ, true, false, All, List, [], ◌∷◌, codes, length, get_or, take, Option, Some, IfSome}
 use Rattle.program_words.specs.Grammar.{version_text}
 use Rattle.lab_commands.specs.declared.files.LabFileFault.TheVariants as file
 use Rattle.lab_commands.specs.declared.files.Standing.TheVariants as standing
@@ -18,16 +18,20 @@ HasAskingFailed a path (fault.Lab (lab.Write told)) = (told.now ≡ path) × a.f
 HasAskingFailed a path (fault.Lab lab.OutOfMemory) = a.fails path file.OutOfMemory
 HasAskingFailed a path _ = ⊥
 
+-- of the files that the command writes the first ones are others, of which there are so many
+abbrev pub AreOthersBelow : StoreAnswers → List ℕ → List (List ℕ) → ℕ → Type 0
+AreOthersBelow a path wrote n = (i : ℕ) → i < n → a.says_same (get_or wrote i []) path false
+
 -- nothing stands at its path, and it is none of the files that the command writes
 pub record MayReport (a : StoreAnswers) (path : List ℕ) (wrote : List (List ℕ)) : Type 0 where
   pub free : a.says path standing.Nothing
-  pub others : (i : ℕ) → i < length wrote → a.says_same (get_or wrote i []) path false
+  pub others : AreOthersBelow a path wrote (length wrote)
 
--- something stands there, or it is one of them, or they could not be asked
+-- something stands there; or nothing does, and it is one of them; or they could not be asked, one after another
 abbrev pub MayNotReport : StoreAnswers → List ℕ → List (List ℕ) → CustodyFault → Type 0
 MayNotReport a path wrote fault.ReportExists = StandsAtPath a path
-MayNotReport a path wrote fault.ReportIsOut = (i : ℕ) × (i < length wrote) × a.says_same (get_or wrote i []) path true
-MayNotReport a path wrote told = HasAskingFailed a path told ⊎ ((i : ℕ) × (i < length wrote) × HasAskingFailed a (get_or wrote i []) told)
+MayNotReport a path wrote fault.ReportIsOut = a.says path standing.Nothing × ((i : ℕ) × (i < length wrote) × AreOthersBelow a path wrote i × a.says_same (get_or wrote i []) path true)
+MayNotReport a path wrote told = HasAskingFailed a path told ⊎ (a.says path standing.Nothing × ((i : ℕ) × (i < length wrote) × AreOthersBelow a path wrote i × HasAskingFailed a (get_or wrote i []) told))
 
 -- ---- what it says of files
 
@@ -53,8 +57,9 @@ IsUnnoted a path (fault.Lab (lab.Read told)) = (told.now ≡ path) × IsNotReadW
 IsUnnoted a path (fault.Lab lab.OutOfMemory) = a.fails path file.OutOfMemory
 IsUnnoted a path _ = ⊥
 
-abbrev pub IsSomeUnnoted : StoreAnswers → List (List ℕ) → CustodyFault → Type 0
-IsSomeUnnoted a paths told = (i : ℕ) × (i < length paths) × IsUnnoted a (get_or paths i []) told
+-- THE FIRST OF THESE FILES that was not: each one before it was noted
+abbrev pub IsSomeUnnoted : StoreAnswers → Option Store → List (List ℕ) → CustodyFault → Type 0
+IsSomeUnnoted a kept paths told = (i : ℕ) × (i < length paths) × ((notes : List Note) × AreNoted a kept (take i paths) notes) × IsUnnoted a (get_or paths i []) told
 
 -- ---- the report
 

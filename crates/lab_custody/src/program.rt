@@ -1,7 +1,7 @@
 //! The program's commands, with reports and the command that reads them again.
 ghost use Rattle.std.specs.Prelude.{◌≡◌, ◌<◌, ◌≤◌, [], length, map, vec_capacity, IfOk, IfErr, OnOk, OnErr};
 ghost use Rattle.program_words.specs.Met.{texts};
-ghost use Rattle.lab_commands.specs.Files.{AnswersNoMore};
+ghost use Rattle.lab_commands.specs.Files.{AnswersNoMore, after_opens};
 ghost use Rattle.lab_report.specs.Note.{noted_of};
 ghost use Rattle.lab_custody.specs.Program.{IsRun, IsRunReported, IsCommandUnbegun, IsUnfinished, WroteReport};
 ghost use Rattle.lab_custody.specs.Reported.{AreNoted, IsSomeUnnoted, MayReport};
@@ -25,7 +25,8 @@ fn note_read<'a, F: LabFiles>(
     requires none { notes.old.read.items ≡ [] }
     requires places { length asked.now.read.items ≤ vec_capacity notes.old.read }
     ensures noted { OnOk result (AreNoted (F.answers files.old) (F.kept files.old) (texts asked.now.read.items) (map noted_of notes.new.read.items)) }
-    ensures fault { IfErr result (IsSomeUnnoted (F.answers files.old) (texts asked.now.read.items)) }
+    ensures fault { IfErr result (IsSomeUnnoted (F.answers files.old) (F.kept files.old) (texts asked.now.read.items)) }
+    ensures once { OnOk result (F.opened files.new ≡ after_opens (length asked.now.read.items) (F.opened files.old)) }
     ensures no_more { AnswersNoMore (F.answers files.old) (F.answers files.new) }
     ensures kept { F.kept files.new ≡ F.kept files.old }
     ensures buffer { 0 < length notes.new.buffer.items }
@@ -45,7 +46,8 @@ fn begin<'a, F: LabFiles>(
     ensures buffer { IfOk result (λ notes. 0 < length notes.buffer.items) }
     ensures none { IfOk result (λ notes. notes.wrote.items ≡ []) }
     ensures places { IfOk result (λ notes. length asked.now.wrote.items ≤ vec_capacity notes.wrote) }
-    ensures fault { IfErr result (IsCommandUnbegun (F.answers files.old) asked.now (F.opened files.old) (F.opened files.new)) }
+    ensures once { OnOk result (F.opened files.new ≡ after_opens (length asked.now.read.items) (F.opened files.old)) }
+    ensures fault { IfErr result (IsCommandUnbegun (F.answers files.old) (F.kept files.old) asked.now (F.opened files.old) (F.opened files.new)) }
     ensures no_more { AnswersNoMore (F.answers files.old) (F.answers files.new) }
     ensures kept { F.kept files.new ≡ F.kept files.old }
 {
@@ -71,8 +73,8 @@ fn finish<'a, F: LabFiles>(
     requires buffer { 0 < length notes.old.buffer.items }
     requires none { notes.old.wrote.items ≡ [] }
     requires places { length asked.now.wrote.items ≤ vec_capacity notes.old.wrote }
-    ensures ok { OnOk result (WroteReport (F.answers files.old) (texts words.now) asked.now (map noted_of notes.old.read.items) (F.kept files.old) (F.kept files.new)) }
-    ensures fault { IfErr result (IsUnfinished (F.answers files.old) asked.now) }
+    ensures ok { OnOk result (WroteReport (F.answers files.old) (texts words.now) asked.now (map noted_of notes.old.read.items) (F.kept files.old) (F.kept files.new) (F.opened files.old) (F.opened files.new)) }
+    ensures fault { IfErr result (IsUnfinished (F.answers files.old) (F.kept files.old) asked.now) }
     ensures kept { OnErr result (F.kept files.new ≡ F.kept files.old) }
 {
     match note_files(files, &asked.wrote, &mut notes.buffer, &mut notes.wrote) {

@@ -1,7 +1,7 @@
 //! A command whose run is told in a report: the files that it reads are hashed before it runs, and those that it wrote are read once more.
-ghost use Rattle.std.specs.Prelude.{◌≡◌, ◌<◌, ◌≤◌, ◌∷◌, [], false, length, map, vec_capacity, Some, IfOk, IfErr, OnOk, OnErr};
+ghost use Rattle.std.specs.Prelude.{◌≡◌, ◌<◌, ◌≤◌, ◌∷◌, [], false, suc, length, map, option_map, vec_capacity, Some, IfOk, IfErr, OnOk, OnErr};
 ghost use Rattle.program_words.specs.Met.{texts};
-ghost use Rattle.lab_commands.specs.Files.{AnswersNoMore, with_kept};
+ghost use Rattle.lab_commands.specs.Files.{AnswersNoMore, after_opens, with_kept};
 ghost use Rattle.lab_report.specs.Note.{named_as, noted_of};
 ghost use Rattle.lab_report.specs.Written.{report_text};
 ghost use Rattle.lab_custody.specs.Reported.{AreNoted, HasAskingFailed, IsFileNoted, IsSomeUnnoted, IsUnnoted, IsReportUnstored, MayNotReport, MayReport, told_of_run};
@@ -119,6 +119,7 @@ fn note_file<'a, F: LabFiles>(
     ensures fault { IfErr result (IsUnnoted (F.answers files.old) path.now) }
     ensures no_more { AnswersNoMore (F.answers files.old) (F.answers files.new) }
     ensures kept { F.kept files.new ≡ F.kept files.old }
+    ensures opened { OnOk result (F.opened files.new ≡ option_map suc (F.opened files.old)) }
 {
     // what is no file may not give its bytes twice
     match files.standing(path) {
@@ -139,7 +140,7 @@ fn note_file<'a, F: LabFiles>(
     }
 }
 
-/// What a report says of files, one after another. There is room for it, and the buffer is scratch.
+/// What a report says of files, one after another, each opened once. There is room for it, and the buffer is scratch.
 ///
 /// # Errors
 ///
@@ -154,9 +155,10 @@ pub(crate) fn note_files<'a, F: LabFiles>(
     requires none { notes.old.items ≡ [] }
     requires places { length paths.now ≤ vec_capacity notes.old }
     ensures noted { OnOk result (AreNoted (F.answers files.old) (F.kept files.old) (texts paths.now) (map noted_of notes.new.items)) }
-    ensures fault { IfErr result (IsSomeUnnoted (F.answers files.old) (texts paths.now)) }
+    ensures fault { IfErr result (IsSomeUnnoted (F.answers files.old) (F.kept files.old) (texts paths.now)) }
     ensures no_more { AnswersNoMore (F.answers files.old) (F.answers files.new) }
     ensures kept { F.kept files.new ≡ F.kept files.old }
+    ensures once { OnOk result (F.opened files.new ≡ after_opens (length paths.now) (F.opened files.old)) }
 {
     for place in 0..paths.len() {
         let name = paths[place];
@@ -183,6 +185,7 @@ pub(crate) fn store_report<'a, F: LabFiles>(
     ensures stored { OnOk result (F.kept files.new ≡ with_kept (F.kept files.old) file.now (Some (report_text (told_of_run (texts words.now) (map noted_of read.now) (map noted_of wrote.now)) ∷ [])) false) }
     ensures fault { IfErr result (IsReportUnstored (F.answers files.old) file.now) }
     ensures kept { OnErr result (F.kept files.new ≡ F.kept files.old) }
+    ensures opened { F.opened files.new ≡ F.opened files.old }
 {
     let run = Run {
         program: PROGRAM,

@@ -14,7 +14,7 @@ returns g c =
       done = done;
       read = map noted_of c.in-Ok.notes.read.items;
       said = record { before = g.E.Output.contents c.args.err.now; after = g.E.Output.contents c.run-status.new.err; broke = g.E.Output.failed c.run-status.new.err };
-      begins = record { may = c.in-Ok.ensures.may; noted = c.in-Ok.ensures.noted; no_more = c.in-Ok.ensures.no_more; same = c.in-Ok.ensures.kept };
+      begins = record { may = c.in-Ok.ensures.may; noted = c.in-Ok.ensures.noted; no_more = c.in-Ok.ensures.no_more; same = c.in-Ok.ensures.kept; once = c.in-Ok.ensures.once };
       ran =
           subst (λ (status : ℕ). LabCommandRuns (g.F.LabFiles.answers begun) (texts c.args.words.now) (g.F.LabFiles.kept begun) (g.F.LabFiles.kept done) (g.F.LabFiles.opened begun) (g.F.LabFiles.opened done)
           (record { before = g.W.Output.contents c.args.out.now; after = g.W.Output.contents c.run-status.new.out; broke = g.W.Output.failed c.run-status.new.out })
