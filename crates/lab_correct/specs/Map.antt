@@ -1,5 +1,6 @@
 -- The map of a corrected dump: which rows of it have lost chunks, as the mapfile of GNU ddrescue says it.
-use Rattle.std.specs.Prelude.{ℕ, zero, suc, ◌+◌, ◌-◌, ◌*◌, nat_le, ◌==◌, if◌then◌else◌, List, [], ◌∷◌, ◌++◌, length, map, get_or}
+use Rattle.std.specs.Prelude.{◌≡◌, ℕ, zero, suc, ◌+◌, ◌-◌, ◌*◌, ◌<◌, nat_le, ◌==◌, if◌then◌else◌, false, List, [], ◌∷◌, ◌++◌, codes, length, map, get_or}
+use Rattle.std.specs.Fmt.{digits}
 use Rattle.page_layout.specs.declared.geometry.Geometry.{Geometry}
 use Rattle.page_layout.specs.Geometry.{page_bytes, row_count}
 use Rattle.lab_dump.specs.declared.map_head.Remark.TheVariants.{Dump}
@@ -33,3 +34,16 @@ parts_below size losses (suc n) = parts_below size losses n ++ loss_text size (n
 abbrev pub loss_map_text : Geometry → List Loss → List ℕ
 loss_map_text g losses =
     map_head Dump ++ (parts_below (page_bytes g) losses (length losses) ++ rows_text (page_bytes g) (next_row losses (length losses)) (row_count g) Finished)
+
+-- ---- the law
+
+-- a line of so many bytes, from a position on, that ends with this status
+abbrev pub status_text : ℕ → ℕ → List ℕ → List ℕ
+status_text position size status = (codes "0x" ++ (digits 16 false position ++ (codes " 0x" ++ (digits 16 false size ++ (codes " " ++ status))))) ++ (10 ∷ [])
+
+-- A LOST ROW HAS A LINE WITH `-`, of its bytes alone, and behind the last one before it the rows between have one with `+`, where there are some. Of a dump that lost none there is
+-- one line, `+`, of all its bytes.
+pub record LossMapLaw : Type 0 where
+  pub behind : (size next row : ℕ) → next < row → loss_text size next row ≡ status_text (next * size) ((row - next) * size) (codes "+") ++ status_text (row * size) size (codes "-")
+  pub beside : (size row : ℕ) → loss_text size row row ≡ status_text (row * size) size (codes "-")
+  pub none : (g : Geometry) → 0 < row_count g → loss_map_text g [] ≡ map_head Dump ++ status_text 0 (row_count g * page_bytes g) (codes "+")

@@ -1,6 +1,7 @@
 //! What a corrected dump comes to.
 ghost use Rattle.lab_correct.specs.Corrected.{CorrectedLaw};
 ghost use Rattle.lab_correct.specs.CodedLaws.{DecodedRowLaw, DecodedSizeLaw, LostPageLaw, NearPageLaw};
+ghost use Rattle.lab_correct.specs.Map.{LossMapLaw};
 
 /// A dump of pages with their codes, of which at most one bit is wrong in each chunk, gives the pages as they were, and no row is named.
 pub fn corrected_law()
@@ -14,4 +15,9 @@ pub fn decoded_laws()
     ensures lost { LostPageLaw }
     ensures size { DecodedSizeLaw }
     ensures row { DecodedRowLaw }
+{}
+
+/// The map of what was lost: a lost row has a line with `-`, the rows between two have one with `+`; of a dump that lost none one line, `+`, is of all its bytes.
+pub fn loss_map_law()
+    ensures { LossMapLaw }
 {}

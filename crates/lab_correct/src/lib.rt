@@ -19,5 +19,5 @@ mod map;
 pub use correct::{CorrectRoom, DumpCorrected, correct_dump};
 pub use correcting::{Correcting, Loss};
 pub use found::{FoundFit, FoundRoom, find_all_geometries};
-pub use laws::{corrected_law, decoded_laws};
+pub use laws::{corrected_law, decoded_laws, loss_map_law};
 pub use map::print_losses;
