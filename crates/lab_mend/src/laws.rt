@@ -6,6 +6,7 @@ ghost use Rattle.lab_mend.specs.Mend.{MendLaw};
 ghost use Rattle.lab_mend.specs.Pairs.{AgainLaw, UnbrokenStaysLaw, OnlyLaw, RepairedLaw, TurnLaw};
 ghost use Rattle.lab_mend.specs.Repaired.{RepairedRowsLaw};
 ghost use Rattle.lab_mend.specs.Repairing.{OwnRepairLaw};
+ghost use Rattle.lab_mend.specs.Tries.{TriesLaw, TurnTriesLaw};
 
 /// A page with a bit turned differs in that bit and in no other.
 pub fn turned_law()
@@ -80,4 +81,11 @@ pub fn order_law()
 /// A page of 00h bytes is never sound.
 pub fn zero_law()
     ensures { ZeroLaw }
+{}
+
+/// How many pages are tried: of a merge each way to turn the bits in which a row's readings differ, of a repair each bit of a page, and each two bits
+/// where none served; of several rows as many as of each of them, up to 2^64 - 1.
+pub fn tries_laws()
+    ensures merge { TriesLaw }
+    ensures repair { TurnTriesLaw }
 {}

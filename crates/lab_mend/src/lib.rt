@@ -26,7 +26,7 @@ mod tries;
 pub use choice::Origin;
 pub use laws::{
     again_law, choice_law, erased_law, kept_law, least_law, majority_law, mend_law, only_law,
-    order_law, own_law, repaired_law, rows_law, turn_law, turned_law, zero_law,
+    order_law, own_law, repaired_law, rows_law, tries_laws, turn_law, turned_law, zero_law,
 };
 pub use mending::{Made, Turned};
 pub use merge::{MergeFault, MergeRoom, Merged, Unmerged, merge_dumps};
