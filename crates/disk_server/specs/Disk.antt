@@ -1,5 +1,5 @@
 -- A DEVICE AS SECTORS OF A DISK: whether it still holds its array, and the array as bytes.
-use Rattle.std.specs.Prelude.{◌≡◌, ◌≢◌, ◌⊎◌, ◌≤◌, ◌+◌, ◌-◌, ◌*◌, ◌^◌, ◌==◌, ◌&&◌, not, ℕ, Bool, true, false, List, [], replicate, None, Result, Ok, Err, OnOk, OnErr, if◌then◌else◌}
+use Rattle.std.specs.Prelude.{◌≡◌, ◌≢◌, ◌⊎◌, ◌≤◌, ◌+◌, ◌-◌, ◌*◌, ◌^◌, ◌==◌, ◌&&◌, not, ℕ, Bool, true, false, List, [], replicate, None, Result, Ok, Err, OnOk, OnErr, IsSome, if◌then◌else◌}
 use Rattle.std.specs.Option.{is_none}
 use Rattle.page_layout.specs.View.{View}
 use Rattle.page_layout.specs.Array.{zeros}
@@ -126,7 +126,7 @@ pub record ReadsAsDevice {N : Type 0} (n : ℕ) (old : Device N) (result : Resul
   pub told : result ≡ read_answer answer
   pub leaves : LeavesRead n answer (ram old.engine) (ram new.engine) (page_in_buffer new.engine.scratch) (page_in_buffer new.engine.page) bytes
 
--- or a sector to be cleared: a read that gave zeros, and nothing else; or a read that did not, or failed, and then a trim
+-- or a sector to be cleared: a read of the device that gave zeros, and nothing else; or a read that did not, or failed, and then a trim
 pub record AsksClear {N : Type 0} (view : View N) (n : ℕ) (old : Device N) (result : Result (Unit {0}) DiskFault) (new : Device N)
     : Type 0 where
   pub mid : Device N
@@ -134,8 +134,14 @@ pub record AsksClear {N : Type 0} (view : View N) (n : ℕ) (old : Device N) (re
   pub given : List ℕ
   pub read : PerformsTask (contents_of view) (holds view.honest) (λ d. false) (Read (n * old.engine.geometry.data_bytes) old.engine.geometry.data_bytes) [] old (answer_from answer given) mid
   pub asks : AsksRead view old mid
+  pub answers : ReadsAsDevice n old answer given mid
+  pub stopped : IsSome (stop_of old.engine.fault) → answer ≡ Err fault.Failed
   pub trims : ((answer ≡ Ok tt) × (given ≡ replicate old.engine.geometry.data_bytes 0) × (result ≡ Ok tt) × (new ≡ mid))
       ⊎ (((answer ≡ Ok tt → given ≢ replicate old.engine.geometry.data_bytes 0) × AsksChange view n (step.Trim n) mid result new))
+
+-- SECTOR n IS SET: it is one change of the device, a write or a trim of that sector
+abbrev pub SetsSector : {N : Type 0} → View N → (n : ℕ) → (old : Device N) → Result (Unit {0}) DiskFault → (new : Device N) → Type 0
+SetsSector view n old result new = ((bytes : List ℕ) × AsksChange view n (step.Write n bytes) old result new) ⊎ AsksChange view n (step.Trim n) old result new
 
 -- ONE CHANGE OF A SECTOR, of any sector: it is set, or cleared
 unfoldable pub ChangesOne : {N : Type 0} → View N → (old : Device N) → Result (Unit {0}) DiskFault → (new : Device N) → Type 0

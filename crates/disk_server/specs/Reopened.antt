@@ -1,7 +1,7 @@
 -- THE DEVICE OF A STORE, WHICH IS OPENED ANEW WHERE THE STORE WAS FULL.
 use Rattle.std.specs.Prelude.{◌≡◌, ◌≢◌, ◌⊎◌, ◌<◌, ◌≤◌, ◌*◌, ◌^◌, ◌&&◌, not, ℕ, Bool, true, false, List, [], length, replicate, Option, Some, None, Result, Ok, Err}
 use Rattle.onfi_cycles.specs.Driver.{DriverState}
-use Rattle.promises.specs.Step.{Command}
+use Rattle.promises.specs.Step.{Command, Trim, Write}
 use Rattle.file_die.specs.declared.die.SyncWhen.{SyncWhen}
 use Rattle.file_die.specs.Die.{FileState}
 use Rattle.file_die.specs.Store.{Held}
@@ -175,6 +175,12 @@ changes_of held honest failed n command = AsksChange (view_in held honest failed
 -- a sector to be cleared
 abbrev pub clears_of : {S : Type 0} → (S → Held) → (honest : S → Bool) → (failed : S → ℕ) → (n : ℕ) → Device (DriverState (FileState S)) → Result (Unit {0}) DiskFault → Device (DriverState (FileState S)) → Type 0
 clears_of held honest failed n = AsksClear (view_in held honest failed) n
+
+-- SECTOR n IS SET: one write or trim of it, of the device that is there, and what it comes to
+abbrev pub SetsInDevice : {S : Type 0} → (S → Held) → (honest full : S → Bool) → (failed : S → ℕ) → (n : ℕ) → (old : Reopened S) → Result (Unit {0}) DiskFault → (new : Reopened S) → Type 0
+SetsInDevice held honest full failed n old result new =
+    ((bytes : List ℕ) × AsksDevice held honest full failed (changes_of held honest failed n (Write n bytes)) fault.NoSpace old result new)
+    ⊎ AsksDevice held honest full failed (changes_of held honest failed n (Trim n)) fault.NoSpace old result new
 
 -- ONE CHANGE OF THE DEVICE THAT IS THERE, of any sector, and what it comes to
 unfoldable pub changes_in : {S : Type 0} → (S → Held) → (honest full : S → Bool) → (failed : S → ℕ) → (old : Reopened S) → Result (Unit {0}) DiskFault → (new : Reopened S) → Type 0

@@ -92,7 +92,7 @@ impl<N: Nand> Sectors for DeviceDisk<N> {
     ghost use Rattle.ftl_device.specs.Calls.{stop_of};
     ghost use Rattle.nbd_stream.specs.Disk.{Idles, PerformsTask, answer_from};
     ghost use Rattle.disk_server.specs.Asked.{SparesZeros};
-    ghost use Rattle.disk_server.specs.Disk.{contents_of, holds, takes_changes, ReadsAsDevice, AsksChange, AsksClear, AsksFlush, AsksRead, AsksTurn, ChangesOne, KeepsOnError};
+    ghost use Rattle.disk_server.specs.Disk.{contents_of, holds, takes_changes, ReadsAsDevice, AsksChange, AsksClear, AsksFlush, AsksRead, AsksTurn, ChangesOne, KeepsOnError, SetsSector};
 
     ghost contents = { contents_of N.view };
 
@@ -114,6 +114,9 @@ impl<N: Nand> Sectors for DeviceDisk<N> {
 
     // A change is one of the device, or a read and then one.
     ghost changes = { ChangesOne N.view };
+
+    // A sector is set by one change of the device, of that sector.
+    ghost sets = { SetsSector N.view };
 
     // A flush is one of the device.
     ghost flushes = { AsksFlush N.view };
@@ -164,6 +167,7 @@ impl<N: Nand> Sectors for DeviceDisk<N> {
         // Whatever the die does.
         ensures asked { AsksChange N.view sector (Write sector bytes.now) self.old result self.new }
         ensures changes { ChangesOne N.view self.old result self.new }
+        ensures sets { SetsSector N.view sector self.old result self.new }
     {
         change_answer(self.device.write(sector as u32, bytes))
     }
@@ -184,6 +188,7 @@ impl<N: Nand> Sectors for DeviceDisk<N> {
         // Whatever the die does.
         ensures asked { AsksChange N.view sector (Trim sector) self.old result self.new }
         ensures changes { ChangesOne N.view self.old result self.new }
+        ensures sets { SetsSector N.view sector self.old result self.new }
     {
         change_answer(self.device.trim(sector as u32))
     }

@@ -141,6 +141,9 @@ impl<S: Lasting, K: KeepsLost> Sectors for GuardedSectors<S, K> {
     /// A change of the device, whose fault is told, or nothing.
     ghost changes = { ChangesGuarded S.changes };
 
+    /// A write or a trim of this sector of the device, whose fault is told, or nothing.
+    ghost sets = { λ n. ChangesGuarded (S.sets n) };
+
     /// A flush of the device, and nothing else.
     ghost flushes = { PassesOn S.flushes };
 
@@ -190,6 +193,7 @@ impl<S: Lasting, K: KeepsLost> Sectors for GuardedSectors<S, K> {
         ensures performs { PerformsTask (guarded_contents S.contents S.size) (λ d. S.honest d.sectors) (λ _. false)
             (Task.Write (sector * S.size self.old.sectors) (S.size self.old.sectors) false) bytes.now self.old (answer_from result []) self.new }
         ensures changes { ChangesGuarded S.changes self.old result self.new }
+        ensures sets { ChangesGuarded (S.sets sector) self.old result self.new }
         ensures heals { OnOk result (HealsIfListed K.kept sector self.old self.new) }
         ensures kept { OnErr result (KeepsOrFails K.failed self.old self.new) }
         ensures over { self.old.failed ≡ true → IsRefusedUnasked self.old result self.new }
@@ -221,6 +225,7 @@ impl<S: Lasting, K: KeepsLost> Sectors for GuardedSectors<S, K> {
         ensures performs { PerformsTask (guarded_contents S.contents S.size) (λ d. S.honest d.sectors) (λ _. false)
             (Task.Trim (sector * S.size self.old.sectors) (S.size self.old.sectors) false) [] self.old (answer_from result []) self.new }
         ensures changes { ChangesGuarded S.changes self.old result self.new }
+        ensures sets { ChangesGuarded (S.sets sector) self.old result self.new }
         ensures heals { OnOk result (HealsIfListed K.kept sector self.old self.new) }
         ensures kept { OnErr result (KeepsOrFails K.failed self.old self.new) }
         ensures over { self.old.failed ≡ true → IsRefusedUnasked self.old result self.new }
@@ -240,7 +245,7 @@ impl<S: Lasting, K: KeepsLost> Sectors for GuardedSectors<S, K> {
         }
     }
 
-    /// Sets the bytes of a sector to zeros, as the device does. **One that is on the list is trimmed, whatever it reads as**: with no newer page it would be lost again as the disk is next opened.
+    /// Sets the bytes of a sector to zeros, as the device does. **One that is on the list is set, by a trim or a write of the device, whatever it reads as**: with no newer page it would be lost again as the disk is next opened.
     ///
     /// # Errors
     ///
@@ -254,6 +259,7 @@ impl<S: Lasting, K: KeepsLost> Sectors for GuardedSectors<S, K> {
             (Task.Trim (sector * S.size self.old.sectors) (S.size self.old.sectors) false) [] self.old (answer_from result []) self.new }
         ensures spares { SparesZeros (guarded_contents S.contents S.size) (λ d. S.honest d.sectors) (ReadsGuarded S.reads) (sector * S.size self.old.sectors) (S.size self.old.sectors) self.old self.new }
         ensures changes { ChangesGuarded S.changes self.old result self.new }
+        ensures trimmed { is_listed self.old sector ≡ true → ChangesGuarded (S.sets sector) self.old result self.new }
         ensures heals { OnOk result (HealsIfListed K.kept sector self.old self.new) }
         ensures kept { OnErr result (KeepsOrFails K.failed self.old self.new) }
         ensures over { self.old.failed ≡ true → IsRefusedUnasked self.old result self.new }

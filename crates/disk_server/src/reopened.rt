@@ -179,7 +179,7 @@ impl<S: Store + TellsFull + Drop> Sectors for ReopenedDevice<S> {
     ghost use Rattle.nbd_stream.specs.declared.fault.DiskFault.TheVariants as fault;
     ghost use Rattle.nbd_stream.specs.Disk.{PerformsTask, answer_from};
     ghost use Rattle.disk_server.specs.Asked.{SparesZeros};
-    ghost use Rattle.disk_server.specs.Reopened.{AsksDevice, ReadsDevice, ReopenedGivesSector, changes_in, changes_of, clears_of, contents_in, flushes_of, holds_in, next_to_program, reads_of, rests_of, takes_in};
+    ghost use Rattle.disk_server.specs.Reopened.{AsksDevice, ReadsDevice, ReopenedGivesSector, SetsInDevice, changes_in, changes_of, clears_of, contents_in, flushes_of, holds_in, next_to_program, reads_of, rests_of, takes_in};
 
     ghost contents = { contents_in S.held S.honest S.failed };
 
@@ -195,6 +195,9 @@ impl<S: Store + TellsFull + Drop> Sectors for ReopenedDevice<S> {
 
     /// A change of the device that is there, and what it comes to.
     ghost changes = { changes_in S.held S.honest S.full S.failed };
+
+    /// A write or a trim of this sector, of the device that is there, and what it comes to.
+    ghost sets = { SetsInDevice S.held S.honest S.full S.failed };
 
     /// A flush of the device that is there, and what it comes to.
     ghost flushes = { AsksDevice S.held S.honest S.full S.failed (flushes_of S.held S.honest S.failed) fault.Failed };
@@ -242,6 +245,7 @@ impl<S: Store + TellsFull + Drop> Sectors for ReopenedDevice<S> {
         ensures performs { PerformsTask (contents_in S.held S.honest S.failed) (holds_in S.honest) (λ _. false) (Task.Write (sector * self.old.size) self.old.size false) bytes.now self.old (answer_from result []) self.new }
         ensures asked { AsksDevice S.held S.honest S.full S.failed (changes_of S.held S.honest S.failed sector (Write sector bytes.now)) fault.NoSpace self.old result self.new }
         ensures changes { changes_in S.held S.honest S.full S.failed self.old result self.new }
+        ensures sets { SetsInDevice S.held S.honest S.full S.failed sector self.old result self.new }
     {
         let Some(mut device) = self.device.take() else {
             return Err(DiskFault::Failed);
@@ -262,6 +266,7 @@ impl<S: Store + TellsFull + Drop> Sectors for ReopenedDevice<S> {
         ensures performs { PerformsTask (contents_in S.held S.honest S.failed) (holds_in S.honest) (λ _. false) (Task.Trim (sector * self.old.size) self.old.size false) [] self.old (answer_from result []) self.new }
         ensures asked { AsksDevice S.held S.honest S.full S.failed (changes_of S.held S.honest S.failed sector (Trim sector)) fault.NoSpace self.old result self.new }
         ensures changes { changes_in S.held S.honest S.full S.failed self.old result self.new }
+        ensures sets { SetsInDevice S.held S.honest S.full S.failed sector self.old result self.new }
     {
         let Some(mut device) = self.device.take() else {
             return Err(DiskFault::Failed);

@@ -29,6 +29,9 @@ pub trait Sectors {
     /// What a change of a sector is, beside the bytes: of the device before, the answer, and the device after.
     ghost changes: { Self → Result (Unit {0}) DiskFault → Self → Type 0 };
 
+    /// What a write or a trim of this sector is, beside the bytes: of the device before, the answer, and the device after. A sector that is cleared need not be set.
+    ghost sets: { ℕ → Self → Result (Unit {0}) DiskFault → Self → Type 0 };
+
     /// What a flush of it is, beside that it leaves the sectors: of the device before, the answer, and the device after.
     ghost flushes: { Self → Result (Unit {0}) DiskFault → Self → Type 0 };
 
@@ -69,7 +72,8 @@ pub trait Sectors {
         ensures size { size self.new ≡ size self.old }
         ensures count { count self.new ≡ count self.old }
         ensures performs { PerformsTask contents honest calm (Task.Write (sector * size self.old) (size self.old) false) bytes.now self.old (answer_from result []) self.new }
-        ensures changes { changes self.old result self.new };
+        ensures changes { changes self.old result self.new }
+        ensures sets { sets sector self.old result self.new };
 
     /// Sets the bytes of a sector to zeros: they are not needed.
     ///
@@ -81,7 +85,8 @@ pub trait Sectors {
         ensures size { size self.new ≡ size self.old }
         ensures count { count self.new ≡ count self.old }
         ensures performs { PerformsTask contents honest calm (Task.Trim (sector * size self.old) (size self.old) false) [] self.old (answer_from result []) self.new }
-        ensures changes { changes self.old result self.new };
+        ensures changes { changes self.old result self.new }
+        ensures sets { sets sector self.old result self.new };
 
     /// Sets the bytes of a sector to zeros, as `trim_sector`. Where it has zeros already nothing is asked but a read, for which the buffer has room.
     ///

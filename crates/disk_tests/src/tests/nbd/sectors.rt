@@ -49,6 +49,8 @@ impl Sectors for CachedSectors {
 
     ghost changes = { λ old result new. Unit {0} };
 
+    ghost sets = { λ sector old result new. Unit {0} };
+
     ghost flushes = { λ old result new. new.bytes ≡ old.bytes };
 
     ghost size = { λ device. 4 };

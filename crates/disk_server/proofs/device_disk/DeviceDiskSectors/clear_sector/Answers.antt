@@ -20,6 +20,8 @@ returns-then-are_zeros-clause-asked g c = record {
   given = c.read_sector.new.buffer;
   read = c.read_sector.ensures.performs;
   asks = c.read_sector.ensures.reads;
+  answers = c.read_sector.ensures.answers;
+  stopped = λ is. (c.read_sector.ensures.stopped is).0;
   trims = inl (c.in-Ok.is, all_zeros c.read_sector.new.buffer (sym c.are_zeros.ensures ∙ c.if-are_zeros.true) ∙ ap (λ k. replicate k 0) c.in-Ok.ensures.performs.given, refl, refl);
 }
 
@@ -43,6 +45,8 @@ returns-else-are_zeros-clause-asked g c = record {
   given = c.read_sector.new.buffer;
   read = c.read_sector.ensures.performs;
   asks = c.read_sector.ensures.reads;
+  answers = c.read_sector.ensures.answers;
+  stopped = λ is. (c.read_sector.ensures.stopped is).0;
   trims = inr ((λ done. no_zeros c.args.self.now.engine.geometry.data_bytes c.read_sector.new.buffer (sym c.are_zeros.ensures ∙ c.if-are_zeros.false)), c.trim_sector.ensures.asked);
 }
 
@@ -62,6 +66,8 @@ returns-in-Err-clause-asked g c = record {
   given = c.read_sector.new.buffer;
   read = c.read_sector.ensures.performs;
   asks = c.read_sector.ensures.reads;
+  answers = c.read_sector.ensures.answers;
+  stopped = λ is. (c.read_sector.ensures.stopped is).0;
   trims = inr ((λ done. absurd (not_done c.read_sector.result _ c.in-Err.is done)), c.trim_sector-in-Err.ensures.asked);
 }
 

@@ -1,4 +1,4 @@
-use Rattle.std.proofs.Common.{◌<◌, ◌*◌, false, [], subst, sym}
+use Rattle.std.proofs.Common.{◌<◌, ◌*◌, false, inr, [], subst, sym}
 use Rattle.nbd_stream.specs.Disk.{PerformsTask, answer_from}
 use Rattle.nbd_stream.specs.declared.task.Task.TheVariants as task
 use Rattle.page_layout.specs.Array.{zeros}
@@ -46,3 +46,6 @@ returns-clause-changes g c =
 
 pub returns-clause-asked : goal.returns-clause-asked
 returns-clause-asked g c = rw (← c.self.view_is) (record { answer = c.trim.result; told = c.change_answer.ensures; changes = c.trim.ensures.changes; disk = invariant_of-self g c })
+
+pub returns-clause-sets : goal.returns-clause-sets
+returns-clause-sets g c = inr (returns-clause-asked g c)

@@ -1,4 +1,4 @@
-use Rattle.std.proofs.Common.{◌≡◌, ◌<◌, ◌*◌, ◌∙◌, false, [], length, subst, sym, ap}
+use Rattle.std.proofs.Common.{◌≡◌, ◌<◌, ◌*◌, ◌∙◌, false, inl, [], length, subst, sym, ap}
 use Rattle.nbd_stream.specs.Disk.{PerformsTask, answer_from}
 use Rattle.nbd_stream.specs.declared.task.Task.TheVariants as task
 use Rattle.promises.specs.Step.{Write}
@@ -47,3 +47,6 @@ returns-clause-changes g c =
 
 pub returns-clause-asked : goal.returns-clause-asked
 returns-clause-asked g c = rw (← c.self.view_is) (record { answer = c.write.result; told = c.change_answer.ensures; changes = c.write.ensures.changes; disk = invariant_of-self g c })
+
+pub returns-clause-sets : goal.returns-clause-sets
+returns-clause-sets g c = inl (c.args.bytes.now, returns-clause-asked g c)

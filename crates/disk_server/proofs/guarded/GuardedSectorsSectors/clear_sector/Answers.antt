@@ -55,3 +55,6 @@ returns-in-Ok-clause-listed g c going = asked_or _ _ _ _ _ _ _ _ c.heal.result _
 
 pub returns-in-Ok-clause-changes : goal.returns-in-Ok-clause-changes
 returns-in-Ok-clause-changes g c = changed_so g.S.Sectors.changes c.args.self.now c.heal.new.self c.clear_sector.new.self c.heal.result _ c.heal.ensures.sectors c.in-Ok.ensures.changes c.heal.ensures.failed c.heal.ensures.fault
+
+pub returns-then-is_listed-clause-trimmed : goal.returns-then-is_listed-clause-trimmed
+returns-then-is_listed-clause-trimmed g c = λ on. c.trim_sector.ensures.sets

@@ -22,3 +22,6 @@ returns-in-Ok-clause-listed g c going = asked_or _ _ _ _ _ _ _ _ c.heal.result _
 
 pub returns-in-Ok-clause-changes : goal.returns-in-Ok-clause-changes
 returns-in-Ok-clause-changes g c = changed_so g.S.Sectors.changes c.args.self.now c.heal.new.self c.trim_sector.new.self c.heal.result _ c.heal.ensures.sectors c.in-Ok.ensures.changes c.heal.ensures.failed c.heal.ensures.fault
+
+pub returns-in-Ok-clause-sets : goal.returns-in-Ok-clause-sets
+returns-in-Ok-clause-sets g c = changed_so (g.S.Sectors.sets c.args.sector) c.args.self.now c.heal.new.self c.trim_sector.new.self c.heal.result _ c.heal.ensures.sectors c.in-Ok.ensures.sets c.heal.ensures.failed c.heal.ensures.fault

@@ -29,3 +29,6 @@ returns-in-Err-clause-performs g c =
 
 pub returns-in-Ok-clause-changes : goal.returns-in-Ok-clause-changes
 returns-in-Ok-clause-changes g c = changed_so g.S.Sectors.changes c.args.self.now c.heal.new.self c.write_sector.new.self c.heal.result _ c.heal.ensures.sectors c.in-Ok.ensures.changes c.heal.ensures.failed c.heal.ensures.fault
+
+pub returns-in-Ok-clause-sets : goal.returns-in-Ok-clause-sets
+returns-in-Ok-clause-sets g c = changed_so (g.S.Sectors.sets c.args.sector) c.args.self.now c.heal.new.self c.write_sector.new.self c.heal.result _ c.heal.ensures.sectors c.in-Ok.ensures.sets c.heal.ensures.failed c.heal.ensures.fault

@@ -43,3 +43,9 @@ returns-clause-size g c = rw (← c.self.view_is) (ap (λ t. t.size) (settled_te
 
 pub returns-clause-count : goal.returns-clause-count
 returns-clause-count g c = rw (← c.self.view_is) (ap (λ t. t.count) (settled_terms g.S.Store.held g.S.Store.honest g.S.TellsFull.full g.S.Store.failed _ _ _ _ _ c.trim_sector-answer.result c.settle.result c.settle.new.self c.settle.ensures.settles))
+
+pub returns-clause-sets : goal.returns-clause-sets
+returns-clause-sets g c = inr (returns-clause-asked g c)
+
+pub returns-in_default-clause-sets : goal.returns-in_default-clause-sets
+returns-in_default-clause-sets g c = inr (returns-in_default-clause-asked g c)
