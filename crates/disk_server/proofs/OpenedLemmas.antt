@@ -1,8 +1,9 @@
 -- The store behind a driver, once the driver was asked for reads alone.
 use Rattle.std.specs.Prelude.{IfErr, IsErrAnd}
-use Rattle.std.proofs.Common.{◌≡◌, ◌≢◌, ℕ, Bool, true, Result, Err, sym, ap, ◌∙◌, subst, replicate, if◌then◌else◌}
+use Rattle.std.proofs.Common.{◌≡◌, ◌≢◌, ◌<◌, ◌≤◌, ℕ, Bool, true, arith, inl, inr, Result, Err, sym, ap, ◌∙◌, subst, replicate, if◌then◌else◌}
 use Rattle.page_layout.specs.declared.geometry.Geometry.{Geometry}
 use Rattle.page_layout.specs.Array.{array_of, zeros}
+use Rattle.page_layout.specs.Counter.{HasRisen}
 use Rattle.page_layout.specs.Flash.{Flash}
 use Rattle.page_layout.specs.Page.{Image}
 use Rattle.ftl_device.specs.declared.device.Device.{Device}
@@ -19,9 +20,9 @@ use Rattle.disk_server.specs.declared.opened.OpenStoreFault.TheVariants as why
 use Rattle.disk_server.specs.declared.open.OpenFault.{OpenFault}
 use Rattle.disk_server.specs.declared.open.OpenFault.TheVariants.{Refused, Start}
 use Rattle.disk_server.specs.Open.{nand_of}
-use Rattle.mount.specs.Mounted.{Refuses}
+use Rattle.mount.specs.Mounted.{IsMounted, Refuses}
 use Rattle.disk_server.proofs.FaultLemmas.{handed_on}
-use Rattle.disk_server.specs.Opened.{ComesBack, HasCome, IsUnmounted, IsStoreUnopened, IsUnopenedAt, IsUnstarted, bytes_of, flash_in, is_honest_in, why_of, view_in}
+use Rattle.disk_server.specs.Opened.{ComesBack, HasCome, IsUnmounted, IsStoreRefused, IsStoreUnopened, IsUnopenedAt, IsUnstarted, bytes_of, flash_in, is_honest_in, why_of, view_in}
 
 -- a driver that was made over a store
 pub record IsOver {S : Type 0} (held : S → Held) (honest : S → Bool) (store : S) (d : DriverState (FileState S)) : Type 0 where
@@ -88,11 +89,29 @@ unopened_come held honest failed store d g capacity (Refused refusal e) given ov
 unopened_come held honest failed store d g capacity (Start e) given over behind unmounted =
     comes held honest store d e given why.OutOfMemory over behind (λ other is. unmounted.same is)
 
+-- a count that rose is some
+pub risen_some : (old new most : ℕ) → HasRisen old new → new ≤ most → 0 < most
+risen_some old new most (inl rose) within = omega (arith, rose, within)
+risen_some old new most (inr greatest) within = omega (arith, greatest, within)
+
+pub refused_so : {S : Type 0} (held : S → Held) (honest : S → Bool) (failed : S → ℕ) (store : S) (d e : DriverState (FileState S)) (capacity : ℕ) (given : S) (refusal : Refusal)
+    → IsOver held honest store d → honest e.bus.store ≡ is_honest_in honest d → (honest e.bus.store ≡ true → e.failures ≤ failed given)
+    → (is_honest_in honest d ≡ true → Refuses (held store).geometry capacity (flash_in held d).image refusal) → (refusal ≡ Source → HasRisen d.failures e.failures)
+    → IsStoreRefused held honest failed store capacity given refusal
+refused_so held honest failed store d e capacity given refusal over same counts refuses rose = record {
+  refuses = λ is. subst (λ image. Refuses (held store).geometry capacity image refusal) (over.pages is) (refuses (over.as_honest ∙ is));
+  counted = λ read is. risen_some d.failures e.failures (failed given) (rose read) (counts (same ∙ over.as_honest ∙ is));
+}
+
 pub unopened_so : {S : Type 0} (held : S → Held) (honest : S → Bool) (failed : S → ℕ) (store : S) (d : DriverState (FileState S)) (capacity share : ℕ) (fault : OpenFault (DriverState (FileState S))) (given : S)
-    → IsOver held honest store d → IsUnmounted (view_in held honest failed) d (held store).geometry capacity fault → IsUnstarted held honest failed store capacity share given (why_of fault)
-unopened_so held honest failed store d capacity share (Refused refusal e) given over unmounted = λ is.
-    subst (λ image. Refuses (held store).geometry capacity image refusal) (over.pages is) (unmounted.refuses (over.as_honest ∙ is))
-unopened_so held honest failed store d capacity share (Start e) given over unmounted = tt
+    → IsOver held honest store d → honest (nand_of fault).bus.store ≡ is_honest_in honest d → (honest (nand_of fault).bus.store ≡ true → (nand_of fault).failures ≤ failed given)
+    → IsUnmounted (view_in held honest failed) d (held store).geometry capacity fault → IsUnstarted held honest failed store capacity share given (why_of fault)
+unopened_so held honest failed store d capacity share (Refused refusal e) given over same counts unmounted =
+    refused_so held honest failed store d e capacity given refusal over same counts unmounted.refuses unmounted.rose
+unopened_so held honest failed store d capacity share (Start e) given over same counts unmounted = inr (
+  unmounted.certificate,
+  λ is. subst (λ image. IsMounted (held store).geometry capacity image unmounted.certificate) (over.pages is) (unmounted.mounted (over.as_honest ∙ is)),
+)
 
 -- what kept a store from being a die is told as it is
 pub before : {S : Type 0} (held : S → Held) (honest : S → Bool) (failed : S → ℕ) (store : S) (capacity : ℕ) (given : S) (fault : OpenStoreFault)
@@ -112,7 +131,7 @@ unbegun held honest failed store capacity r told is unopened = handed_on (λ e. 
 -- the same where a device was to be started
 before_start : {S : Type 0} (held : S → Held) (honest : S → Bool) (failed : S → ℕ) (store : S) (capacity share : ℕ) (given : S) (fault : OpenStoreFault)
     → IsUnopenedAt held honest failed store given fault → IsUnstarted held honest failed store capacity share given fault
-before_start held honest failed store capacity share given why.OutOfMemory is = is
+before_start held honest failed store capacity share given why.OutOfMemory is = inl is
 before_start held honest failed store capacity share given why.Device is = is
 before_start held honest failed store capacity share given why.Reset is = is
 before_start held honest failed store capacity share given why.Flush is = absurd is

@@ -37,7 +37,7 @@ pub was_stale : {S : Type 0} (held : S → Held) (honest : S → Bool) (failed :
     → HasRoomFor fault stale → IsUnstarted held honest failed store capacity share given fault → ComesBack held honest store fault given → IsStale held honest store capacity stale given
 was_stale held honest failed store given capacity share stale fault room is back = record {
   asked = room.capacity;
-  refuses = subst (IsUnstarted held honest failed store capacity share given) room.is is;
+  refuses = (subst (IsUnstarted held honest failed store capacity share given) room.is is).refuses;
   come = record {
     as_honest = back.as_honest;
     geometry = λ h. back.geometry h (λ e. no_reset stale room.capacity (sym room.is ∙ e));

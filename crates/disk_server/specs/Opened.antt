@@ -1,5 +1,5 @@
 -- A DISK AS IT IS OPENED, and why there is none.
-use Rattle.std.specs.Prelude.{◌≡◌, ◌≢◌, ℕ, Bool, true, List, [], Option, Some}
+use Rattle.std.specs.Prelude.{◌≡◌, ◌≢◌, ◌⊎◌, ◌<◌, ℕ, Bool, true, List, [], Option, Some}
 use Rattle.page_layout.specs.View.{View}
 use Rattle.page_layout.specs.declared.geometry.Geometry.{Geometry}
 use Rattle.page_layout.specs.Array.{array_of}
@@ -23,10 +23,11 @@ use Rattle.disk_server.specs.declared.open.OpenFault.TheVariants.{Refused, Start
 use Rattle.disk_server.specs.declared.opened.OpenStoreFault.{OpenStoreFault}
 use Rattle.disk_server.specs.declared.opened.OpenStoreFault.TheVariants as why
 
--- the image was not mounted: of an honest die for what is so of it, and it is as it was unless a read failed
+-- the image was not mounted: of an honest die for what is so of it, and it is as it was unless a read failed. That one did was counted
 pub record IsMountRefused {N : Type 0} (view : View N) (nand : N) (g : Geometry) (capacity : ℕ) (why : Refusal) (given : N) : Type 0 where
   pub refuses : view.honest nand ≡ true → Refuses g capacity (view.flash nand).image why
   pub same : why ≢ Source → view.honest nand ≡ true → view.flash given ≡ view.flash nand
+  pub rose : why ≡ Source → HasRisen (view.failed nand) (view.failed given)
 
 -- it has a certificate, and is as it was, but no memory was left to start a device
 pub record IsMountedUnstarted {N : Type 0} (view : View N) (nand : N) (g : Geometry) (capacity : ℕ) (given : N) : Type 0 where
@@ -100,21 +101,31 @@ pub record ComesBack {S : Type 0} (held : S → Held) (honest : S → Bool) (sto
   pub geometry : honest store ≡ true → fault ≢ why.Reset → (held given).geometry ≡ (held store).geometry
   pub pages : honest store ≡ true → fault ≢ why.Reset → fault ≢ why.Mount Source → (held given).pages ≡ (held store).pages
 
--- whatever the store is, before it was mounted: a load failed, and was counted. No honest one refuses a reset uncounted
+-- whatever the store is, before it was mounted: a growth was refused, and no load failed; or one failed, and was counted. No honest one refuses a reset uncounted
 abbrev pub IsUnopenedAt : {S : Type 0} → (S → Held) → (honest : S → Bool) → (failed : S → ℕ) → S → S → OpenStoreFault → Type 0
-IsUnopenedAt held honest failed store given why.OutOfMemory = Unit {0}
+IsUnopenedAt held honest failed store given why.OutOfMemory = failed given ≡ failed store
 IsUnopenedAt held honest failed store given why.Device = HasRisen (failed store) (failed given)
 IsUnopenedAt held honest failed store given why.Reset = honest store ≡ true → HasRisen (failed store) (failed given)
 IsUnopenedAt held honest failed store given why.Flush = ⊥
 IsUnopenedAt held honest failed store given why.Share = ⊥
 IsUnopenedAt held honest failed store given (why.Mount refusal) = ⊥
 
--- and after: what keeps the pages from being mounted is so of an honest store
+-- its pages were not mounted: of an honest store for what is so of them; and where a page could not be read it has counted a failure
+pub record IsStoreRefused {S : Type 0} (held : S → Held) (honest : S → Bool) (failed : S → ℕ) (store : S) (capacity : ℕ) (given : S) (why : Refusal) : Type 0 where
+  pub refuses : honest store ≡ true → Refuses (held store).geometry capacity (held store).pages why
+  pub counted : why ≡ Source → honest store ≡ true → 0 < failed given
+
+-- and after: it was not mounted
 abbrev pub IsStoreUnopened : {S : Type 0} → (S → Held) → (honest : S → Bool) → (failed : S → ℕ) → S → (capacity : ℕ) → S → OpenStoreFault → Type 0
-IsStoreUnopened held honest failed store capacity given (why.Mount refusal) = honest store ≡ true → Refuses (held store).geometry capacity (held store).pages refusal
+IsStoreUnopened held honest failed store capacity given (why.Mount refusal) = IsStoreRefused held honest failed store capacity given refusal
 IsStoreUnopened held honest failed store capacity given fault = IsUnopenedAt held honest failed store given fault
 
--- and where a device was to be started on it: its geometry has no such share
+-- its pages have a certificate: it was mounted
+abbrev pub WasMounted : {S : Type 0} → (S → Held) → (honest : S → Bool) → S → (capacity : ℕ) → Type 0
+WasMounted held honest store capacity = (certificate : Claim) × (honest store ≡ true → IsMounted (held store).geometry capacity (held store).pages certificate)
+
+-- and where a device was to be started on it: its geometry has no such share; or a growth was refused, before it was mounted and no load had failed, or once it was mounted
 abbrev pub IsUnstarted : {S : Type 0} → (S → Held) → (honest : S → Bool) → (failed : S → ℕ) → S → (capacity share : ℕ) → S → OpenStoreFault → Type 0
 IsUnstarted held honest failed store capacity share given why.Share = (¬ IsShare (held store).geometry share) × (given ≡ store)
+IsUnstarted held honest failed store capacity share given why.OutOfMemory = (failed given ≡ failed store) ⊎ WasMounted held honest store capacity
 IsUnstarted held honest failed store capacity share given fault = IsStoreUnopened held honest failed store capacity given fault

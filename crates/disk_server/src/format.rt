@@ -50,8 +50,8 @@ impl fmt::Display for CreateFault {
 ///
 /// # Errors
 ///
-/// With the store: `Open` where a load failed or a growth was refused, and its pages are as they were but where a load failed; `Format` as `mount::format_at` has it; `Sync` where the last
-/// sync failed: it is formatted, and its pages may not all last.
+/// With the store: `Open` where a load failed or a growth was refused, and its pages are as they were but where a load failed; `Format` as `mount::format_at` has it, and with `Bus` an honest store has counted a
+/// failure; `Sync` where the last sync failed, which was counted: it is formatted, and its pages may not all last.
 pub fn format_store<S: Store + Drop>(
     alloc: Global,
     store: S,

@@ -93,6 +93,7 @@ pub(crate) fn driver_over<S: Store + Drop>(
 fn store_behind<S: Store + Drop>(driver: Driver<FileDie<S>>) -> S
     ensures store { result ≡ driver.bus.store }
     ensures geometry { S.honest driver.bus.store ≡ true → (S.held result).geometry ≡ driver.geometry }
+    ensures counted { S.honest driver.bus.store ≡ true → driver.failures ≤ S.failed result }
 {
     driver.into_bus().into_store()
 }
@@ -101,6 +102,7 @@ fn store_behind<S: Store + Drop>(driver: Driver<FileDie<S>>) -> S
 fn unopened<S: Store + Drop>(fault: OpenFault<Driver<FileDie<S>>>) -> (S, OpenStoreFault)
     ensures store { result.0 ≡ (nand_of fault).bus.store }
     ensures geometry { S.honest (nand_of fault).bus.store ≡ true → (S.held result.0).geometry ≡ (nand_of fault).geometry }
+    ensures counted { S.honest (nand_of fault).bus.store ≡ true → (nand_of fault).failures ≤ S.failed result.0 }
     ensures why { result.1 ≡ why_of fault }
 {
     match fault {
@@ -143,8 +145,8 @@ pub fn mount_store<S: Store + Drop>(
 ///
 /// # Errors
 ///
-/// `Mount` with what keeps the pages from being mounted, which is so of an honest store. `Device` where a load failed before that, `Reset` where the die over the store
-/// took no reset. `OutOfMemory` where a growth was refused. `Share` where the geometry has no such share, and then nothing is asked of the store. The store comes back, its pages as they were but where a load failed. (This project's.)
+/// `Mount` with what keeps the pages from being mounted, which is so of an honest store: `Mount(OutOfMemory)` where a growth was refused meanwhile, `Mount(Source)` where a page could not be read, and then an honest
+/// one has counted a failure. `Device` where a load failed before that, `Reset` where the die over the store took no reset. `OutOfMemory` where a growth was refused before that, and no load had failed, or once the pages were mounted. `Share` where the geometry has no such share, and then nothing is asked of the store. The store comes back, its pages as they were but where a load failed. (This project's.)
 pub fn open_store<S: Store + Drop>(
     alloc: Global,
     store: S,

@@ -1,7 +1,8 @@
-use Rattle.std.proofs.Common.{Err, refl}
-use Rattle.disk_server.specs.Opened.{ComesBack}
+use Rattle.std.proofs.Common.{Err, ap, refl, subst}
+use Rattle.mount.specs.Mounted.{Refuses}
+use Rattle.disk_server.specs.Opened.{ComesBack, flash_in}
 use Rattle.disk_server.proofs.FaultLemmas.{handed_on}
-use Rattle.disk_server.proofs.OpenedLemmas.{another, come, comes, unbegun, IsBehind, IsOver}
+use Rattle.disk_server.proofs.OpenedLemmas.{another, come, comes, refused_so, unbegun, IsBehind, IsOver}
 use Rattle.disk_server.specs.declared.opened.OpenStoreFault.TheVariants as why
 use Rattle.disk_server.proofs.opened.mount_store.Goals as goal
 
@@ -37,3 +38,11 @@ returns-in_err-driver-clause-fault g c = unbegun g.S.Store.held g.S.Store.honest
 
 pub returns-in_err-driver-clause-given : goal.returns-in_err-driver-clause-given
 returns-in_err-driver-clause-given g c = handed_on (λ e. ComesBack g.S.Store.held g.S.Store.honest c.args.store e.1 e.0) _ _ c.from_residual.ensures.1 c.in_err-driver.ensures.given
+
+pub returns-in-Err-clause-fault : goal.returns-in-Err-clause-fault
+returns-in-Err-clause-fault g c =
+    let over : IsOver g.S.Store.held g.S.Store.honest c.args.store c.in_ok-driver.driver = record { as_honest = c.in_ok-driver.ensures.honest; geometry = c.in_ok-driver.ensures.geometry; pages = c.in_ok-driver.ensures.pages } in
+    refused_so g.S.Store.held g.S.Store.honest g.S.Store.failed c.args.store c.in_ok-driver.driver c.mount.new.source c.args.capacity c.store_behind-in-Err.result c.in-Err.refusal over
+    c.in-Err.ensures.only_reads.honest_is c.store_behind-in-Err.ensures.counted
+    (λ is. subst (λ x. Refuses x c.args.capacity (flash_in g.S.Store.held c.in_ok-driver.driver).image c.in-Err.refusal) c.geometry-geometry.ensures.geometry (c.in-Err.ensures.err is))
+    (λ is. c.in-Err.ensures.rose (ap Err is))

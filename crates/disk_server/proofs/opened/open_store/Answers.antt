@@ -30,6 +30,7 @@ returns-in-Err-clause-fault g c =
     let over : IsOver g.S.Store.held g.S.Store.honest c.args.store c.in_ok-driver.driver = record { as_honest = c.in_ok-driver.ensures.honest; geometry = c.in_ok-driver.ensures.geometry; pages = c.in_ok-driver.ensures.pages } in
     subst (λ fault. IsUnstarted g.S.Store.held g.S.Store.honest g.S.Store.failed c.args.store c.args.capacity c.args.share c.unopened.result.0 fault) (sym c.unopened.ensures.why)
     (unopened_so g.S.Store.held g.S.Store.honest g.S.Store.failed c.args.store c.in_ok-driver.driver c.args.capacity c.args.share c.in-Err.fault c.unopened.result.0 over
+    c.in-Err.ensures.fault.honest_is c.unopened.ensures.counted
     (subst (λ x. IsUnmounted (view_in g.S.Store.held g.S.Store.honest g.S.Store.failed) c.in_ok-driver.driver x c.args.capacity c.in-Err.fault) c.geometry-geometry.ensures.geometry
     c.in-Err.ensures.unmounted))
 
