@@ -1,5 +1,5 @@
 -- What was found of a store that was mounted is so of it as it was.
-use Rattle.std.proofs.Common.{◌≡◌, ◌∙◌, inl, inr, ℕ, Bool, true, List, ap, length, refl, subst, sym}
+use Rattle.std.proofs.Common.{◌≡◌, ◌≢◌, ◌∙◌, inl, inr, ℕ, Bool, true, List, ap, length, refl, subst, sym}
 use Rattle.page_layout.specs.declared.geometry.Geometry.{Geometry}
 use Rattle.page_layout.specs.Counter.{HasRisen}
 use Rattle.page_layout.specs.Page.{Image}
@@ -11,6 +11,7 @@ use Rattle.disk_server.specs.Opened.{HasCome}
 use Rattle.lost_sectors.specs.Lost.{Adds, is_lost}
 use Rattle.lost_sectors.specs.declared.fault.LostFault.{LostFault}
 use Rattle.lost_sectors.specs.declared.fault.LostFault.TheVariants as lost
+use Rattle.disk_server.specs.declared.opened.OpenStoreFault.TheVariants.{Device}
 use Rattle.disk_damage.specs.Found.{IsUnfound, unfound}
 
 pub adds_found : {S : Type 0} (held : S → Held) (honest : S → Bool) (store mounted : S) (certificate : Claim) (mark : ℕ) (old new : List Bool) → HasCome held honest store mounted
@@ -27,7 +28,12 @@ adds_found held honest store mounted certificate mark old new back is adds h siz
     (subst (λ (g : Geometry). Adds (is_lost g (held mounted).pages mark) 0 g.sectors old new) geo (adds (back.as_honest ∙ h) 65536 agrees (size ∙ sym (ap (λ (g : Geometry). g.sectors) geo))))
 
 -- why they were not found: a growth was refused, or a load failed, which was counted
-pub unfound_so : {S : Type 0} (held : S → Held) (honest : S → Bool) (failed : S → ℕ) (store mounted given : S) (fault : LostFault) → HasCome held honest store mounted
-    → (fault ≡ lost.Store → HasRisen (failed mounted) (failed given)) → IsUnfound held honest failed store (unfound fault)
-unfound_so held honest failed store mounted given lost.OutOfMemory back rose = inl (given, tt)
-unfound_so held honest failed store mounted given lost.Store back rose = inr (refl, record { mounted = mounted; back = back; given = given; rose = rose refl })
+pub unfound_so : {S : Type 0} (held : S → Held) (honest : S → Bool) (failed : S → ℕ) (store mounted given : S) (certificate : Claim) (fault : LostFault) → HasCome held honest store mounted
+    → (honest store ≡ true → IsMounted (held store).geometry 65536 (held store).pages certificate) → (fault ≡ lost.Store → HasRisen (failed mounted) (failed given)) → IsUnfound held honest failed store (unfound fault)
+unfound_so held honest failed store mounted given certificate lost.OutOfMemory back was rose = inr (inr (refl, (certificate, was)))
+unfound_so held honest failed store mounted given certificate lost.Store back was rose = inr (inl (refl, record { mounted = mounted; back = back; given = given; rose = rose refl }))
+
+-- and the list stayed, unless a load failed
+pub list_stays : (fault : LostFault) (old new : List Bool) → (fault ≡ lost.OutOfMemory → new ≡ old) → unfound fault ≢ Device → new ≡ old
+list_stays lost.OutOfMemory old new same other = same refl
+list_stays lost.Store old new same other = absurd (other refl)

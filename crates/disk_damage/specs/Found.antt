@@ -6,7 +6,7 @@ use Rattle.lost_sectors.specs.declared.fault.LostFault.{LostFault}
 use Rattle.lost_sectors.specs.declared.fault.LostFault.TheVariants as lost
 use Rattle.disk_server.specs.declared.opened.OpenStoreFault.{OpenStoreFault}
 use Rattle.disk_server.specs.declared.opened.OpenStoreFault.TheVariants.{Device, OutOfMemory}
-use Rattle.disk_server.specs.Opened.{HasCome, IsStoreUnopened}
+use Rattle.disk_server.specs.Opened.{HasCome, IsStoreUnopened, WasMounted}
 
 abbrev pub unfound : LostFault → OpenStoreFault
 unfound lost.OutOfMemory = OutOfMemory
@@ -19,8 +19,9 @@ pub record FailsLook {S : Type 0} (held : S → Held) (honest : S → Bool) (fai
   pub given : S
   pub rose : HasRisen (failed mounted) (failed given)
 
--- it was not mounted for the largest cache; or it was, and a load failed. A growth may have been refused in either
+-- it was not mounted for the largest cache; or it was, and a load failed, or a growth was refused
 abbrev pub IsUnfound : {S : Type 0} → (S → Held) → (honest : S → Bool) → (failed : S → ℕ) → S → OpenStoreFault → Type 0
 IsUnfound {S} held honest failed store fault =
     ((given : S) × IsStoreUnopened held honest failed store 65536 given fault)
-    ⊎ ((fault ≡ Device) × FailsLook held honest failed store)
+    ⊎ (((fault ≡ Device) × FailsLook held honest failed store)
+    ⊎ ((fault ≡ OutOfMemory) × WasMounted held honest store 65536))

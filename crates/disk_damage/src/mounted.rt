@@ -1,5 +1,5 @@
 //! A store is mounted, and its lost sectors are found.
-ghost use Rattle.std.specs.Prelude.{◌≡◌, true, length, IfErr, IfOk};
+ghost use Rattle.std.specs.Prelude.{◌≡◌, ◌≢◌, true, length, IfErr, IfOk};
 ghost use Rattle.mount.specs.Mounted.{IsMounted};
 ghost use Rattle.disk_server.specs.Opened.{HasCome};
 ghost use Rattle.lost_sectors.specs.Lost.{Adds, DropsNone, is_lost};
@@ -29,7 +29,7 @@ fn unfound(fault: LostFault) -> OpenStoreFault
 ///
 /// # Errors
 ///
-/// As `mount_store` for the largest cache; then `OutOfMemory` where a growth was refused, and `Device` where a load failed. None is taken off the list. The store is let go. (This project's.)
+/// As `mount_store` for the largest cache; then `OutOfMemory` where a growth was refused, and `Device` where a load failed. None is taken off the list, which is as it was but after `Device`. The store is let go. (This project's.)
 pub fn mount_and_find<S: Store + Drop>(
     alloc: Global,
     store: S,
@@ -42,6 +42,7 @@ pub fn mount_and_find<S: Store + Drop>(
         Adds (is_lost (S.held store).geometry (S.held store).pages mark) 0 (S.held store).geometry.sectors lost.old lost.new) }
     ensures kept { DropsNone lost.old lost.new }
     ensures fault { IfErr result (IsUnfound S.held S.honest S.failed store) }
+    ensures untouched { IfErr result (λ fault. fault ≢ OpenStoreFault.Device → lost.new ≡ lost.old) }
 {
     let (mut store, certificate) = match mount_store(alloc, store, MOST_ENTRIES) {
         Ok(mounted) => mounted,

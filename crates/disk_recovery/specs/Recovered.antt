@@ -2,6 +2,7 @@
 use Rattle.std.specs.Prelude.{◌≡◌, ◌⊎◌, ℕ, Bool, true, false, List}
 use Rattle.page_layout.specs.Counter.{HasRisen}
 use Rattle.file_die.specs.Store.{Held}
+use Rattle.crash_recovery.specs.Asked.{HasLooked}
 use Rattle.crash_recovery.specs.Taken.{Recovers, RecoversSome}
 use Rattle.disk_server.specs.declared.opened.OpenStoreFault.{OpenStoreFault}
 use Rattle.disk_server.specs.declared.opened.OpenStoreFault.TheVariants.{Device, OutOfMemory}
@@ -32,11 +33,11 @@ pub record IsOpenedLeft {S : Type 0} (held : S → Held) (honest : S → Bool) (
   pub recovered : honest store ≡ true → IsLeftRecovered mark (held store) (held left)
   pub opened : IsOpenedWith held honest failed true left capacity share entries
 
--- IT WAS NOT RECOVERED ONCE: a growth was refused, or the store failed, and counted it. What was torn may be taken away in part
+-- IT WAS NOT RECOVERED ONCE: a growth was refused, and the store is as it was and has not failed; or it failed, and counted it. What was torn may be taken away in part
 pub record IsNotTaken {S : Type 0} (held : S → Held) (honest : S → Bool) (failed : S → ℕ) (mark : ℕ) (store given : S) (fault : OpenStoreFault) : Type 0 where
   pub as_honest : honest given ≡ honest store
   pub some : honest store ≡ true → RecoversSome mark (held store) (held given)
-  pub why : (fault ≡ OutOfMemory) ⊎ ((fault ≡ Device) × HasRisen (failed store) (failed given))
+  pub why : ((fault ≡ OutOfMemory) × HasLooked held honest failed store true given) ⊎ ((fault ≡ Device) × HasRisen (failed store) (failed given))
 
 -- nor once more: it was not mounted for the largest cache, or came back of that and was not recovered
 abbrev pub IsNotAgain : {S : Type 0} → (S → Held) → (honest : S → Bool) → (failed : S → ℕ) → (mark : ℕ) → S → OpenStoreFault → Type 0

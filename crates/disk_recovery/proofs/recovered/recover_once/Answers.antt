@@ -10,7 +10,7 @@ pub returns-in-Err-OutOfMemory-clause-fault : goal.returns-in-Err-OutOfMemory-cl
 returns-in-Err-OutOfMemory-clause-fault g c = record {
   as_honest = c.recover.ensures.honest;
   some = λ h. c.in-Err-OutOfMemory.ensures.some h 65536 (c.requires.mounted h);
-  why = inl refl;
+  why = inl (refl, c.in-Err-OutOfMemory.ensures.unchanged (ap Err c.in-Err-OutOfMemory.field-0-is));
 }
 
 pub returns-in-Err-Store-clause-fault : goal.returns-in-Err-Store-clause-fault
