@@ -1,4 +1,4 @@
-use Rattle.std.proofs.Common.{◌≡◌, ◌<◌, Err, Ok, refl, sym, ap, ◌∙◌, subst}
+use Rattle.std.proofs.Common.{◌≡◌, ◌<◌, true, Err, Ok, refl, sym, ap, ◌∙◌, subst}
 use Rattle.page_layout.specs.Counter.{HasRisen}
 use Rattle.disk_server.proofs.MadeLemmas.{formatted_from}
 use Rattle.disk_server.proofs.OpenedLemmas.{risen_some}
@@ -37,8 +37,8 @@ returns-in-Err-sync-clause-unmade g c =
     let held = g.S.Store.held in
     let failed = g.S.Store.failed in
     let made = c.into_bus-die.result.store in
-    let kept = λ honest. ap (λ d. g.S.Store.honest d.store) c.into_bus-die.ensures.bus ∙ c.in-Ok-formatted.ensures.honest ∙ c.in-Ok.ensures.honest ∙ honest in
-    let same = λ honest. sym (c.in-Err-sync.ensures.syncs (kept honest)).same ∙ ap (λ s. (held s).pages) (sym c.into_store-in-Err-sync.ensures) in
+    let kept : g.S.Store.honest c.args.store ≡ true → g.S.Store.honest made ≡ true = λ honest. ap (λ d. g.S.Store.honest d.store) c.into_bus-die.ensures.bus ∙ c.in-Ok-formatted.ensures.honest ∙ c.in-Ok.ensures.honest ∙ honest in
+    let same : g.S.Store.honest c.args.store ≡ true → (held made).pages ≡ (held c.into_store-in-Err-sync.result).pages = λ honest. sym (c.in-Err-sync.ensures.syncs (kept honest)).same ∙ ap (λ s. (held s).pages) (sym c.into_store-in-Err-sync.ensures) in
     record {
       formatted = λ honest. (
         c.in-Ok-formatted.good,
