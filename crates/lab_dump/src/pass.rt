@@ -3,6 +3,7 @@ ghost use Rattle.std.specs.Prelude.{◌≡◌, ◌⊎◌, length, true, Err, OnO
 ghost use Rattle.std.specs.Io.KnownBytes.{IsAtEnd};
 ghost use Rattle.page_layout.specs.Geometry.{row_count};
 ghost use Rattle.page_layout.specs.Page.{Image};
+ghost use Rattle.image_check.specs.PageReader.{ReadsUpTo};
 ghost use Rattle.lab_dump.specs.Rows.{within};
 ghost use Rattle.lab_dump.specs.Scan.{HasMore, IsTaken, IsUntakenByPass};
 ghost use Rattle.lab_dump.specs.declared.pass.PassFault.TheVariants as faults;
@@ -112,6 +113,7 @@ pub fn expect_end<R: DumpReader>(reader: &mut R) -> Result<(), PassFault>
     ensures ok { OnOk result (IsAtEnd (R.remaining reader.old)) }
     ensures err { IfErr result (λ fault. (fault ≡ faults.Source) ⊎ ((fault ≡ faults.WrongLength) × HasMore (R.remaining reader.old))) }
     ensures source { result ≡ Err faults.Source → R.failed reader.new ≡ true }
+    ensures read { ReadsUpTo 1 (R.remaining reader.old) (R.remaining reader.new) }
 {
     match is_at_end(reader) {
         Ok(true) => Ok(()),
