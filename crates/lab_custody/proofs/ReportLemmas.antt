@@ -15,7 +15,7 @@ use Rattle.lab_report.specs.declared.note.Noted.{Noted}
 use Rattle.lab_report.specs.Note.{Note, noted_of}
 use Rattle.lab_custody.specs.declared.fault.CustodyFault.{CustodyFault}
 use Rattle.lab_custody.specs.declared.fault.CustodyFault.TheVariants as fault
-use Rattle.lab_custody.specs.Reported.{AreNoted, AreOthersBelow, HasAskingFailed, IsFileNoted, IsSomeUnnoted, IsUnnoted, IsReportUnstored, MayNotReport}
+use Rattle.lab_custody.specs.Reported.{AreNoted, AreOtherFilesBelow, HasAskingFailed, IsFileNoted, IsSomeUnnoted, IsUnnoted, IsReportUnstored, MayNotReport}
 use Rattle.lab_custody.proofs.CheckLemmas.{unread_before}
 
 -- a fault that a `?` hands on
@@ -83,13 +83,13 @@ unstored_before a b path _ h k = absurd k
 -- ---- whether it may be written
 
 -- a file that is to be written could not be asked about
-unasked_written : (a : StoreAnswers) (path : List ℕ) (wrote : List (List ℕ)) (i : ℕ) (told : CustodyFault) → i < length wrote → a.says path standing.Nothing → AreOthersBelow a path wrote i → HasAskingFailed a (get_or wrote i []) told → MayNotReport a path wrote told
+unasked_written : (a : StoreAnswers) (path : List ℕ) (wrote : List (List ℕ)) (i : ℕ) (told : CustodyFault) → i < length wrote → a.says path standing.Nothing → AreOtherFilesBelow a path wrote i → HasAskingFailed a (get_or wrote i []) told → MayNotReport a path wrote told
 unasked_written a path wrote i (fault.Lab (lab.Write word)) within free before k = inr (free, (i, within, before, k))
 unasked_written a path wrote i (fault.Lab lab.OutOfMemory) within free before k = inr (free, (i, within, before, k))
 unasked_written a path wrote i _ within free before k = absurd k
 
 pub unasked_in : {F : Type 0} (answers : F → StoreAnswers) (old now : F) (paths : List (Bor (List ℕ))) (i : ℕ) (d : Bor (List ℕ)) (file : List ℕ) (told : CustodyFault) → now ≡ old → i < length paths → d ≡ get_or paths i d
-    → (answers old).says file standing.Nothing → AreOthersBelow (answers old) file (texts paths) i → HasAskingFailed (answers now) d.now told → MayNotReport (answers old) file (texts paths) told
+    → (answers old).says file standing.Nothing → AreOtherFilesBelow (answers old) file (texts paths) i → HasAskingFailed (answers now) d.now told → MayNotReport (answers old) file (texts paths) told
 unasked_in answers old now paths i d file told same within at free before k =
     let size : length (texts paths) ≡ length paths = length-map paths (λ (w : Bor (List ℕ)). w.now) in
     let inside : i < length (texts paths) = omega arith in
@@ -99,8 +99,8 @@ unasked_in answers old now paths i d file told same within at free before k =
 
 -- one is the file of the report
 pub written_at : {F : Type 0} (answers : F → StoreAnswers) (old now : F) (paths : List (Bor (List ℕ))) (i : ℕ) (d : Bor (List ℕ)) (file : List ℕ) (b : Bool) → now ≡ old → i < length paths → d ≡ get_or paths i d → b ≡ true
-    → (answers now).says_same d.now file b → AreOthersBelow (answers old) file (texts paths) i
-    → (k : ℕ) × (k < length (texts paths)) × AreOthersBelow (answers old) file (texts paths) k × (answers old).says_same (get_or (texts paths) k []) file true
+    → (answers now).says_same d.now file b → AreOtherFilesBelow (answers old) file (texts paths) i
+    → (k : ℕ) × (k < length (texts paths)) × AreOtherFilesBelow (answers old) file (texts paths) k × (answers old).says_same (get_or (texts paths) k []) file true
 written_at answers old now paths i d file b same within at is said before =
     let size : length (texts paths) ≡ length paths = length-map paths (λ (w : Bor (List ℕ)). w.now) in
     let inside : i < length (texts paths) = omega arith in

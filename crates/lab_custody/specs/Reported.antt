@@ -19,19 +19,19 @@ HasAskingFailed a path (fault.Lab lab.OutOfMemory) = a.fails path file.OutOfMemo
 HasAskingFailed a path _ = ⊥
 
 -- of the files that the command writes the first ones are others, of which there are so many
-abbrev pub AreOthersBelow : StoreAnswers → List ℕ → List (List ℕ) → ℕ → Type 0
-AreOthersBelow a path wrote n = (i : ℕ) → i < n → a.says_same (get_or wrote i []) path false
+abbrev pub AreOtherFilesBelow : StoreAnswers → List ℕ → List (List ℕ) → ℕ → Type 0
+AreOtherFilesBelow a path wrote n = (i : ℕ) → i < n → a.says_same (get_or wrote i []) path false
 
 -- nothing stands at its path, and it is none of the files that the command writes
 pub record MayReport (a : StoreAnswers) (path : List ℕ) (wrote : List (List ℕ)) : Type 0 where
   pub free : a.says path standing.Nothing
-  pub others : AreOthersBelow a path wrote (length wrote)
+  pub others : AreOtherFilesBelow a path wrote (length wrote)
 
 -- something stands there; or nothing does, and it is one of them; or they could not be asked, one after another
 abbrev pub MayNotReport : StoreAnswers → List ℕ → List (List ℕ) → CustodyFault → Type 0
 MayNotReport a path wrote fault.ReportExists = StandsAtPath a path
-MayNotReport a path wrote fault.ReportIsOut = a.says path standing.Nothing × ((i : ℕ) × (i < length wrote) × AreOthersBelow a path wrote i × a.says_same (get_or wrote i []) path true)
-MayNotReport a path wrote told = HasAskingFailed a path told ⊎ (a.says path standing.Nothing × ((i : ℕ) × (i < length wrote) × AreOthersBelow a path wrote i × HasAskingFailed a (get_or wrote i []) told))
+MayNotReport a path wrote fault.ReportIsOut = a.says path standing.Nothing × ((i : ℕ) × (i < length wrote) × AreOtherFilesBelow a path wrote i × a.says_same (get_or wrote i []) path true)
+MayNotReport a path wrote told = HasAskingFailed a path told ⊎ (a.says path standing.Nothing × ((i : ℕ) × (i < length wrote) × AreOtherFilesBelow a path wrote i × HasAskingFailed a (get_or wrote i []) told))
 
 -- ---- what it says of files
 
