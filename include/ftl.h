@@ -74,16 +74,16 @@ enum ftl_answer {
     FTL_CODES = 38,          /* codes is neither 0 nor 1; or the spare area has no room for codes: with them it would be above 256 */
 
     /* of ftl_format */
-    FTL_TOO_FEW_GOOD = 48,   /* fewer blocks are good than the shape needs; nothing was written */
+    FTL_TOO_FEW_GOOD = 48,   /* fewer blocks are good than the shape needs: as the pages were read, and nothing was written; or once a program failed */
     FTL_WRITE_FAILED = 49,   /* three programs failed */
     FTL_NOT_FRESH = 50,      /* a page holds something already; nothing was written */
 
     /* of a start, and of ftl_certify: what the die holds has no device */
     FTL_SEQUENCE_REPEATED = 64, /* two sound pages have one sequence number */
     FTL_NUMBER_RANGE = 65,   /* a sound page is of a sector or table that this shape has not */
-    FTL_NOT_FORMATTED = 66,  /* a table page is missing: ftl_format was not done */
+    FTL_NOT_FORMATTED = 66,  /* a table page is missing: ftl_format was not done, or not to its end */
     FTL_TABLE_DAMAGED = 67,  /* a table page has bytes that no table has */
-    FTL_TOO_STALE = 68,      /* more sectors are stale than a cache can have */
+    FTL_TOO_STALE = 68,      /* more sectors are stale than a cache can have; of ftl_certify: than the disk's cache has */
     FTL_NEXT_SEQUENCE = 69,  /* a sound page has the last sequence number; of a certificate: its next one is too low */
 
     /* of ftl_start_certified: the first thing that the certificate says otherwise than the die */
@@ -255,8 +255,8 @@ static inline uint32_t ftl_get_sizes(ftl_disk *disk, struct ftl_sizes *sizes) {
 }
 
 /* Makes a fresh die ready, once in its life: it is reset, each page is read, bad blocks are found, and their table is written. The disk is not started
- * by it. All its memory is given back. Errors: FTL_STARTED; of ftl_format; FTL_OUT_OF_MEMORY: nothing was written; FTL_BUS_FAULT. After the last, and
- * after FTL_WRITE_FAILED, pages may be written, and a next ftl_format is then answered FTL_NOT_FRESH. */
+ * by it. All its memory is given back, and nothing is erased. Errors: FTL_STARTED; of ftl_format; FTL_OUT_OF_MEMORY: nothing was written; FTL_BUS_FAULT. After the last, after
+ * FTL_WRITE_FAILED, and after FTL_TOO_FEW_GOOD where a program failed, pages may be written, and a next ftl_format may be answered FTL_NOT_FRESH. */
 static inline uint32_t ftl_format(ftl_disk *disk) {
     struct ftl_handle handle;
     handle.at = disk;
@@ -265,8 +265,8 @@ static inline uint32_t ftl_format(ftl_disk *disk) {
 
 /* Power comes: the die is reset, each page is read, and the device is started with the array of sectors that the die holds. Where power went with more
  * sectors unflushed than the cache has entries, it starts with a larger cache first, up to 65536 entries, flushes, and begins anew; a device that takes no
- * change any more keeps the larger one. Errors: FTL_STARTED; of a start; FTL_OUT_OF_MEMORY; FTL_BUS_FAULT; where it had to flush, those of a device. The disk has no device after each, its
- * memory is given back, and the die holds the array that it held. */
+ * change any more keeps the larger one. Errors: FTL_STARTED; of a start; FTL_OUT_OF_MEMORY; FTL_BUS_FAULT; where it had to flush, FTL_DAMAGED. After FTL_STARTED the device
+ * goes on; after each other one the disk has none, its memory is given back, and the die holds the array that it held, but for FTL_BUS_FAULT and FTL_DAMAGED: then what it holds is told by the next start. */
 static inline uint32_t ftl_start(ftl_disk *disk) {
     struct ftl_handle handle;
     handle.at = disk;
@@ -275,8 +275,8 @@ static inline uint32_t ftl_start(ftl_disk *disk) {
 
 /* As ftl_start, and the die has to hold just what this certificate says, `size` bytes that ftl_certify wrote: so what another wrote to the die between
  * is seen. Each page is read for that too; a start that reads less could promise less. It flushes nothing.
- * Errors: FTL_STARTED; FTL_WRONG_SIZE; of ftl_start_certified; of a start; FTL_OUT_OF_MEMORY; FTL_BUS_FAULT. The disk has no device after each,
- * and the die was asked for reads alone. */
+ * Errors: FTL_STARTED; FTL_WRONG_SIZE; of ftl_start_certified; of a start; FTL_OUT_OF_MEMORY; FTL_BUS_FAULT. After FTL_STARTED the device
+ * goes on; after each other one the disk has none, and the die was asked for a Reset and reads alone, or for nothing. */
 static inline uint32_t ftl_start_certified(ftl_disk *disk, const uint8_t *certificate, size_t size) {
     struct ftl_handle handle;
     handle.at = disk;
