@@ -3,6 +3,7 @@ ghost use Rattle.std.specs.Prelude.{◌≡◌, None};
 ghost use Rattle.std.specs.Mem.{type_size};
 ghost use Rattle.ftl_c.specs.Room.{IsDiskOpened};
 ghost use Rattle.ftl_disk.specs.contracts.disk.FtlDisk.{the_row as disk_row};
+ghost use Rattle.ftl_disk.specs.Die.{over_descriptors};
 ghost use Rattle.ftl_disk.specs.Disk.{Certifies, Flushes, FormatsDisk, ReadsDiskSector, Starts, StartsCertified, StopsDisk, Trims, Turns, WritesDiskSector};
 ghost use Rattle.ftl_disk.specs.Look.{Looks};
 ghost use Rattle.ftl_disk.specs.Measures as measured;
@@ -65,87 +66,87 @@ pub extern "C" fn ftl_entry_open(
 /// Makes the die ready, once in its life. (This project's.)
 #[unsafe(no_mangle)]
 pub extern "C" fn ftl_entry_format(handle: &mut Handle) -> u32
-    ensures { FormatsDisk handle.old.disk result handle.new.disk }
+    ensures { FormatsDisk over_descriptors handle.old.disk.over result handle.new.disk.over }
 {
-    disk::format_die(handle.disk())
+    disk::format_die(&mut handle.disk().over)
 }
 
 /// Power comes: the die is reset and mounted, and the device starts. (This project's.)
 #[unsafe(no_mangle)]
 pub extern "C" fn ftl_entry_start(handle: &mut Handle) -> u32
-    ensures { Starts handle.old.disk result handle.new.disk }
+    ensures { Starts over_descriptors handle.old.disk.over result handle.new.disk.over }
 {
-    disk::start(handle.disk())
+    disk::start(&mut handle.disk().over)
 }
 
 /// Power comes, and the die has to hold what the certificate says. (This project's.)
 #[unsafe(no_mangle)]
 pub extern "C" fn ftl_entry_start_certified(handle: &mut Handle, certificate: &[u8]) -> u32
-    ensures { StartsCertified handle.old.disk certificate.now result handle.new.disk }
+    ensures { StartsCertified over_descriptors handle.old.disk.over certificate.now result handle.new.disk.over }
 {
-    certificates::start_certified(handle.disk(), certificate)
+    certificates::start_certified(&mut handle.disk().over, certificate)
 }
 
 /// Writes the certificate of what the die holds. (This project's.)
 #[unsafe(no_mangle)]
 pub extern "C" fn ftl_entry_certify(handle: &mut Handle, certificate: &mut [u8]) -> u32
-    ensures { Certifies handle.old.disk certificate.old result certificate.new handle.new.disk }
+    ensures { Certifies over_descriptors handle.old.disk.over certificate.old result certificate.new handle.new.disk.over }
 {
-    certificates::certify(handle.disk(), certificate)
+    certificates::certify(&mut handle.disk().over, certificate)
 }
 
 /// Power goes: the device is given up, with no flush, and its memory given back. The handle stays. (This project's.)
 #[unsafe(no_mangle)]
 pub extern "C" fn ftl_entry_stop(handle: &mut Handle) -> u32
-    ensures { StopsDisk handle.old.disk result handle.new.disk }
+    ensures { StopsDisk handle.old.disk.over result handle.new.disk.over }
 {
-    disk::stop(handle.disk())
+    disk::stop(&mut handle.disk().over)
 }
 
 /// Reads a sector. (This project's.)
 #[unsafe(no_mangle)]
 pub extern "C" fn ftl_entry_read(handle: &mut Handle, sector: u32, out: &mut [u8]) -> u32
-    ensures { ReadsDiskSector handle.old.disk sector out.old result out.new handle.new.disk }
+    ensures { ReadsDiskSector over_descriptors handle.old.disk.over sector out.old result out.new handle.new.disk.over }
 {
-    disk::read(handle.disk(), sector, out)
+    disk::read(&mut handle.disk().over, sector, out)
 }
 
 /// Writes a sector. (This project's.)
 #[unsafe(no_mangle)]
 pub extern "C" fn ftl_entry_write(handle: &mut Handle, sector: u32, body: &[u8]) -> u32
-    ensures { WritesDiskSector handle.old.disk sector body.now result handle.new.disk }
+    ensures { WritesDiskSector over_descriptors handle.old.disk.over sector body.now result handle.new.disk.over }
 {
-    disk::write(handle.disk(), sector, body)
+    disk::write(&mut handle.disk().over, sector, body)
 }
 
 /// Trims a sector, which then reads as 00h bytes. (This project's.)
 #[unsafe(no_mangle)]
 pub extern "C" fn ftl_entry_trim(handle: &mut Handle, sector: u32) -> u32
-    ensures { Trims handle.old.disk sector result handle.new.disk }
+    ensures { Trims over_descriptors handle.old.disk.over sector result handle.new.disk.over }
 {
-    disk::trim(handle.disk(), sector)
+    disk::trim(&mut handle.disk().over, sector)
 }
 
 /// Flushes. (This project's.)
 #[unsafe(no_mangle)]
 pub extern "C" fn ftl_entry_flush(handle: &mut Handle) -> u32
-    ensures { Flushes handle.old.disk result handle.new.disk }
+    ensures { Flushes over_descriptors handle.old.disk.over result handle.new.disk.over }
 {
-    disk::flush(handle.disk())
+    disk::flush(&mut handle.disk().over)
 }
 
 /// Gives the device an idle moment. (This project's.)
 #[unsafe(no_mangle)]
 pub extern "C" fn ftl_entry_turn(handle: &mut Handle) -> u32
-    ensures { Turns handle.old.disk result handle.new.disk }
+    ensures { Turns over_descriptors handle.old.disk.over result handle.new.disk.over }
 {
-    disk::turn(handle.disk())
+    disk::turn(&mut handle.disk().over)
 }
 
 /// Sets `view` to how the disk stands, all of one moment. Nothing is asked of the die. (This project's.)
 #[unsafe(no_mangle)]
 pub extern "C" fn ftl_entry_look(handle: &mut Handle, view: &mut View) -> u32
-    ensures { Looks handle.old.disk result view.new handle.new.disk }
+    ensures { Looks handle.old.disk.over result view.new handle.new.disk.over }
 {
-    look::look(handle.disk(), view)
+    look::look(&mut handle.disk().over, view)
 }

@@ -4,7 +4,9 @@ use Rattle.page_layout.specs.declared.geometry.Geometry.{Geometry}
 use Rattle.page_layout.specs.Flash.{Flash}
 use Rattle.page_layout.specs.Recording.{Recording}
 use Rattle.page_layout.specs.View.{View}
+use Rattle.page_layout.specs.DieCalls.{DieCall}
 use Rattle.onfi_cycles.specs.declared.nand.BusFault.{BusFault}
+use Rattle.onfi_cycles.specs.Called.{driver_called}
 use Rattle.onfi_cycles.specs.Cycles.{Command, DieState, IsCounted}
 use Rattle.onfi_cycles.specs.Driver.{DriverState, flash_by, seen}
 use Rattle.onfi_cycles.specs.Spelling.{done, refused}
@@ -14,7 +16,7 @@ use Rattle.corrected_nand.specs.ChipBus.{ChipDriverState}
 use Rattle.corrected_nand.specs.Corrected.{CorrectedState}
 use Rattle.corrected_nand.specs.Shown.{clean_flash, clean_told}
 use Rattle.stream_bus.specs.Behind.{Behind}
-use Rattle.stream_bus.specs.Carried.{SentAsFrame}
+use Rattle.stream_bus.specs.Carried.{CalledBehind, SentAsFrame}
 use Rattle.ftl_disk.specs.declared.either.EitherDie.{EitherDie}
 use Rattle.ftl_disk.specs.declared.either.EitherDie.TheVariants.{Plain, Coded}
 use Rattle.ftl_disk.specs.declared.plan.Plan.{Plan}
@@ -24,6 +26,10 @@ PlainDie L = DriverState (Behind L)
 
 abbrev pub CodedDie : Type 0 → Type 0
 CodedDie L = CorrectedState (ChipDriverState (Behind L))
+
+-- what a link says of one exchange
+abbrev pub AskedOfLink : Type 0 → Type 1
+AskedOfLink L = L → List ℕ → List ℕ → ℕ → List ℕ → L → Type 0
 
 abbrev pub of_either : {L A : Type 0} → (PlainDie L → A) → (CodedDie L → A) → EitherDie L → A
 of_either plain coded (Plain die) = plain die
@@ -54,9 +60,16 @@ erases_of_either d = of_either (λ p. p.erases) (λ c. c.erases) d
 abbrev pub failed_of_either : {L : Type 0} → EitherDie L → ℕ
 failed_of_either d = of_either (λ p. p.failures) (λ c. c.failures) d
 
+-- what it says of a call: what the one that it holds says, and it goes on holding that
+abbrev pub called_of_either : {L : Type 0} → (L → DieState) → (L → Bool) → AskedOfLink L → EitherDie L → DieCall → EitherDie L → Type 0
+called_of_either die honest called (Plain old) call (Plain new) = driver_called (λ b. die b.link) (λ b. honest b.link) (CalledBehind called) old call new
+called_of_either die honest called (Coded old) call (Coded new) = ⊤
+called_of_either die honest called (Plain old) call (Coded new) = ⊥
+called_of_either die honest called (Coded old) call (Plain new) = ⊥
+
 -- what contracts say of it
-abbrev pub either_view : {L : Type 0} → (L → DieState) → (chip : L → Flash) → (honest keeps : L → Bool) → View (EitherDie L)
-either_view die chip honest keeps = record {
+abbrev pub either_view : {L : Type 0} → (L → DieState) → (chip : L → Flash) → (honest keeps : L → Bool) → AskedOfLink L → View (EitherDie L)
+either_view die chip honest keeps called = record {
   flash = flash_of_either die chip;
   recorded = recorded_of_either;
   honest = honest_of_either honest keeps;
@@ -65,14 +78,10 @@ either_view die chip honest keeps = record {
   programs = programs_of_either;
   erases = erases_of_either;
   failed = failed_of_either;
-  called = λ _ _ _. ⊤;
+  called = λ old call new. called_of_either die honest called old call new;
 }
 
 -- ---- a Reset over a link
-
--- what a link says of one exchange
-abbrev pub AskedOfLink : Type 0 → Type 1
-AskedOfLink L = L → List ℕ → List ℕ → ℕ → List ℕ → L → Type 0
 
 -- a link to a die of this plan: to one of its geometry, or to a chip of that with codes
 pub record LeadsTo {L : Type 0} (die : L → DieState) (chip : L → Flash) (honest keeps : L → Bool) (p : Plan) (link : L) : Type 0 where
@@ -110,13 +119,3 @@ pub record IsLinkLost {L : Type 0} (called : AskedOfLink L) (link : L) : Type 0 
 -- why there is none: 6, where the link failed; or 4, where of a chip with codes memory was refused
 abbrev pub IsUnreset : {L : Type 0} → AskedOfLink L → Plan → L → (number : ℕ) → Type 0
 IsUnreset called p link number = ((number ≡ 6) × IsLinkLost called link) ⊎ ((number ≡ 4) × IsSome p.chip)
-
--- a die took Reset, and this comes of it
-pub record IsDieReached {L : Type 0} (called : AskedOfLink L) (p : Plan) (link : L) (Comes : EitherDie L → Type 0) : Type 0 where
-  pub die : EitherDie L
-  pub its : IsDieFor called p link die
-  pub comes : Comes die
-
--- A CALL OF THE DIE BEHIND A LINK: what comes of it once it took Reset; or the number of why there is none, and nothing else changes
-abbrev pub Reaches : {L : Type 0} → AskedOfLink L → Plan → L → (number : ℕ) → (Stays : Type 0) → (Comes : EitherDie L → Type 0) → Type 0
-Reaches called p link number Stays Comes = IsDieReached called p link Comes ⊎ (Stays × IsUnreset called p link number)

@@ -7,3 +7,4 @@ pub mod Measures
 pub mod NoLaw
 pub mod Numbers
 pub mod Plans
+pub mod Way

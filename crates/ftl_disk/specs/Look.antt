@@ -7,9 +7,9 @@ use Rattle.corrected_nand.specs.Errors as counted
 use Rattle.device_slot.specs.declared.slot.Shortage.{Shortage}
 use Rattle.device_slot.specs.declared.report.Report.{Report}
 use Rattle.device_slot.specs.Slot.{Reports, nand_in}
-use Rattle.ftl_disk.specs.Die.{Die}
 use Rattle.page_layout.specs.Change.{one_if}
-use Rattle.ftl_disk.specs.declared.disk.FtlDisk.{FtlDisk}
+use Rattle.ftl_disk.specs.declared.disk.WayDisk.{WayDisk}
+use Rattle.ftl_disk.specs.declared.either.EitherDie.{EitherDie}
 use Rattle.ftl_disk.specs.declared.either.EitherDie.TheVariants.{Plain, Coded}
 use Rattle.ftl_disk.specs.declared.look.Errors.{Errors}
 use Rattle.ftl_disk.specs.declared.look.Lack.{Lack}
@@ -60,19 +60,19 @@ TellsErrors None told = told ≡ record { turned = 0; lost = 0; most_turned = 0;
 TellsErrors (Some e) told = AreErrors e told
 
 -- what was wrong with the reads of a die whose pages have codes
-abbrev pub errors_of : Die → Option counted.Errors
+abbrev pub errors_of : {W : Type 0} → EitherDie W → Option counted.Errors
 errors_of (Plain die) = None
 errors_of (Coded die) = Some die.errors
 
-abbrev pub errors_at : Option Die → Option counted.Errors
+abbrev pub errors_at : {W : Type 0} → Option (EitherDie W) → Option counted.Errors
 errors_at None = None
 errors_at (Some die) = errors_of die
 
-abbrev pub errors_in : Option (Device Die) → Option counted.Errors
+abbrev pub errors_in : {W : Type 0} → Option (Device (EitherDie W)) → Option counted.Errors
 errors_in device = errors_at (nand_in device)
 
 -- A DISK AT ONE MOMENT
-pub record IsViewOf (d : FtlDisk) (v : View) : Type 0 where
+pub record IsViewOf {W : Type 0} (d : WayDisk W) (v : View) : Type 0 where
   pub errors : TellsErrors (errors_in d.slot.device) v.errors
   pub shape : v.shape ≡ shape_of d.plan
   pub report : Option Report
@@ -83,7 +83,7 @@ pub record IsViewOf (d : FtlDisk) (v : View) : Type 0 where
   pub lack : v.lack ≡ lack_of d.slot.shortage
 
 -- A LOOK: the disk stays
-pub record Looks (was : FtlDisk) (number : ℕ) (view : View) (is : FtlDisk) : Type 0 where
+pub record Looks {W : Type 0} (was : WayDisk W) (number : ℕ) (view : View) (is : WayDisk W) : Type 0 where
   pub done : number ≡ 0
   pub same : is ≡ was
   pub shows : IsViewOf was view

@@ -1,28 +1,35 @@
 //! Certificates of a disk, in and out.
 ghost use Rattle.ftl_disk.specs.Disk.{Certifies, CertifiesDisk, IsCertifying, IsStartingBy, StartsByBytes, StartsCertified};
 
-use crate::behind::{certify_behind, start_checked_behind};
-use crate::disk::{FtlDisk, way_to};
+ghost use Rattle.ftl_disk.specs.Way.{way_words};
+
+use crate::dies::{certify_over, put};
+use crate::disk::WayDisk;
 use crate::measures::certificate_length;
 use crate::number::{STARTED, WRONG_SIZE, of_certificate};
+use crate::reset::reset;
+use crate::way::Way;
 use certificate::{Certificate, read_certificate};
+use device_slot::start_checked;
 
 // The certificate of what the die holds is written to `out`.
-#[tactic(auto, using(crate::proofs::DieLemmas::leads))]
-fn certified(disk: &FtlDisk, out: &mut [u8]) -> u32
-    ensures { CertifiesDisk disk.now out.old result out.new }
+fn certified<W: Way + Drop>(disk: &mut WayDisk<W>, out: &mut [u8]) -> u32
+    ensures { CertifiesDisk (way_words W.calls W.die W.chip W.honest W.keeps W.called) disk.old out.old result out.new disk.new }
 {
-    certify_behind(
-        disk.alloc,
-        way_to(&disk.link, disk.plan.geometry),
-        &disk.plan,
-        out,
-    )
+    let link = disk.way.go(&disk.plan);
+    match reset(disk.alloc, link, &disk.plan) {
+        Ok(mut die) => {
+            let number = certify_over(disk.alloc, &mut die, &disk.plan, out);
+            disk.way.leave(die);
+            number
+        }
+        Err(number) => number,
+    }
 }
 
 // It is written to `out`, which has to be as long.
-fn put_certificate(disk: &mut FtlDisk, out: &mut [u8]) -> u32
-    ensures { IsCertifying disk.old out.old result out.new disk.new }
+fn put_certificate<W: Way + Drop>(disk: &mut WayDisk<W>, out: &mut [u8]) -> u32
+    ensures { IsCertifying (way_words W.calls W.die W.chip W.honest W.keeps W.called) disk.old out.old result out.new disk.new }
 {
     if out.len() as u64 != certificate_length(&disk.plan.geometry) {
         return WRONG_SIZE;
@@ -31,8 +38,8 @@ fn put_certificate(disk: &mut FtlDisk, out: &mut [u8]) -> u32
 }
 
 /// Writes the certificate of what the die holds.
-pub fn certify(disk: &mut FtlDisk, out: &mut [u8]) -> u32
-    ensures { Certifies disk.old out.old result out.new disk.new }
+pub fn certify<W: Way + Drop>(disk: &mut WayDisk<W>, out: &mut [u8]) -> u32
+    ensures { Certifies (way_words W.calls W.die W.chip W.honest W.keeps W.called) disk.old out.old result out.new disk.new }
 {
     if disk.slot.is_started() {
         return STARTED;
@@ -41,22 +48,24 @@ pub fn certify(disk: &mut FtlDisk, out: &mut [u8]) -> u32
 }
 
 // The certificate is held against the die, and the device begins.
-#[tactic(auto, using(crate::proofs::DieLemmas::leads))]
-fn begin_by(disk: &mut FtlDisk, certificate: &Certificate) -> u32
-    ensures { IsStartingBy disk.old certificate.now result disk.new }
+#[tactic(auto, using(crate::proofs::DieLemmas::begun_kept))]
+fn begin_by<W: Way + Drop>(disk: &mut WayDisk<W>, certificate: &Certificate) -> u32
+    ensures { IsStartingBy (way_words W.calls W.die W.chip W.honest W.keeps W.called) disk.old certificate.now result disk.new }
 {
-    start_checked_behind(
-        disk.alloc,
-        way_to(&disk.link, disk.plan.geometry),
-        &disk.plan,
-        certificate,
-        &mut disk.slot,
-    )
+    let link = disk.way.go(&disk.plan);
+    match reset(disk.alloc, link, &disk.plan) {
+        Ok(die) => {
+            let geometry = &disk.plan.geometry;
+            let brought = start_checked(disk.alloc, die, geometry, disk.plan.cache, certificate);
+            put(&mut disk.way, brought, &mut disk.slot)
+        }
+        Err(number) => number,
+    }
 }
 
 // The bytes are read as a certificate first.
-fn begin_certified(disk: &mut FtlDisk, bytes: &[u8]) -> u32
-    ensures { StartsByBytes disk.old bytes.now result disk.new }
+fn begin_certified<W: Way + Drop>(disk: &mut WayDisk<W>, bytes: &[u8]) -> u32
+    ensures { StartsByBytes (way_words W.calls W.die W.chip W.honest W.keeps W.called) disk.old bytes.now result disk.new }
 {
     if bytes.len() as u64 != certificate_length(&disk.plan.geometry) {
         return WRONG_SIZE;
@@ -68,8 +77,8 @@ fn begin_certified(disk: &mut FtlDisk, bytes: &[u8]) -> u32
 }
 
 /// Power comes, and the die has to hold what a certificate says.
-pub fn start_certified(disk: &mut FtlDisk, bytes: &[u8]) -> u32
-    ensures { StartsCertified disk.old bytes.now result disk.new }
+pub fn start_certified<W: Way + Drop>(disk: &mut WayDisk<W>, bytes: &[u8]) -> u32
+    ensures { StartsCertified (way_words W.calls W.die W.chip W.honest W.keeps W.called) disk.old bytes.now result disk.new }
 {
     if disk.slot.is_started() {
         return STARTED;

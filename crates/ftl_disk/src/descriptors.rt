@@ -1,6 +1,9 @@
 //! The link to a die over two descriptors.
 ghost use Rattle.std.specs.Prelude.{◌≡◌};
 
+use crate::either::EitherDie;
+use crate::plan::Plan;
+use crate::way::Way;
 use page_layout::geometry::Geometry;
 use stream_bus::{ChipLink, Link};
 
@@ -10,7 +13,7 @@ const DEVICE: u8 = 6;
 /// Two descriptors, which may be one: answers are read from the first, frames are written to the second. Nothing can be proved of what
 /// C's `read` and `write` move, so it is never honest. (This project's.)
 #[derive(Clone, Copy)]
-pub(crate) struct Descriptors {
+pub struct Descriptors {
     pub(crate) input: i32,
     pub(crate) output: i32,
     pub(crate) geometry: Geometry,
@@ -60,4 +63,27 @@ impl ChipLink for Descriptors {
     ghost programmed = { λ _ _ _ _ _ _ kept. no_law kept };
 
     ghost erased = { λ _ _ _ _ _ kept. no_law kept };
+}
+
+impl Way for Descriptors {
+    ghost use Rattle.std.specs.Prelude.{◌≡◌};
+    ghost use Rattle.ftl_disk.specs.Die.{by_descriptors};
+
+    // A link has the same descriptors, and they stay.
+    ghost calls = { by_descriptors };
+
+    #[tactic(auto, using(crate::proofs::DieLemmas::leads))]
+    fn go(&mut self, plan: &Plan) -> Descriptors {
+        Descriptors {
+            input: self.input,
+            output: self.output,
+            geometry: plan.geometry,
+        }
+    }
+
+    fn leave(&mut self, die: EitherDie<Descriptors>)
+        ensures { by_descriptors.leaves self.old die self.new }
+    {
+        drop(die)
+    }
 }

@@ -1,12 +1,15 @@
 //! What the calls of a disk come to, over any die.
 ghost use Rattle.std.specs.Prelude.{◌≡◌, ◌≢◌, length, IfOk, IfErr};
 ghost use Rattle.device_slot.specs.Begun.{IsDeviceKept};
-ghost use Rattle.ftl_disk.specs.Dies.{CertifiesBy, IsCertifiedBy, IsFormattedBy, IsPutInSlot, IsUncertifiedBy, StartsBy, StartsByClaim};
+ghost use Rattle.ftl_disk.specs.Dies.{CertifiesBy, FormatsBy, IsCertifiedBy, IsDieLookedAt, IsPutInSlot, IsUncertifiedBy};
+ghost use Rattle.ftl_disk.specs.Either.{either_view};
 
+use crate::either::EitherDie;
 use crate::number::{DONE, WRONG_SIZE, of_certificate, of_format, of_power, of_refusal};
 use crate::plan::Plan;
-use certificate::{Certificate, write_certificate};
-use device_slot::{DeviceSlot, PowerFault, start, start_checked};
+use crate::way::Way;
+use certificate::write_certificate;
+use device_slot::{DeviceSlot, PowerFault};
 use ftl_device::Device;
 use mount::{format, mount};
 use onfi_cycles::Nand;
@@ -14,59 +17,36 @@ use page_layout::geometry::Geometry;
 use std::alloc::Global;
 
 /// Makes a die ready.
-pub(crate) fn format_over<N: Nand + Drop>(alloc: Global, mut die: N, geometry: &Geometry) -> u32
-    requires { (N.view.flash die).geometry ≡ geometry.now }
-    ensures { IsFormattedBy N.view geometry.now die result }
+pub(crate) fn format_over<N: Nand>(alloc: Global, die: &mut N, geometry: &Geometry) -> u32
+    requires { (N.view.flash die.old).geometry ≡ geometry.now }
+    ensures { FormatsBy N.view geometry.now die.old result die.new }
 {
-    match format(alloc, &mut die, geometry) {
+    match format(alloc, die, geometry) {
         Ok(_) => DONE,
         Err(fault) => of_format(fault),
     }
 }
 
-// The device that power brought stands in the slot; or the number of why there is none comes.
-fn put<N: Nand + Drop>(brought: Result<Device<N>, PowerFault<N>>, slot: &mut DeviceSlot<N>) -> u32
-    requires { IfOk brought (IsDeviceKept N.view) }
-    ensures { IsPutInSlot brought slot.old result slot.new }
+/// The device that power brought stands in the slot; or the number of why there is none comes, and the way is left with the die.
+pub(crate) fn put<W: Way + Drop>(
+    way: &mut W,
+    brought: Result<Device<EitherDie<W>>, PowerFault<EitherDie<W>>>,
+    slot: &mut DeviceSlot<EitherDie<W>>,
+) -> u32
+    requires { IfOk brought (IsDeviceKept (either_view W.die W.chip W.honest W.keeps W.called)) }
+    ensures { IsPutInSlot W.calls.leaves brought way.old slot.old result way.new slot.new }
 {
     match brought {
         Ok(device) => {
             slot.put(device);
             DONE
         }
-        Err(fault) => of_power(&fault),
+        Err(fault) => {
+            let number = of_power(&fault);
+            way.leave(fault.into_nand());
+            number
+        }
     }
-}
-
-/// The device that power brings over a die stands in the slot; or the number of what kept it from one comes, and the slot is as it was.
-#[tactic(auto, using(crate::proofs::DieLemmas::brought_kept))]
-pub(crate) fn start_over<N: Nand + Drop>(
-    alloc: Global,
-    die: N,
-    plan: &Plan,
-    slot: &mut DeviceSlot<N>,
-) -> u32
-    requires { (N.view.flash die).geometry ≡ plan.now.geometry }
-    ensures { StartsBy N.view plan.now.geometry plan.now.cache die slot.old result slot.new }
-{
-    let brought = start(alloc, die, &plan.geometry, plan.cache);
-    put(brought, slot)
-}
-
-/// The same of the device that begins from a certificate over a die.
-#[tactic(auto, using(crate::proofs::DieLemmas::begun_kept))]
-pub(crate) fn start_checked_over<N: Nand + Drop>(
-    alloc: Global,
-    die: N,
-    plan: &Plan,
-    certificate: &Certificate,
-    slot: &mut DeviceSlot<N>,
-) -> u32
-    requires { (N.view.flash die).geometry ≡ plan.now.geometry }
-    ensures { StartsByClaim N.view plan.now.geometry plan.now.cache certificate.now die slot.old result slot.new }
-{
-    let brought = start_checked(alloc, die, &plan.geometry, plan.cache, certificate);
-    put(brought, slot)
 }
 
 // The bytes of the certificate of what a die holds, or the number of what kept it from one.
@@ -75,6 +55,7 @@ fn certificate_of<N: Nand>(alloc: Global, die: &mut N, plan: &Plan) -> Result<Ve
     ensures made { IfOk result (λ bytes. IsCertifiedBy N.view plan.now.geometry plan.now.cache die.old bytes.items) }
     ensures fault { IfErr result (λ number. IsUncertifiedBy N.view plan.now.geometry plan.now.cache die.old number die.new) }
     ensures not_done { IfErr result (λ number. number ≢ 0) }
+    ensures looked { IsDieLookedAt N.view plan.now.geometry die.old die.new }
 {
     let certificate = match mount(alloc, die, &plan.geometry, plan.cache) {
         Ok(certificate) => certificate,
@@ -99,16 +80,16 @@ fn fill(bytes: &[u8], out: &mut [u8]) -> u32
 }
 
 /// The certificate of what a die holds is written to `out`; or the number of what kept it from that comes, and the bytes stay.
-pub(crate) fn certify_over<N: Nand + Drop>(
+pub(crate) fn certify_over<N: Nand>(
     alloc: Global,
-    mut die: N,
+    die: &mut N,
     plan: &Plan,
     out: &mut [u8],
 ) -> u32
-    requires { (N.view.flash die).geometry ≡ plan.now.geometry }
-    ensures { CertifiesBy N.view plan.now.geometry plan.now.cache die out.old result out.new }
+    requires { (N.view.flash die.old).geometry ≡ plan.now.geometry }
+    ensures { CertifiesBy N.view plan.now.geometry plan.now.cache die.old out.old result out.new die.new }
 {
-    match certificate_of(alloc, &mut die, plan) {
+    match certificate_of(alloc, die, plan) {
         Ok(bytes) => fill(&bytes, out),
         Err(number) => number,
     }

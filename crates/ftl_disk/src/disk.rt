@@ -1,40 +1,33 @@
 //! A disk, as it lies behind a handle.
 ghost use Rattle.std.specs.Prelude.{◌≡◌, None, MatchResult};
-ghost use Rattle.ftl_disk.specs.Die.{way_of};
 ghost use Rattle.ftl_disk.specs.Plans.{IsUnplanned};
 ghost use Rattle.ftl_disk.specs.Disk.{Flushes, FormatsDisk, IsFormatting, IsStarting, Opens, ReadsDiskSector, Starts, StopsDisk, Trims, Turns, WritesDiskSector};
+ghost use Rattle.ftl_disk.specs.Way.{way_words};
 
-use crate::behind::{format_behind, start_behind};
 use crate::descriptors::Descriptors;
+use crate::dies::{format_over, put};
 use crate::either::EitherDie;
 use crate::number::{DONE, STARTED, of_call};
 use crate::plan::Plan;
+use crate::reset::reset;
 use crate::shape::Shape;
+use crate::way::Way;
 use device_slot::DeviceSlot;
-use page_layout::geometry::Geometry;
 use std::alloc::Global;
-
-/// The die of a disk.
-pub(crate) type Die = EitherDie<Descriptors>;
 
 /// A disk: what it is made for, the way to its die, and the device while it is started. (This project's.)
 #[derive(Drop)]
-pub struct FtlDisk {
+pub struct WayDisk<W: Way> {
     pub(crate) alloc: Global,
     pub(crate) plan: Plan,
-    pub(crate) link: Descriptors,
-    pub(crate) slot: DeviceSlot<Die>,
+    pub(crate) way: W,
+    pub(crate) slot: DeviceSlot<EitherDie<W>>,
 }
 
-/// The way to the die of a disk.
-pub(crate) fn way_to(link: &Descriptors, geometry: Geometry) -> Descriptors
-    ensures { result ≡ way_of link.now geometry }
-{
-    Descriptors {
-        input: link.input,
-        output: link.output,
-        geometry,
-    }
+/// A disk whose die stands behind two descriptors of C's. (This project's.)
+#[derive(Drop)]
+pub struct FtlDisk {
+    pub over: WayDisk<Descriptors>,
 }
 
 /// A disk of this shape over these descriptors, with no device; or the number of the first limit that the shape breaks. Nothing is asked of the
@@ -43,47 +36,53 @@ pub fn open(alloc: Global, shape: &Shape, input: i32, output: i32) -> Result<Ftl
     ensures { MatchResult result (Opens shape.now input output) (IsUnplanned shape.now) }
 {
     let plan = shape.plan()?;
-    let link = Descriptors {
+    let way = Descriptors {
         input,
         output,
         geometry: plan.geometry,
     };
-    Ok(FtlDisk {
+    let over = WayDisk {
         alloc,
         plan,
-        link,
+        way,
         slot: DeviceSlot::new(),
-    })
+    };
+    Ok(FtlDisk { over })
 }
 
 // Makes the die ready.
-#[tactic(auto, using(crate::proofs::DieLemmas::leads))]
-fn make_ready(disk: &mut FtlDisk) -> u32
-    ensures { IsFormatting disk.old result disk.new }
+fn make_ready<W: Way + Drop>(disk: &mut WayDisk<W>) -> u32
+    ensures { IsFormatting (way_words W.calls W.die W.chip W.honest W.keeps W.called) disk.old result disk.new }
 {
-    format_behind(
-        disk.alloc,
-        way_to(&disk.link, disk.plan.geometry),
-        &disk.plan,
-    )
+    let link = disk.way.go(&disk.plan);
+    match reset(disk.alloc, link, &disk.plan) {
+        Ok(mut die) => {
+            let number = format_over(disk.alloc, &mut die, &disk.plan.geometry);
+            disk.way.leave(die);
+            number
+        }
+        Err(number) => number,
+    }
 }
 
 // Mounts the die, and begins.
-#[tactic(auto, using(crate::proofs::DieLemmas::leads))]
-fn begin(disk: &mut FtlDisk) -> u32
-    ensures { IsStarting disk.old result disk.new }
+#[tactic(auto, using(crate::proofs::DieLemmas::brought_kept))]
+fn begin<W: Way + Drop>(disk: &mut WayDisk<W>) -> u32
+    ensures { IsStarting (way_words W.calls W.die W.chip W.honest W.keeps W.called) disk.old result disk.new }
 {
-    start_behind(
-        disk.alloc,
-        way_to(&disk.link, disk.plan.geometry),
-        &disk.plan,
-        &mut disk.slot,
-    )
+    let link = disk.way.go(&disk.plan);
+    match reset(disk.alloc, link, &disk.plan) {
+        Ok(die) => {
+            let brought = device_slot::start(disk.alloc, die, &disk.plan.geometry, disk.plan.cache);
+            put(&mut disk.way, brought, &mut disk.slot)
+        }
+        Err(number) => number,
+    }
 }
 
 /// Makes the die ready, once in its life.
-pub fn format_die(disk: &mut FtlDisk) -> u32
-    ensures { FormatsDisk disk.old result disk.new }
+pub fn format_die<W: Way + Drop>(disk: &mut WayDisk<W>) -> u32
+    ensures { FormatsDisk (way_words W.calls W.die W.chip W.honest W.keeps W.called) disk.old result disk.new }
 {
     if disk.slot.is_started() {
         return STARTED;
@@ -92,8 +91,8 @@ pub fn format_die(disk: &mut FtlDisk) -> u32
 }
 
 /// Power comes.
-pub fn start(disk: &mut FtlDisk) -> u32
-    ensures { Starts disk.old result disk.new }
+pub fn start<W: Way + Drop>(disk: &mut WayDisk<W>) -> u32
+    ensures { Starts (way_words W.calls W.die W.chip W.honest W.keeps W.called) disk.old result disk.new }
 {
     if disk.slot.is_started() {
         return STARTED;
@@ -102,7 +101,7 @@ pub fn start(disk: &mut FtlDisk) -> u32
 }
 
 /// Power goes: the device is given up, with no flush.
-pub fn stop(disk: &mut FtlDisk) -> u32
+pub fn stop<W: Way + Drop>(disk: &mut WayDisk<W>) -> u32
     ensures { StopsDisk disk.old result disk.new }
 {
     disk.slot.clear();
@@ -110,36 +109,36 @@ pub fn stop(disk: &mut FtlDisk) -> u32
 }
 
 /// Reads a sector.
-pub fn read(disk: &mut FtlDisk, sector: u32, out: &mut [u8]) -> u32
-    ensures { ReadsDiskSector disk.old sector out.old result out.new disk.new }
+pub fn read<W: Way + Drop>(disk: &mut WayDisk<W>, sector: u32, out: &mut [u8]) -> u32
+    ensures { ReadsDiskSector (way_words W.calls W.die W.chip W.honest W.keeps W.called) disk.old sector out.old result out.new disk.new }
 {
     of_call(disk.slot.read(sector, out))
 }
 
 /// Writes a sector.
-pub fn write(disk: &mut FtlDisk, sector: u32, body: &[u8]) -> u32
-    ensures { WritesDiskSector disk.old sector body.now result disk.new }
+pub fn write<W: Way + Drop>(disk: &mut WayDisk<W>, sector: u32, body: &[u8]) -> u32
+    ensures { WritesDiskSector (way_words W.calls W.die W.chip W.honest W.keeps W.called) disk.old sector body.now result disk.new }
 {
     of_call(disk.slot.write(sector, body))
 }
 
 /// Trims a sector.
-pub fn trim(disk: &mut FtlDisk, sector: u32) -> u32
-    ensures { Trims disk.old sector result disk.new }
+pub fn trim<W: Way + Drop>(disk: &mut WayDisk<W>, sector: u32) -> u32
+    ensures { Trims (way_words W.calls W.die W.chip W.honest W.keeps W.called) disk.old sector result disk.new }
 {
     of_call(disk.slot.trim(sector))
 }
 
 /// Flushes.
-pub fn flush(disk: &mut FtlDisk) -> u32
-    ensures { Flushes disk.old result disk.new }
+pub fn flush<W: Way + Drop>(disk: &mut WayDisk<W>) -> u32
+    ensures { Flushes (way_words W.calls W.die W.chip W.honest W.keeps W.called) disk.old result disk.new }
 {
     of_call(disk.slot.flush())
 }
 
 /// An idle moment.
-pub fn turn(disk: &mut FtlDisk) -> u32
-    ensures { Turns disk.old result disk.new }
+pub fn turn<W: Way + Drop>(disk: &mut WayDisk<W>) -> u32
+    ensures { Turns (way_words W.calls W.die W.chip W.honest W.keeps W.called) disk.old result disk.new }
 {
     of_call(disk.slot.turn())
 }

@@ -17,7 +17,7 @@ pub enum EitherDie<L: ChipLink> {
 }
 
 impl<L: ChipLink> PageSource for EitherDie<L> {
-    ghost view = { either_view L.die L.chip L.honest L.keeps };
+    ghost view = { either_view L.die L.chip L.honest L.keeps L.called };
 
     fn read_page(
         &mut self,

@@ -1,7 +1,6 @@
-//! A disk for callers in C: what it is made for, the way to its die over two descriptors, and the device while it is started.
+//! A disk for callers in C: what it is made for, the way to its die, for them over two descriptors, and the device while it is started.
 #![tactic(auto)]
 
-mod behind;
 pub mod certificates;
 mod descriptors;
 mod dies;
@@ -10,8 +9,11 @@ mod either;
 pub mod look;
 pub mod measures;
 mod number;
-mod plan;
+pub mod plan;
 mod reset;
 pub mod shape;
+mod way;
 
+pub use descriptors::Descriptors;
 pub use either::EitherDie;
+pub use way::Way;

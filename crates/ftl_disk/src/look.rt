@@ -2,11 +2,12 @@
 ghost use Rattle.std.specs.Prelude.{◌≡◌, option_copied};
 ghost use Rattle.ftl_disk.specs.Look.{IsViewOf, IsWorst, Looks, TellsErrors, errors_in, errors_of, lack_of, shape_of, reported_state, stop_number};
 
-use crate::disk::{Die, FtlDisk};
+use crate::disk::WayDisk;
 use crate::either::EitherDie;
 use crate::number::DONE;
 use crate::plan::Plan;
 use crate::shape::Shape;
+use crate::way::Way;
 use corrected_nand::ReadErrors;
 use device_slot::{DeviceSlot, Report, Shortage};
 use ftl_device::DeviceFault;
@@ -187,7 +188,7 @@ fn told(errors: Option<&ReadErrors>) -> Errors
 }
 
 // What was wrong with the reads of a die whose pages have codes.
-fn errors_of(die: &Die) -> Option<&ReadErrors>
+fn errors_of<W: Way>(die: &EitherDie<W>) -> Option<&ReadErrors>
     ensures { option_copied result ≡ errors_of die.now }
 {
     match die {
@@ -197,7 +198,7 @@ fn errors_of(die: &Die) -> Option<&ReadErrors>
 }
 
 // What was wrong with the reads of a device's die.
-fn errors_in(slot: &DeviceSlot<Die>) -> Option<&ReadErrors>
+fn errors_in<W: Way>(slot: &DeviceSlot<EitherDie<W>>) -> Option<&ReadErrors>
     ensures { option_copied result ≡ errors_in slot.now.device }
 {
     match slot.nand() {
@@ -207,7 +208,7 @@ fn errors_in(slot: &DeviceSlot<Die>) -> Option<&ReadErrors>
 }
 
 // A disk now.
-fn view_of(disk: &FtlDisk) -> View
+fn view_of<W: Way>(disk: &WayDisk<W>) -> View
     ensures { IsViewOf disk.now result }
 {
     let report = disk.slot.report();
@@ -223,7 +224,7 @@ fn view_of(disk: &FtlDisk) -> View
 }
 
 /// Sets `view` to how a disk stands, all of one moment. Nothing is asked of the die.
-pub fn look(disk: &mut FtlDisk, view: &mut View) -> u32
+pub fn look<W: Way>(disk: &mut WayDisk<W>, view: &mut View) -> u32
     ensures { Looks disk.old result view.new disk.new }
 {
     *view = view_of(disk);

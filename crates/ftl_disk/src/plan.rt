@@ -6,9 +6,9 @@ ghost use Rattle.page_code.specs.Chip.{IsChipOf};
 use page_code::chip::ChipGeometry;
 use page_layout::geometry::Geometry;
 
-/// A geometry within its limits, a cache within its own, and the geometry of the chip where its pages have codes.
+/// A geometry within its limits, a cache within its own, and the geometry of the chip where its pages have codes. (This project's.)
 #[derive(Clone, Copy)]
-pub(crate) struct Plan {
+pub struct Plan {
     pub(crate) geometry: Geometry,
     pub(crate) cache: u32,
     pub(crate) chip: Option<ChipGeometry>,

@@ -1,8 +1,0 @@
-use Rattle.std.proofs.Common.{inl, inr}
-use Rattle.ftl_disk.proofs.behind.format_behind.Goals as goal
-
-pub returns-in-Ok : goal.returns-in-Ok
-returns-in-Ok g c = inl (record { die = c.in-Ok.die; its = c.in-Ok.ensures.die; comes = c.format_over.ensures })
-
-pub returns-in-Err : goal.returns-in-Err
-returns-in-Err g c = inr (tt, c.in-Err.ensures.fault)
