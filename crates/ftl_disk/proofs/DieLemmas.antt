@@ -59,7 +59,7 @@ filled view g cache die after given out bytes number looked its same other = eli
 module _ {N W : Type 0} (view : View N) (leaves : W → N → W → Type 0) (g : Geometry) (cache : ℕ) (die : N) (way : W) (was : SlotState N) (number : ℕ) (way' : W) (is : SlotState N) where
   pub starts : (r : Result (Device N) (PowerFault N)) → IfOk r (IsBrought view die g cache) → IfOk r (IsStarted view die g cache) → IfErr r (IsUnsettled view die g cache)
       → IfErr r (λ fault. HasTriedStart view g 2 die (unpowered_nand fault)) → IsPutInSlot leaves r way was number way' is → StartsBy view leaves g cache die way was number way' is
-  starts (Ok device) brings started fault tried put = inl (put.0, (put.1, record { device = device; stands = put.2; brings = brings; started = started }))
+  starts (Ok device) brings started fault tried put = inl (put.0, put.1, record { device = device; stands = put.2; brings = brings; started = started })
   starts (Err why) brings started fault tried put = inr (put.2, record { fault = why; number_is = put.0; unsettled = fault; tried = tried; left = put.1 })
 
   pub starts_by : (c : Claim) (r : Result (Device N) (PowerFault N)) → IfOk r (IsDeviceBegun view) → IfOk r (λ d. d.engine.geometry ≡ g) → IfOk r (λ d. d.engine.mapping.capacity ≡ cache)
@@ -68,6 +68,6 @@ module _ {N W : Type 0} (view : View N) (leaves : W → N → W → Type 0) (g :
       → IfErr r (λ fault. OnlyReads view die (unpowered_nand fault)) → IfErr r (λ fault. view.reads (unpowered_nand fault) ≤ view.reads die + row_count g)
       → IsPutInSlot leaves r way was number way' is → StartsByClaim view leaves g cache c die way was number way' is
   starts_by c (Ok device) begun sized capacity array pages reads most fault given most_given put =
-      inl (put.0, (put.1, record { device = device; stands = put.2; brings = record { begun = begun; sized = sized; cache_is = capacity; array = array; pages = pages; checked = record { only_reads = reads; most_reads = most } } }))
+      inl (put.0, put.1, record { device = device; stands = put.2; brings = record { begun = begun; sized = sized; cache_is = capacity; array = array; pages = pages; checked = record { only_reads = reads; most_reads = most } } })
   starts_by c (Err why) begun sized capacity array pages reads most fault given most_given put =
       inr (put.2, record { fault = why; number_is = put.0; unaccepted = fault; checked = record { only_reads = given; most_reads = most_given }; left = put.1 })

@@ -1,6 +1,5 @@
 //! Certificates of a disk, in and out.
 ghost use Rattle.ftl_disk.specs.Disk.{Certifies, CertifiesDisk, IsCertifying, IsStartingBy, StartsByBytes, StartsCertified};
-
 ghost use Rattle.ftl_disk.specs.Way.{way_words};
 
 use crate::dies::{certify_over, put};

@@ -80,12 +80,7 @@ fn fill(bytes: &[u8], out: &mut [u8]) -> u32
 }
 
 /// The certificate of what a die holds is written to `out`; or the number of what kept it from that comes, and the bytes stay.
-pub(crate) fn certify_over<N: Nand>(
-    alloc: Global,
-    die: &mut N,
-    plan: &Plan,
-    out: &mut [u8],
-) -> u32
+pub(crate) fn certify_over<N: Nand>(alloc: Global, die: &mut N, plan: &Plan, out: &mut [u8]) -> u32
     requires { (N.view.flash die.old).geometry ≡ plan.now.geometry }
     ensures { CertifiesBy N.view plan.now.geometry plan.now.cache die.old out.old result out.new die.new }
 {
