@@ -10,7 +10,7 @@ use Rattle.ftl_disk.specs.declared.plan.Plan.{Plan}
 -- a way's own words: that it was gone for a plan, and gave this link; and that it was left with this die
 pub record WayCalls (W : Type 0) : Type 1 where
   pub goes : (old : W) → Plan → (link : W) → (new : W) → Type 0
-  pub leaves : (old : W) → EitherDie W → (new : W) → Type 0
+  pub leaves : {D : Type 0} → (old : W) → (die : D) → (new : W) → Type 0
 
 -- all that is said of a way: those, what its links say of one exchange, and what contracts say of its dies
 pub record WayWords (W : Type 0) : Type 1 where

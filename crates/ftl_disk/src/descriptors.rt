@@ -1,7 +1,6 @@
 //! The link to a die over two descriptors.
 ghost use Rattle.std.specs.Prelude.{◌≡◌};
 
-use crate::either::EitherDie;
 use crate::plan::Plan;
 use crate::way::Way;
 use page_layout::geometry::Geometry;
@@ -81,9 +80,7 @@ impl Way for Descriptors {
         }
     }
 
-    fn leave(&mut self, die: EitherDie<Descriptors>)
-        ensures { by_descriptors.leaves self.old die self.new }
-    {
+    fn leave<D: Drop>(&mut self, die: D) {
         drop(die)
     }
 }

@@ -1,5 +1,4 @@
 //! A way to a die.
-use crate::either::EitherDie;
 use crate::plan::Plan;
 use stream_bus::ChipLink;
 
@@ -17,7 +16,7 @@ pub trait Way: ChipLink + Sized {
         ensures goes { calls.goes self.old plan.now result self.new }
         ensures leads { LeadsTo Self.die Self.chip Self.honest Self.keeps plan.now result };
 
-    /// Takes the die back, as a call left it.
-    fn leave(&mut self, die: EitherDie<Self>)
+    /// Takes the die back, as a call left it. It may be of any type: no way looks into it.
+    fn leave<D: Drop>(&mut self, die: D)
         ensures { calls.leaves self.old die self.new };
 }
