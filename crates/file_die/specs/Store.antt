@@ -74,3 +74,7 @@ pub record Syncs (s : Held) (done : Bool) (t : Held) : Type 0 where
   pub synced : done ≡ true → t.durable ≡ s.pages
   pub lasts : Lasts s t
   pub whole : AreImages s → AreImages t
+
+-- ALL BLOCKS WERE TO BE ERASED, and a call for it failed: each row has the page that it had, an erased one, or one without a sound record
+abbrev pub ErasesSome : Held → Held → Type 0
+ErasesSome s t = (row : ℕ) → MayBeLeft (page_in s.pages row ∷ erased_page s.geometry ∷ []) (page_in t.pages row)

@@ -1,7 +1,7 @@
 //! How a store is begun: all its pages erased.
-ghost use Rattle.std.specs.Prelude.{◌≡◌, ◌≤◌, true, OnErr, OnOk, is_ok};
+ghost use Rattle.std.specs.Prelude.{◌≡◌, ◌≤◌, true, false, OnErr, OnOk, is_ok};
 ghost use Rattle.page_layout.specs.Counter.{HasRisen};
-ghost use Rattle.file_die.specs.Store.{blank};
+ghost use Rattle.file_die.specs.Store.{ErasesSome, blank};
 
 use crate::store::{Store, StoreFault};
 
@@ -9,9 +9,10 @@ use crate::store::{Store, StoreFault};
 ///
 /// # Errors
 ///
-/// `StoreFault` where the store failed: some blocks are erased then, and others not.
+/// `StoreFault` where the store failed: each page is then as it was, an erased one, or one without a sound record.
 pub fn erase_all<S: Store>(store: &mut S) -> Result<(), StoreFault>
     ensures blank { is_ok result ≡ true → S.honest store.old ≡ true → S.held store.new ≡ blank (S.held store.old).geometry }
+    ensures left { is_ok result ≡ false → S.honest store.old ≡ true → ErasesSome (S.held store.old) (S.held store.new) }
     ensures geometry { (S.held store.new).geometry ≡ (S.held store.old).geometry }
     ensures honest { S.honest store.new ≡ S.honest store.old }
     ensures failed { S.failed store.old ≤ S.failed store.new }

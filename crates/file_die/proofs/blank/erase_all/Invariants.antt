@@ -1,5 +1,5 @@
-use Rattle.std.proofs.Common.{◌≡◌, true}
-use Rattle.file_die.proofs.BlankLemmas.{AreErased}
+use Rattle.std.proofs.Common.{◌≡◌, ◌*◌, true}
+use Rattle.file_die.proofs.BlankLemmas.{AreErased, StandFrom}
 use Rattle.file_die.proofs.blank.erase_all.Given as goal
 
 abbrev pub invariant-loop-block : goal.invariant-loop-block
@@ -8,4 +8,5 @@ invariant-loop-block g l = record {
   honest : g.S.Store.honest l.store ≡ g.S.Store.honest l.fn.store;
   failed : g.S.Store.failed l.store ≡ g.S.Store.failed l.fn.store;
   erased : g.S.Store.honest l.fn.store ≡ true → AreErased (g.S.Store.held l.fn.store).geometry l.block (g.S.Store.held l.store);
+  later : g.S.Store.honest l.fn.store ≡ true → StandFrom (l.block * (g.S.Store.held l.fn.store).geometry.pages) (g.S.Store.held l.fn.store) (g.S.Store.held l.store);
 }
