@@ -1,5 +1,5 @@
 -- A DIE OF ONE OF TWO KINDS behind a link: one whose pages read back as they were programmed, or one over a chip whose pages have codes. It is what the one that it holds is.
-use Rattle.std.specs.Prelude.{⊤, ◌≡◌, ◌⊎◌, ℕ, Bool, false, true, List, [], Option, Some, None, IsSome, Result}
+use Rattle.std.specs.Prelude.{◌≡◌, ◌⊎◌, ℕ, Bool, false, true, List, [], Option, Some, None, IsSome, Result}
 use Rattle.page_layout.specs.declared.geometry.Geometry.{Geometry}
 use Rattle.page_layout.specs.Flash.{Flash}
 use Rattle.page_layout.specs.Recording.{Recording}
@@ -13,7 +13,8 @@ use Rattle.onfi_cycles.specs.Spelling.{done, refused}
 use Rattle.page_code.specs.declared.chip.ChipGeometry.{ChipGeometry}
 use Rattle.corrected_nand.specs.Errors.{no_errors}
 use Rattle.corrected_nand.specs.ChipBus.{ChipDriverState}
-use Rattle.corrected_nand.specs.Corrected.{CorrectedState}
+use Rattle.corrected_nand.specs.Corrected.{CorrectedState, corrected_called}
+use Rattle.corrected_nand.specs.Driven.{ChipReads, ChipPrograms, ChipErases}
 use Rattle.corrected_nand.specs.Shown.{clean_flash, clean_told}
 use Rattle.stream_bus.specs.Behind.{Behind}
 use Rattle.stream_bus.specs.Carried.{CalledBehind, SentAsFrame}
@@ -60,12 +61,17 @@ erases_of_either d = of_either (λ p. p.erases) (λ c. c.erases) d
 abbrev pub failed_of_either : {L : Type 0} → EitherDie L → ℕ
 failed_of_either d = of_either (λ p. p.failures) (λ c. c.failures) d
 
+-- what a die over a chip with codes says of a call: which cycles its driver sent over the link
+abbrev pub coded_called : {L : Type 0} → (chip : L → Flash) → AskedOfLink L → CodedDie L → DieCall → CodedDie L → Type 0
+coded_called chip called = corrected_called (λ old row answer put new. ChipReads (CalledBehind called) row answer put old new) (λ old row p answer new. ChipPrograms (λ b. chip b.link) (CalledBehind called) row p answer old new)
+    (λ old block answer new. ChipErases (λ b. chip b.link) (CalledBehind called) block answer old new)
+
 -- what it says of a call: what the one that it holds says, and it goes on holding that
-abbrev pub called_of_either : {L : Type 0} → (L → DieState) → (L → Bool) → AskedOfLink L → EitherDie L → DieCall → EitherDie L → Type 0
-called_of_either die honest called (Plain old) call (Plain new) = driver_called (λ b. die b.link) (λ b. honest b.link) (CalledBehind called) old call new
-called_of_either die honest called (Coded old) call (Coded new) = ⊤
-called_of_either die honest called (Plain old) call (Coded new) = ⊥
-called_of_either die honest called (Coded old) call (Plain new) = ⊥
+abbrev pub called_of_either : {L : Type 0} → (L → DieState) → (chip : L → Flash) → (L → Bool) → AskedOfLink L → EitherDie L → DieCall → EitherDie L → Type 0
+called_of_either die chip honest called (Plain old) call (Plain new) = driver_called (λ b. die b.link) (λ b. honest b.link) (CalledBehind called) old call new
+called_of_either die chip honest called (Coded old) call (Coded new) = coded_called chip called old call new
+called_of_either die chip honest called (Plain old) call (Coded new) = ⊥
+called_of_either die chip honest called (Coded old) call (Plain new) = ⊥
 
 -- what contracts say of it
 abbrev pub either_view : {L : Type 0} → (L → DieState) → (chip : L → Flash) → (honest keeps : L → Bool) → AskedOfLink L → View (EitherDie L)
@@ -78,7 +84,7 @@ either_view die chip honest keeps called = record {
   programs = programs_of_either;
   erases = erases_of_either;
   failed = failed_of_either;
-  called = λ old call new. called_of_either die honest called old call new;
+  called = λ old call new. called_of_either die chip honest called old call new;
 }
 
 -- ---- a Reset over a link
