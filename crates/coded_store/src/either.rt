@@ -54,44 +54,104 @@ impl<F: ByteFile> TellsMended for CodedStore<F> {
 
 /// A store whose pages stand with their codes in a file, or one without. (This project's.)
 #[derive(Drop)]
-pub enum MaybeCoded<S: Store + Drop, F: ByteFile + Drop> {
+pub enum MaybeCoded<F: ByteFile + Drop> {
     /// Without codes.
-    Plain(S),
+    Plain(DieFile<F>),
     /// With codes.
     Coded(CodedStore<F>),
 }
 
-impl<S: Store + Drop, F: ByteFile + Drop> Store for MaybeCoded<S, F> {
-    ghost use Rattle.coded_store.specs.Either.{held_of, honest_of, failed_of};
+impl<F: ByteFile + Drop> Store for MaybeCoded<F> {
+    ghost use Rattle.std.specs.Prelude.{◌≡◌, ◌<◌, ◌≤◌, true, false, length, is_ok, OnErr, OnOk};
+    ghost use Rattle.page_layout.specs.Counter.{HasRisen};
+    ghost use Rattle.page_layout.specs.Geometry.{row_count, page_bytes};
+    ghost use Rattle.onfi_cycles.specs.Cycles.{page_of};
+    ghost use Rattle.file_die.specs.Store.{Clears, Loads, Puts, Syncs};
+    ghost use Rattle.file_die.specs.Rows.{FailsSync, TellsFull};
+    ghost use Rattle.coded_store.specs.Either.{held_of, honest_of, rows_of};
 
-    ghost held = { held_of S.held F.held };
+    ghost held = { held_of F.held };
 
-    ghost honest = { honest_of S.honest F.held F.honest F.tells };
+    ghost honest = { honest_of F.held F.honest F.tells };
 
-    ghost failed = { failed_of S.failed };
+    ghost failed = { λ s. (rows_of s).failures };
 
-    fn load(&mut self, row: u32, page: &mut [u8]) -> Result<(), StoreFault> {
+    fn load(&mut self, row: u32, page: &mut [u8]) -> Result<(), StoreFault>
+        requires in_range { row < row_count (held_of F.held self.old).geometry }
+        requires room { length page.old ≡ page_bytes (held_of F.held self.old).geometry }
+
+        // What every store promises.
+        ensures loads { honest_of F.held F.honest F.tells self.old ≡ true → Loads (held_of F.held self.old) row (page_of (held_of F.held self.old).geometry page.new) (is_ok result) (held_of F.held self.new) }
+        ensures geometry { (held_of F.held self.new).geometry ≡ (held_of F.held self.old).geometry }
+        ensures honest { honest_of F.held F.honest F.tells self.new ≡ honest_of F.held F.honest F.tells self.old }
+        ensures failed { (rows_of self.old).failures ≤ (rows_of self.new).failures }
+        ensures settled { OnOk result ((rows_of self.new).failures ≡ (rows_of self.old).failures) }
+        ensures rose { OnErr result (HasRisen (rows_of self.old).failures (rows_of self.new).failures) }
+        ensures unfilled { (rows_of self.new).full ≡ false }
+    {
         match self {
             MaybeCoded::Plain(store) => store.load(row, page),
             MaybeCoded::Coded(store) => store.load(row, page),
         }
     }
 
-    fn put(&mut self, row: u32, page: &[u8]) -> Result<(), StoreFault> {
+    fn put(&mut self, row: u32, page: &[u8]) -> Result<(), StoreFault>
+        requires in_range { row < row_count (held_of F.held self.old).geometry }
+        requires whole { length page.now ≡ page_bytes (held_of F.held self.old).geometry }
+
+        // What every store promises.
+        ensures puts { honest_of F.held F.honest F.tells self.old ≡ true → Puts (held_of F.held self.old) row (page_of (held_of F.held self.old).geometry page.now) (is_ok result) (held_of F.held self.new) }
+        ensures geometry { (held_of F.held self.new).geometry ≡ (held_of F.held self.old).geometry }
+        ensures honest { honest_of F.held F.honest F.tells self.new ≡ honest_of F.held F.honest F.tells self.old }
+        ensures failed { (rows_of self.old).failures ≤ (rows_of self.new).failures }
+        ensures settled { OnOk result ((rows_of self.new).failures ≡ (rows_of self.old).failures) }
+        ensures rose { OnErr result (HasRisen (rows_of self.old).failures (rows_of self.new).failures) }
+
+        // Whatever the file does: it is full just where the file's last answer was that.
+        ensures room { OnOk result ((rows_of self.new).full ≡ false) }
+        ensures full { OnErr result (TellsFull F.wrote (rows_of self.old) (rows_of self.new)) }
+    {
         match self {
             MaybeCoded::Plain(store) => store.put(row, page),
             MaybeCoded::Coded(store) => store.put(row, page),
         }
     }
 
-    fn clear(&mut self, block: u32) -> Result<(), StoreFault> {
+    fn clear(&mut self, block: u32) -> Result<(), StoreFault>
+        requires in_range { block < (held_of F.held self.old).geometry.blocks }
+
+        // What every store promises.
+        ensures clears { honest_of F.held F.honest F.tells self.old ≡ true → Clears (held_of F.held self.old) block (is_ok result) (held_of F.held self.new) }
+        ensures geometry { (held_of F.held self.new).geometry ≡ (held_of F.held self.old).geometry }
+        ensures honest { honest_of F.held F.honest F.tells self.new ≡ honest_of F.held F.honest F.tells self.old }
+        ensures failed { (rows_of self.old).failures ≤ (rows_of self.new).failures }
+        ensures settled { OnOk result ((rows_of self.new).failures ≡ (rows_of self.old).failures) }
+        ensures rose { OnErr result (HasRisen (rows_of self.old).failures (rows_of self.new).failures) }
+
+        // Whatever the file does: it is full just where the file's last answer was that.
+        ensures room { OnOk result ((rows_of self.new).full ≡ false) }
+        ensures full { OnErr result (TellsFull F.wrote (rows_of self.old) (rows_of self.new)) }
+    {
         match self {
             MaybeCoded::Plain(store) => store.clear(block),
             MaybeCoded::Coded(store) => store.clear(block),
         }
     }
 
-    fn sync(&mut self) -> Result<(), StoreFault> {
+    fn sync(&mut self) -> Result<(), StoreFault>
+        // What every store promises.
+        ensures syncs { honest_of F.held F.honest F.tells self.old ≡ true → Syncs (held_of F.held self.old) (is_ok result) (held_of F.held self.new) }
+        ensures geometry { (held_of F.held self.new).geometry ≡ (held_of F.held self.old).geometry }
+        ensures honest { honest_of F.held F.honest F.tells self.new ≡ honest_of F.held F.honest F.tells self.old }
+        ensures failed { (rows_of self.old).failures ≤ (rows_of self.new).failures }
+        ensures settled { OnOk result ((rows_of self.new).failures ≡ (rows_of self.old).failures) }
+        ensures rose { OnErr result (HasRisen (rows_of self.old).failures (rows_of self.new).failures) }
+        ensures unfilled { (rows_of self.new).full ≡ false }
+
+        // Whatever the file does: after one that failed none is asked for.
+        ensures once { (rows_of self.old).sync_failed ≡ true → (is_ok result ≡ false) × ((rows_of self.new).file ≡ (rows_of self.old).file) }
+        ensures refused { OnErr result (FailsSync F.refused (rows_of self.old) (rows_of self.new)) }
+    {
         match self {
             MaybeCoded::Plain(store) => store.sync(),
             MaybeCoded::Coded(store) => store.sync(),
@@ -113,7 +173,7 @@ impl<S: Store + Drop, F: ByteFile + Drop> Store for MaybeCoded<S, F> {
     }
 }
 
-impl<S: Store + Drop, F: ByteFile + Drop> TellsMended for MaybeCoded<S, F> {
+impl<F: ByteFile + Drop> TellsMended for MaybeCoded<F> {
     ghost use Rattle.coded_store.specs.Either.{mended_in};
 
     ghost mended = { mended_in };
@@ -134,10 +194,10 @@ impl<F: ByteFile> TellsFull for CodedStore<F> {
     }
 }
 
-impl<S: Store + TellsFull + Drop, F: ByteFile + Drop> TellsFull for MaybeCoded<S, F> {
-    ghost use Rattle.coded_store.specs.Either.{full_of};
+impl<F: ByteFile + Drop> TellsFull for MaybeCoded<F> {
+    ghost use Rattle.coded_store.specs.Either.{rows_of};
 
-    ghost full = { full_of S.full };
+    ghost full = { λ s. (rows_of s).full };
 
     fn is_full(&self) -> bool {
         match self {

@@ -1,11 +1,8 @@
 -- THE STORE OF A DIE IN A FILE OF THE SYSTEM, with codes or without: of it only the geometry is known.
 use Rattle.std.specs.Prelude.{◌≡◌, []}
 use Rattle.page_layout.specs.declared.geometry.Geometry.{Geometry}
-use Rattle.onfi_cycles.specs.Cycles.{page_of}
-use Rattle.file_die.specs.declared.file_store.DieFile.{DieFile}
 use Rattle.file_die.specs.declared.bytes.ByteFile.{Ghosts}
 use Rattle.file_die.specs.Bytes.{Bytes}
-use Rattle.file_die.specs.Rows.{held_in}
 use Rattle.coded_store.specs.declared.either.MaybeCoded.{MaybeCoded}
 use Rattle.coded_store.specs.Either.{held_of}
 
@@ -13,5 +10,5 @@ use Rattle.coded_store.specs.Either.{held_of}
 abbrev pub no_bytes : {F : Type 0} → F → Bytes
 no_bytes file = record { bytes = []; durable = []; failed_syncs = 0 }
 
-abbrev pub IsStoreOf : {F : Type 0} {G : Ghosts F} → Geometry → MaybeCoded (DieFile F G) F → Type 0
-IsStoreOf g store = (held_of (λ s. held_in no_bytes (page_of s.rows.geometry) s.rows) no_bytes store).geometry ≡ g
+abbrev pub IsStoreOf : {F : Type 0} {G : Ghosts F} → Geometry → MaybeCoded F G → Type 0
+IsStoreOf g store = (held_of no_bytes store).geometry ≡ g

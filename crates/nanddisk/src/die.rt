@@ -14,7 +14,7 @@ use std::fs::File;
 use std::rt::Files;
 
 /// The pages of a die in a file of the system: with their codes, or without.
-pub type DieStore<'a> = MaybeCoded<DieFile<NotedFile<'a>>, NotedFile<'a>>;
+pub type DieStore<'a> = MaybeCoded<NotedFile<'a>>;
 
 /// The same file, if it is as long as a shape says.
 pub fn as_long<R: Files<File = File>>(
