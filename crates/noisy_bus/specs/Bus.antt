@@ -1,9 +1,10 @@
 -- A bus of a chip with bit errors, for tests: what it holds between two cycles, and what each cycle does.
-use Rattle.std.specs.Prelude.{◌≡◌, ℕ, ◌+◌, ◌*◌, ◌/◌, ◌%◌, ◌^◌, ◌≤◌, ◌==◌, ◌&&◌, ◌||◌, if◌then◌else◌, Bool, true, List, [], ◌∷◌, ◌++◌, length, take, drop, Result, Ok, Err}
+use Rattle.std.specs.Prelude.{◌≡◌, ◌≢◌, ℕ, ◌+◌, ◌*◌, ◌/◌, ◌%◌, ◌^◌, ◌≤◌, ◌==◌, ◌&&◌, ◌||◌, if◌then◌else◌, Bool, true, List, [], ◌∷◌, ◌++◌, length, take, drop, Result, Ok, Err}
 use Rattle.page_layout.specs.declared.geometry.Geometry.{Geometry}
 use Rattle.page_layout.specs.Page.{Page, page}
 use Rattle.page_layout.specs.Flash.{Flash, Program, Erase, page_at, block_at}
 use Rattle.onfi_cycles.specs.declared.nand.BusFault.{BusFault}
+use Rattle.onfi_cycles.specs.declared.nand.BusFault.TheVariants.{UnknownCommand, Device}
 use Rattle.onfi_cycles.specs.declared.nand.Outcome.{Outcome}
 use Rattle.onfi_cycles.specs.Outcomes.{is_passed}
 use Rattle.onfi_cycles.specs.Cycles.{Cycle, Command, Address, DataIn, DataOut, status_of}
@@ -85,10 +86,16 @@ pub record HasDoneErase {N : Type 0} (flash : N → Flash) (honest : N → Bool)
 abbrev pub is_beginning : ℕ → Bool
 is_beginning code = (code == 0x00) || ((code == 0x60) || (code == 0x80))
 
+-- the codes of all commands
+abbrev pub is_known : ℕ → Bool
+is_known code = is_beginning code || ((code == 0x70) || ((code == 0xFF) || ((code == 0x30) || ((code == 0x10) || (code == 0xD0)))))
+
 -- A command that was taken, by its code. A command that begins is taken at any time; one that confirms follows its whole address.
 pub record TakesCommand {N : Type 0} (flash : N → Flash) (honest : N → Bool) (code : ℕ) (old new : BusState N) : Type 0 where
+  pub known : is_known code ≡ true
   pub begins : is_beginning code ≡ true → new ≡ moved (stage.Address code 0 0) [] old
   pub shows : code ≡ 0x70 → new ≡ moved stage.Putting (old.status ∷ []) old
+  pub resets : code ≡ 0xFF → new ≡ moved stage.Idle [] old
   pub reads : code ≡ 0x30 → (row : ℕ) × (old.stage ≡ stage.Address 0x00 5 row) × HasReadPage flash honest row old new
   pub programs : code ≡ 0x10 → (row : ℕ) × (old.stage ≡ stage.Loading row) × HasDoneProgram flash honest row old new
   pub erases : code ≡ 0xD0 → (row : ℕ) × (old.stage ≡ stage.Address 0x60 3 row) × HasDoneErase flash honest (row / old.geometry.pages) old new
@@ -102,9 +109,16 @@ TakesCycle flash honest old (Address byte) out new = (out ≡ []) × (new ≡ mo
 TakesCycle flash honest old (DataIn bytes) out new = (out ≡ []) × (new ≡ moved old.stage (old.held ++ bytes) old)
 TakesCycle flash honest old (DataOut count) out new = (count ≤ length old.held) × (out ≡ take count old.held) × (new ≡ moved old.stage (drop count old.held) old)
 
+-- A CYCLE THAT WAS NOT TAKEN. One that is not due, or for which there is no room, changes nothing; a command that nobody knows gives up what was unfinished; and where
+-- the chip failed all but the chip is so too
+pub record RefusesCycle {N : Type 0} (fault : BusFault) (old new : BusState N) : Type 0 where
+  pub untaken : fault ≢ Device → fault ≢ UnknownCommand → new ≡ old
+  pub unknown : fault ≡ UnknownCommand → new ≡ moved stage.Idle [] old
+  pub failed : fault ≡ Device → new ≡ record { nand = new.nand; geometry = old.geometry; stage = stage.Idle; held = []; status = old.status }
+
 abbrev pub AnswersCycle : {N : Type 0} → (N → Flash) → (N → Bool) → BusState N → Cycle → Result (Unit {0}) BusFault → List ℕ → BusState N → Type 0
 AnswersCycle flash honest old cycle (Ok x) out new = TakesCycle flash honest old cycle out new
-AnswersCycle flash honest old cycle (Err fault) out new = Unit {0}
+AnswersCycle flash honest old cycle (Err fault) out new = RefusesCycle fault old new
 
 -- whether the chip keeps its law stays, and its geometry; its faults do not fall
 pub record KeepsLawAndGeometry {N : Type 0} (flash : N → Flash) (honest : N → Bool) (failed : N → ℕ) (old new : BusState N) : Type 0 where

@@ -7,7 +7,7 @@ ghost use Rattle.onfi_cycles.specs.Cycles.{IsCounted, status_of};
 ghost use Rattle.page_code.specs.Layout.{outer_bytes, coded};
 ghost use Rattle.onfi_cycles.specs.Outcomes.{is_passed};
 ghost use Rattle.onfi_cycles.specs.Spelling.{done};
-ghost use Rattle.noisy_bus.specs.Bus.{moved, is_beginning, KeepsLawAndGeometry, HasDoneOperation, HasPutOutPage, HasReadPage, HasDoneProgram, HasDoneErase};
+ghost use Rattle.noisy_bus.specs.Bus.{moved, is_beginning, KeepsLawAndGeometry, HasDoneOperation, HasPutOutPage, HasReadPage, HasDoneProgram, HasDoneErase, RefusesCycle};
 ghost use Rattle.noisy_bus.specs.declared.stage.Stage.TheVariants as at;
 
 use crate::stage::Stage;
@@ -139,7 +139,7 @@ impl<N: NoisyNand> NoisyBus<N> {
 
     // Takes no such command.
     fn refuse(&mut self) -> Result<(), BusFault>
-        ensures refused { result ≡ Err BusFault.UnknownCommand }
+        ensures refused { (result ≡ Err BusFault.UnknownCommand) × (self.new ≡ moved at.Idle [] self.old) }
         ensures stays { KeepsLawAndGeometry N.flash N.honest N.failed self.old self.new }
     {
         self.stand(Stage::Idle);
@@ -150,6 +150,7 @@ impl<N: NoisyNand> NoisyBus<N> {
     fn read(&mut self, row: u32) -> Result<(), BusFault>
         requires { row < row_count self.old.geometry }
         ensures read { OnOk result (HasReadPage N.flash N.honest row self.old self.new) }
+        ensures refused { IfErr result (λ fault. RefusesCycle fault self.old self.new) }
         ensures stays { KeepsLawAndGeometry N.flash N.honest N.failed self.old self.new }
         ensures rose { OnErr result (HasRisen (N.failed self.old.nand) (N.failed self.new.nand)) }
     {
@@ -172,6 +173,7 @@ impl<N: NoisyNand> NoisyBus<N> {
     // 30h: the read of the row that was addressed.
     fn confirm_read(&mut self) -> Result<(), BusFault>
         ensures read { OnOk result ((row : ℕ) × (self.old.stage ≡ at.Address 0 5 row) × HasReadPage N.flash N.honest row self.old self.new) }
+        ensures refused { IfErr result (λ fault. RefusesCycle fault self.old self.new) }
         ensures stays { KeepsLawAndGeometry N.flash N.honest N.failed self.old self.new }
         ensures rose { IfErr result (IsCounted (N.failed self.old.nand) (N.failed self.new.nand)) }
     {
@@ -204,6 +206,7 @@ impl<N: NoisyNand> NoisyBus<N> {
     fn program(&mut self, row: u32) -> Result<(), BusFault>
         requires { row < row_count self.old.geometry }
         ensures programmed { OnOk result (HasDoneProgram N.flash N.honest row self.old self.new) }
+        ensures refused { IfErr result (λ fault. RefusesCycle fault self.old self.new) }
         ensures stays { KeepsLawAndGeometry N.flash N.honest N.failed self.old self.new }
         ensures rose { IfErr result (IsCounted (N.failed self.old.nand) (N.failed self.new.nand)) }
     {
@@ -221,6 +224,7 @@ impl<N: NoisyNand> NoisyBus<N> {
     // 10h: the program of the row that was addressed.
     fn confirm_program(&mut self) -> Result<(), BusFault>
         ensures programmed { OnOk result ((row : ℕ) × (self.old.stage ≡ at.Loading row) × HasDoneProgram N.flash N.honest row self.old self.new) }
+        ensures refused { IfErr result (λ fault. RefusesCycle fault self.old self.new) }
         ensures stays { KeepsLawAndGeometry N.flash N.honest N.failed self.old self.new }
         ensures rose { IfErr result (IsCounted (N.failed self.old.nand) (N.failed self.new.nand)) }
     {
@@ -234,6 +238,7 @@ impl<N: NoisyNand> NoisyBus<N> {
     fn erase(&mut self, block: u32) -> Result<(), BusFault>
         requires { block < self.old.geometry.blocks }
         ensures erased { OnOk result (HasDoneErase N.flash N.honest block self.old self.new) }
+        ensures refused { IfErr result (λ fault. RefusesCycle fault self.old self.new) }
         ensures stays { KeepsLawAndGeometry N.flash N.honest N.failed self.old self.new }
         ensures rose { IfErr result (IsCounted (N.failed self.old.nand) (N.failed self.new.nand)) }
     {
@@ -244,6 +249,7 @@ impl<N: NoisyNand> NoisyBus<N> {
     // D0h: the erase of the block of the row that was addressed.
     fn confirm_erase(&mut self) -> Result<(), BusFault>
         ensures erased { OnOk result ((row : ℕ) × (self.old.stage ≡ at.Address 0x60 3 row) × HasDoneErase N.flash N.honest (row / self.old.geometry.pages) self.old self.new) }
+        ensures refused { IfErr result (λ fault. RefusesCycle fault self.old self.new) }
         ensures stays { KeepsLawAndGeometry N.flash N.honest N.failed self.old self.new }
         ensures rose { IfErr result (IsCounted (N.failed self.old.nand) (N.failed self.new.nand)) }
     {
