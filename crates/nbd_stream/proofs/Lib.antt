@@ -4,6 +4,7 @@ pub mod StreamOnce
 pub mod StreamSome
 pub mod OptionReading
 pub mod Negotiating
+pub mod HandedLemmas
 pub mod StreamEnds
 pub mod ThroughLemmas
 pub mod TaskLemmas

@@ -1,5 +1,6 @@
 pub mod Frames
 pub mod Options
+pub mod Handed
 pub mod Negotiation
 pub mod Tasks
 -- steps of one kind, any number

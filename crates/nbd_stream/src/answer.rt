@@ -1,7 +1,8 @@
 //! What an option is answered.
 ghost use Rattle.request_stream.specs.Streams.{EndsBy};
-ghost use Rattle.std.specs.Prelude.{◌≡◌, ◌≢◌, OnErr, OnOk, ◌≤◌, ℕ, Bool, List, length, take, false, true, IfSome, IsNone};
+ghost use Rattle.std.specs.Prelude.{◌≡◌, OnErr, OnOk, ◌≤◌, ℕ, Bool, List, length, take, false, true, IfSome, IsNone};
 ghost use Rattle.request_stream.specs.Frames.{SendsBytes};
+ghost use Rattle.nbd_stream.specs.Handed.{HandsAnswer};
 ghost use Rattle.nbd_stream.specs.Options.{IsData, option_from, answer_to_option, question_answer, is_question, name_length, step_after, option_answer_bytes, asked_option, option_reply_header, transmission_flags, export_bytes, export_info, block_info};
 
 use crate::export::Export;
@@ -232,7 +233,7 @@ pub(crate) fn send_answer<W: Outgoing>(
 ) -> Result<(), ServeFault>
     ensures sends { SendsBytes (W.contents writer.old) (W.contents writer.new) (option_answer_bytes export.now no_zeroes code answer) result }
     ensures fails { OnErr result (EndsBy W.fails writer.new) }
-    ensures hands { OnOk result (answer ≢ Answer.Silent → EndsBy W.hands writer.new) }
+    ensures hands { OnOk result (HandsAnswer W.hands answer writer.old writer.new) }
 {
     match answer {
         Answer::Short(kind) => send_parts(writer, &[&reply_header(code, kind, 0)]),

@@ -1,6 +1,7 @@
 //! A disk whose bytes stand in memory, and a client that it is served to.
 ghost use Rattle.std.specs.Prelude.{◌≡◌, ◌≤◌, ◌+◌, length, replicate, slice_range, IfErr};
 ghost use Rattle.nbd_stream.specs.Disk.{with_bytes};
+ghost use Rattle.nbd_stream.specs.Handed.{HasHandedOn};
 ghost use Rattle.nbd_stream.specs.Memory.{ServesBytes};
 ghost use Rattle.request_stream.specs.Streams.{HasStopped};
 
@@ -100,7 +101,7 @@ impl Disk for MemoryDisk {
 }
 
 /// Serves the disk to a client, until it goes or its stream ends. What is written is a function of what is read: the answers of an array
-/// of bytes, one request after another, and the disk is left as they leave it.
+/// of bytes, one request after another, and the disk is left as they leave it. What was written was handed on, as of `serve`.
 ///
 /// # Errors
 ///
@@ -117,6 +118,7 @@ pub fn serve_memory<R: Incoming, W: Outgoing>(
     ensures serves { ServesBytes export.now (length buffer.new) disk.old.bytes.items disk.new.bytes.items
         (R.remaining reader.old) (R.remaining reader.new) (W.contents writer.old) (W.contents writer.new) result }
     ensures stops { IfErr result (HasStopped 16 R.fails W.fails (R.remaining reader.old) (R.remaining reader.new) reader.new writer.new) }
+    ensures handed { HasHandedOn W.hands writer.new result }
 {
     serve(reader, writer, disk, export, buffer)
 }

@@ -1,6 +1,7 @@
 //! The negotiation: a greeting, and answers to options until one of them begins the transmission.
 ghost use Rattle.std.specs.Prelude.{IfErr, OnErr, length};
 ghost use Rattle.request_stream.specs.Streams.{EndsBy, HasStopped, HasStreamFailed};
+ghost use Rattle.nbd_stream.specs.Handed.{HasHandedOn, LeavesHanded};
 ghost use Rattle.nbd_stream.specs.Negotiation.{AnswersNext, AnswersOptions, Negotiates, ReadsFlags};
 
 use crate::answer::{AnswerStep, answer_to, send_answer, step_after};
@@ -40,6 +41,7 @@ fn answer_next<R: Incoming, W: Outgoing>(
 ) -> Result<Option<Negotiated>, ServeFault>
     ensures answers { AnswersNext export.now no_zeroes (length body.new) (R.remaining reader.old) (R.remaining reader.new) (W.contents writer.old) (W.contents writer.new) result }
     ensures fails { IfErr result (HasStreamFailed R.fails W.fails reader.new writer.new) }
+    ensures handed { LeavesHanded W.hands writer.old writer.new result }
 {
     let header = match read_option(reader, body)? {
         NextOption::Whole(header) => header,
@@ -64,6 +66,7 @@ fn answer_options<R: Incoming, W: Outgoing>(
 ) -> Result<Negotiated, ServeFault>
     ensures answers { AnswersOptions export.now no_zeroes (length body.new) (R.remaining reader.old) (R.remaining reader.new) (W.contents writer.old) (W.contents writer.new) result }
     ensures stops { IfErr result (HasStopped 16 R.fails W.fails (R.remaining reader.old) (R.remaining reader.new) reader.new writer.new) }
+    ensures handed { LeavesHanded W.hands writer.old writer.new result }
 {
     for _ in 0..u64::MAX {
         match answer_next(reader, writer, export, no_zeroes, body)? {
@@ -94,7 +97,7 @@ fn read_flags<R: Incoming>(reader: &mut R) -> Result<ClientFlags, ServeFault>
 }
 
 /// Greets a client, reads its flags, and answers its options until it has chosen the export, or goes. Data of an option that is longer
-/// than the buffer is read past.
+/// than the buffer is read past. The greeting and each answer are handed on, so that no client waits for them.
 ///
 /// # Errors
 ///
@@ -111,6 +114,7 @@ pub fn negotiate<R: Incoming, W: Outgoing>(
 ) -> Result<Negotiated, ServeFault>
     ensures negotiates { Negotiates export.now (length body.new) (R.remaining reader.old) (R.remaining reader.new) (W.contents writer.old) (W.contents writer.new) result }
     ensures stops { IfErr result (HasStopped 16 R.fails W.fails (R.remaining reader.old) (R.remaining reader.new) reader.new writer.new) }
+    ensures handed { HasHandedOn W.hands writer.new result }
 {
     send_parts(writer, &[&GREETING])?;
     match read_flags(reader)? {

@@ -3,6 +3,7 @@ ghost use Rattle.std.specs.Prelude.{◌≡◌, ◌≤◌, ◌+◌, ℕ, List, No
 ghost use Rattle.request_stream.specs.Streams.{EndsBy, HasStopped, HasStreamFailed};
 ghost use Rattle.nbd_stream.specs.Disk.{IsInside, PerformsTask, answer_from, asked_as, count_given, count_taken};
 ghost use Rattle.nbd_stream.specs.Exchanges.{RestsAfter};
+ghost use Rattle.nbd_stream.specs.Handed.{HasHandedOn, LeavesHanded};
 ghost use Rattle.nbd_stream.specs.Frames.{IsNbdRequest, request_with_body};
 ghost use Rattle.nbd_stream.specs.Tasks.{admitted, asks_change, sets_bytes};
 ghost use Rattle.nbd_stream.specs.Through.{Through};
@@ -113,6 +114,7 @@ fn serve_next<R: Incoming, W: Outgoing, D: Disk>(
     ensures leaves { export.now.read_only ≡ true → Through D.leaves disk.old disk.new }
     ensures fails { IfErr result (HasStreamFailed R.fails W.fails reader.new writer.new) }
     ensures hands { result ≡ Ok None → EndsBy W.hands writer.new }
+    ensures handed { LeavesHanded W.hands writer.old writer.new result }
 {
     match read_request(reader, buffer)? {
         NextRequest::Ended(end) => Ok(Some(end)),
@@ -165,6 +167,7 @@ pub fn transmit<R: Incoming, W: Outgoing, D: Disk>(
         (W.contents writer.old) (W.contents writer.new) result }
     ensures leaves { export.now.read_only ≡ true → Through D.leaves disk.old disk.new }
     ensures stops { IfErr result (HasStopped 16 R.fails W.fails (R.remaining reader.old) (R.remaining reader.new) reader.new writer.new) }
+    ensures handed { LeavesHanded W.hands writer.old writer.new result }
 {
     for _ in 0..u64::MAX {
         match serve_next(reader, writer, disk, export, buffer)? {
@@ -179,7 +182,7 @@ pub fn transmit<R: Incoming, W: Outgoing, D: Disk>(
 ///
 /// # Errors
 ///
-/// As `negotiate`, and the disk is as it was; or as `transmit`. (The NBD protocol.)
+/// As `negotiate`, and the disk is as it was; or as `transmit`. Beside `Write`, all that was written was handed on. (The NBD protocol.)
 pub fn serve<R: Incoming, W: Outgoing, D: Disk>(
     reader: &mut R,
     writer: &mut W,
@@ -193,6 +196,7 @@ pub fn serve<R: Incoming, W: Outgoing, D: Disk>(
         (W.contents writer.old) (W.contents writer.new) result }
     ensures leaves { export.now.read_only ≡ true → Through D.leaves disk.old disk.new }
     ensures stops { IfErr result (HasStopped 16 R.fails W.fails (R.remaining reader.old) (R.remaining reader.new) reader.new writer.new) }
+    ensures handed { HasHandedOn W.hands writer.new result }
 {
     match negotiate(reader, writer, export, buffer)? {
         Negotiated::Ended(end) => Ok(end),

@@ -4,11 +4,12 @@ use Rattle.request_stream.specs.declared.reply.ServeFault.TheVariants as fault
 use Rattle.nbd_stream.specs.Negotiation.{AnswersNext, AnswersOptions}
 use Rattle.nbd_stream.proofs.Negotiating.{negotiating_none, negotiating_more, negotiating_done, negotiating_stopped, negotiating_full}
 use Rattle.nbd_stream.specs.Options.{option_bytes}
+use Rattle.nbd_stream.proofs.HandedLemmas.{handed_then, leaves_fault}
 use Rattle.nbd_stream.proofs.StreamEnds.{long_option, more_read, none_read}
 use Rattle.nbd_stream.proofs.negotiation.answer_options.Goals as goal
 
 pub loop-init : goal.loop-init
-loop-init g c = (refl, negotiating_none c.args.export.now c.args.no_zeroes (length c.args.body.now) (g.R.Read.remaining c.args.reader.now) (g.W.Write.contents c.args.writer.now), none_read _)
+loop-init g c = (refl, negotiating_none c.args.export.now c.args.no_zeroes (length c.args.body.now) (g.R.Read.remaining c.args.reader.now) (g.W.Write.contents c.args.writer.now), none_read _, inl refl)
 
 pub loop-preserved : goal.loop-preserved
 loop-preserved g c =
@@ -19,6 +20,7 @@ loop-preserved g c =
           (g.R.Read.remaining c.loop.reader) (g.W.Write.contents c.loop.writer) (g.R.Read.remaining c.answer_next.new.reader) (g.W.Write.contents c.answer_next.new.writer) c.loop.invariant.1
           (subst (λ k. AnswersNext c.args.export.now c.args.no_zeroes k (g.R.Read.remaining c.loop.reader) (g.R.Read.remaining c.answer_next.new.reader) (g.W.Write.contents c.loop.writer) (g.W.Write.contents c.answer_next.new.writer) (Ok None)) long one),
       more_read c.loop.counter _ _ _ (option_bytes one.option) c.loop.invariant.2 (long_option one.option) one.read,
+      handed_then g.W.Outgoing.hands c.args.writer.now c.loop.writer c.answer_next.new.writer c.loop.invariant.3 c.in_ok-answer_next.ensures.handed,
     )
 
 pub returns-in-Some-clause-answers : goal.returns-in-Some-clause-answers
@@ -57,3 +59,14 @@ returns-clause-stops g c =
     let read = c.loop.invariant.2 in
     let counted : 18446744073709551615 ≤ c.loop.counter = omega arith in
     inr (refl, (read.0, omega (arith, read.1, counted), read.2))
+
+pub returns-in-Some-clause-handed : goal.returns-in-Some-clause-handed
+returns-in-Some-clause-handed g c = handed_then g.W.Outgoing.hands c.args.writer.now c.loop.writer c.answer_next.new.writer c.loop.invariant.3 c.in_ok-answer_next.ensures.handed
+
+pub returns-in_err-answer_next-clause-handed : goal.returns-in_err-answer_next-clause-handed
+returns-in_err-answer_next-clause-handed g c =
+    let p = err_from_is_err_and c.from_residual.result c.from_residual.ensures.1 in
+    rw (p.1, p.2) (leaves_fault g.W.Outgoing.hands c.args.writer.now c.loop.writer c.answer_next.new.writer c.in_err-answer_next.field-0.0 c.loop.invariant.3 c.in_err-answer_next.ensures.handed)
+
+pub returns-clause-handed : goal.returns-clause-handed
+returns-clause-handed g c = c.loop.invariant.3

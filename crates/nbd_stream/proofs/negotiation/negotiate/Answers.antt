@@ -2,6 +2,7 @@ use Rattle.std.proofs.Common.{Err, refl, sym, subst, ap, inl, inr}
 use Rattle.std.proofs.lemmas.Result.{err_from_is_err_and}
 use Rattle.request_stream.specs.declared.reply.ServeFault.{ServeFault}
 use Rattle.request_stream.specs.Streams.{HasStreamFailed}
+use Rattle.nbd_stream.proofs.HandedLemmas.{has_then, unread, unsent}
 use Rattle.nbd_stream.proofs.StreamEnds.{stop_later}
 use Rattle.nbd_stream.proofs.negotiation.negotiate.Goals as goal
 
@@ -43,3 +44,22 @@ returns-in-NoZeroes-clause-stops g c =
     let flags = rw c.in-NoZeroes.is at c.in_ok-end.ensures.reads in
     stop_later g.R.Incoming.fails g.W.Outgoing.fails (g.R.Read.remaining c.args.reader.now) (g.R.Read.remaining c.read_flags.new.reader) (g.R.Read.remaining c.answer_options.new.reader) c.answer_options.new.reader c.answer_options.new.writer _ c.answer_options.result
     flags.3 c.answer_options.ensures.stops
+
+pub returns-in_err-send_parts-clause-handed : goal.returns-in_err-send_parts-clause-handed
+returns-in_err-send_parts-clause-handed g c =
+    let p = err_from_is_err_and c.from_residual.result c.from_residual.ensures.1 in
+    let stopped = c.in_err-send_parts.ensures.sends in
+    rw (p.1, p.2) (unsent _ c.in_err-send_parts.field-0.0 stopped.0)
+
+pub returns-in_err-end-clause-handed : goal.returns-in_err-end-clause-handed
+returns-in_err-end-clause-handed g c =
+    let p = err_from_is_err_and c.from_residual-in_err-end.result c.from_residual-in_err-end.ensures.1 in
+    let none = c.in_err-end.ensures.reads in
+    rw (p.1, p.2) (unread _ c.in_err-end.field-0.0 none.0 c.in_ok-send_parts.ensures.hands)
+
+pub returns-in-Ended-clause-handed : goal.returns-in-Ended-clause-handed
+returns-in-Ended-clause-handed g c = c.in_ok-send_parts.ensures.hands
+
+pub returns-in-NoZeroes-clause-handed : goal.returns-in-NoZeroes-clause-handed
+returns-in-NoZeroes-clause-handed g c =
+    has_then g.W.Outgoing.hands c.send_parts.new.writer c.answer_options.new.writer c.answer_options.result c.in_ok-send_parts.ensures.hands c.answer_options.ensures.handed

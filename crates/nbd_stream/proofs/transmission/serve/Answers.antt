@@ -3,6 +3,7 @@ use Rattle.std.proofs.lemmas.Result.{err_from_is_err_and}
 use Rattle.nbd_stream.specs.declared.negotiation.Negotiated.TheVariants.{Transmission}
 use Rattle.nbd_stream.specs.Negotiation.{Negotiates}
 use Rattle.nbd_stream.proofs.StreamEnds.{negotiated_after, stop_later}
+use Rattle.nbd_stream.proofs.HandedLemmas.{has_then}
 use Rattle.nbd_stream.proofs.ThroughLemmas.{none}
 use Rattle.nbd_stream.proofs.transmission.serve.Goals as goal
 
@@ -45,3 +46,15 @@ returns-in-Transmission-clause-stops g c =
     let read = negotiated_after _ _ _ _ _ _ begun in
     stop_later g.R.Incoming.fails g.W.Outgoing.fails (g.R.Read.remaining c.args.reader.now) (g.R.Read.remaining c.negotiate.new.reader) (g.R.Read.remaining c.transmit.new.reader) c.transmit.new.reader c.transmit.new.writer read.0 c.transmit.result
     read.1 c.transmit.ensures.stops
+
+pub returns-in_err-end-clause-handed : goal.returns-in_err-end-clause-handed
+returns-in_err-end-clause-handed g c =
+    let p = err_from_is_err_and c.from_residual.result c.from_residual.ensures.1 in
+    rw (p.1, p.2) c.in_err-end.ensures.handed
+
+pub returns-in-Ended-clause-handed : goal.returns-in-Ended-clause-handed
+returns-in-Ended-clause-handed g c = c.in_ok-end.ensures.handed
+
+pub returns-in-Transmission-clause-handed : goal.returns-in-Transmission-clause-handed
+returns-in-Transmission-clause-handed g c =
+    has_then g.W.Outgoing.hands c.negotiate.new.writer c.transmit.new.writer c.transmit.result c.in_ok-end.ensures.handed c.transmit.ensures.handed

@@ -1,7 +1,8 @@
-use Rattle.std.proofs.Common.{refl, subst, sym}
+use Rattle.std.proofs.Common.{inl, refl, subst, sym}
 use Rattle.std.proofs.lemmas.Result.{err_from_is_err_and}
 use Rattle.request_stream.specs.Streams.{HasStreamFailed}
 use Rattle.nbd_stream.proofs.ThroughLemmas.{joined, no_change, none}
+use Rattle.nbd_stream.proofs.HandedLemmas.{unread, unsent}
 use Rattle.nbd_stream.proofs.Serving.{next_served, next_unsent}
 use Rattle.nbd_stream.proofs.transmission.serve_next.Goals as goal
 
@@ -48,3 +49,17 @@ returns-in_err-answer-in-Whole-clause-fails g c =
     let unsent = c.in_err-answer-in-Whole.ensures.replies whole.0 whole.1 whole.3 in
     let is = unsent.sends in
     rw (p.1, p.2) (subst (λ f. HasStreamFailed g.R.Incoming.fails g.W.Outgoing.fails c.read_request.new.reader c.answer.new.writer f) (sym is.0) c.in_err-answer-in-Whole.ensures.fails)
+
+pub returns-in_err-end-clause-handed : goal.returns-in_err-end-clause-handed
+returns-in_err-end-clause-handed g c =
+    let p = err_from_is_err_and c.from_residual.result c.from_residual.ensures.1 in
+    let none = c.in_err-end.ensures.reads in
+    rw (p.1, p.2) (unread _ c.in_err-end.field-0.0 none.0 (inl refl))
+
+pub returns-in_err-answer-in-Whole-clause-handed : goal.returns-in_err-answer-in-Whole-clause-handed
+returns-in_err-answer-in-Whole-clause-handed g c =
+    let whole = rw c.in-Whole.is at c.in_ok-end.ensures.reads in
+    let p = err_from_is_err_and c.from_residual-in_err-answer-in-Whole.result c.from_residual-in_err-answer-in-Whole.ensures.1 in
+    let sent = c.in_err-answer-in-Whole.ensures.replies whole.0 whole.1 whole.3 in
+    let is = sent.sends in
+    rw (p.1, p.2) (unsent _ c.in_err-answer-in-Whole.field-0.0 is.0)

@@ -1,13 +1,14 @@
 use Rattle.std.proofs.Common.{◌≡◌, ◌≤◌, ◌∙◌, inl, inr, length, refl, rules, arith}
 use Rattle.std.proofs.lemmas.Result.{err_from_is_err_and}
 use Rattle.nbd_stream.proofs.ThroughLemmas.{joined, none}
+use Rattle.nbd_stream.proofs.HandedLemmas.{handed_then, leaves_fault}
 use Rattle.nbd_stream.proofs.Serving.{counted_out, finished, serving_none, serving_on, stopped}
 use Rattle.nbd_stream.specs.Frames.{nbd_request_bytes}
 use Rattle.nbd_stream.proofs.StreamEnds.{long_request, more_read, none_read}
 use Rattle.nbd_stream.proofs.transmission.transmit.Goals as goal
 
 pub loop-init : goal.loop-init
-loop-init g c = (refl, serving_none g.D.Disk.contents g.D.Disk.honest g.D.Disk.calm g.D.Disk.does g.D.Disk.rests c.args.export.now c.args.disk.now _ _, λ reads. none g.D.Disk.leaves c.args.disk.now c.args.disk.now refl, none_read _)
+loop-init g c = (refl, serving_none g.D.Disk.contents g.D.Disk.honest g.D.Disk.calm g.D.Disk.does g.D.Disk.rests c.args.export.now c.args.disk.now _ _, λ reads. none g.D.Disk.leaves c.args.disk.now c.args.disk.now refl, none_read _, inl refl)
 
 pub loop-preserved : goal.loop-preserved
 loop-preserved g c =
@@ -17,6 +18,7 @@ loop-preserved g c =
       serving_on g.D.Disk.contents g.D.Disk.honest g.D.Disk.calm g.D.Disk.does g.D.Disk.rests c.args.export.now c.args.disk.now c.loop.disk _ _ _ _ c.loop.invariant.1 c.serve_next.new.disk _ _ one,
       λ reads. joined g.D.Disk.leaves c.args.disk.now c.loop.disk c.serve_next.new.disk (c.loop.invariant.2 reads) (c.in_ok-serve_next.ensures.leaves reads),
       more_read c.loop.counter _ _ _ (nbd_request_bytes one.round.exchange.request) c.loop.invariant.3 (long_request one.round.exchange.request) one.read,
+      handed_then g.W.Outgoing.hands c.args.writer.now c.loop.writer c.serve_next.new.writer c.loop.invariant.4 c.in_ok-serve_next.ensures.handed,
     )
 
 pub serve_next-requires-clause-size : goal.serve_next-requires-clause-size
@@ -54,3 +56,14 @@ returns-clause-stops g c =
     let read = c.loop.invariant.3 in
     let counted : 18446744073709551615 ≤ c.loop.counter = omega arith in
     inr (refl, (read.0, omega (arith, read.1, counted), read.2))
+
+pub returns-in-Some-clause-handed : goal.returns-in-Some-clause-handed
+returns-in-Some-clause-handed g c = handed_then g.W.Outgoing.hands c.args.writer.now c.loop.writer c.serve_next.new.writer c.loop.invariant.4 c.in_ok-serve_next.ensures.handed
+
+pub returns-in_err-serve_next-clause-handed : goal.returns-in_err-serve_next-clause-handed
+returns-in_err-serve_next-clause-handed g c =
+    let p = err_from_is_err_and c.from_residual.result c.from_residual.ensures.1 in
+    rw (p.1, p.2) (leaves_fault g.W.Outgoing.hands c.args.writer.now c.loop.writer c.serve_next.new.writer c.in_err-serve_next.field-0.0 c.loop.invariant.4 c.in_err-serve_next.ensures.handed)
+
+pub returns-clause-handed : goal.returns-clause-handed
+returns-clause-handed g c = c.loop.invariant.4
