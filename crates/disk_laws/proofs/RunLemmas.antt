@@ -1,5 +1,5 @@
 -- What is found of a disk where calls of its device are cut short.
-use Rattle.std.proofs.Common.{◌≡◌, ◌≢◌, ◌⊎◌, inl, inr, ℕ, ◌+◌, ◌*◌, ◌<◌, ◌≤◌, Bool, true, false, not, List, [], ◌∷◌, ◌++◌, length, None, IsSome, Result, Err, refl, sym, ap, subst, ◌∙◌, arith}
+use Rattle.std.proofs.Common.{◌≡◌, ◌≢◌, ◌⊎◌, inl, inr, ℕ, ◌+◌, ◌*◌, ◌<◌, ◌≤◌, Bool, true, false, not, List, [], ◌∷◌, ◌++◌, length, None, IsSome, Result, Err, refl, sym, ap, subst, ◌∙◌, arith, append_assoc, append-nil}
 use Rattle.std.specs.List.{range_with_len}
 use Rattle.std.specs.Prelude.{get_or, map}
 use Rattle.std.proofs.lemmas.List.FromFn.{get_or-map-range_with_len, length-map-range_with_len}
@@ -39,7 +39,7 @@ use Rattle.disk_server.specs.Disk.{AsksChange, AsksClear, AsksRead, ChangesOne, 
 use Rattle.disk_server.proofs.Calls.{no_bus}
 use Rattle.disk_server.proofs.Holding.{back, parts}
 use Rattle.disk_laws.specs.Lost.{LostBy, MayLose}
-use Rattle.disk_laws.specs.Runs.{CutInCall, CutLeavesLaw, DeviceCalls, IsRecordedCall, HasOnTheWay, IsCutIn, IsDiskCall, IsFoundAfterLoss, KilledRunLaw, LostRunLaw, NoCall, OneCallLaw, OneMore, image_on}
+use Rattle.disk_laws.specs.Runs.{CutInCall, CutLeavesLaw, DeviceCalls, IsRecordedCall, HasOnTheWay, IsCutIn, IsDiskCall, IsFoundAfterLoss, KilledRunLaw, LostRunLaw, NoCall, OnTheWayLaw, OneCallLaw, OneMore, image_on}
 use Rattle.disk_laws.proofs.FitLemmas.{Fits}
 use Rattle.disk_laws.proofs.InOrderLemmas.{Filled}
 use Rattle.disk_laws.proofs.GrowLemmas.{GrewSince, Stands, since_begin}
@@ -417,3 +417,11 @@ one_call die old new log does = OneMore [] old log new NoCall does
 
 pub cut_leaves_law : {N : Type 0} (die : View N) → CutLeavesLaw die
 cut_leaves_law die old new log found run c = cut_leaves die old log new found run c
+
+pub on_the_way : {N : Type 0} (die : View N) → OnTheWayLaw die
+on_the_way die old new log NoCall n bytes is = ([], old, [], NoCall, NoCall, refl, is)
+on_the_way die old new log (OneMore before mid more last run does) n bytes (inl h) =
+    let w = on_the_way die old mid before run n bytes h in
+    (w.0, w.1, w.2 ++ more, w.3, OneMore w.2 mid more last w.4 does, sym (append_assoc w.0 w.2 more) ∙ ap (λ (l : List Operation). l ++ more) w.5, w.6)
+on_the_way die old new log (OneMore before mid more last run does) n bytes (inr is) =
+    (before ++ more, last, [], OneMore before mid more last run does, NoCall, append-nil (before ++ more), is)

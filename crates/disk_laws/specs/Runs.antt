@@ -80,6 +80,12 @@ pub record IsFoundAfterLoss {N : Type 0} (die : View N) (old : Device N) (log : 
 
 -- ---- laws
 
+-- BYTES ON THE WAY are those of a disk on the way: some of the calls led to its device, and the others on from it
+abbrev pub OnTheWayLaw : {N : Type 0} → View N → Type 0
+OnTheWayLaw {N} die = (old new : Device N) (log : List Operation) (run : DeviceCalls die old log new) (n : ℕ) (bytes : List ℕ) → HasOnTheWay die old log new run n bytes
+    → (first : List Operation) × (at : Device N) × (later : List Operation) × DeviceCalls die old first at × DeviceCalls die at later new
+    × (first ++ later ≡ log) × (bytes ≡ sector_of old.engine.geometry (image_on die at) n)
+
 -- one call is calls one after another
 abbrev pub OneCallLaw : {N : Type 0} → View N → Type 0
 OneCallLaw {N} die = (old new : Device N) (log : List Operation) → IsRecordedCall die old log new → DeviceCalls die old log new

@@ -8,15 +8,17 @@ ghost use Rattle.disk_laws.specs.Lost.{LostAfterEraseLaw, AllGoneLaw, AllThereLa
 ghost use Rattle.disk_laws.specs.Driven.{DriverLosesLaw, DriverStopsLaw, DriverTellsLaw, StopLosesLaw};
 ghost use Rattle.disk_laws.specs.StoreLost.{StoreLosesLaw};
 ghost use Rattle.disk_laws.specs.StoreRuns.{StoreRunLaw};
-ghost use Rattle.disk_laws.specs.Runs.{CutLeavesLaw, KilledRunLaw, LostRunLaw, OneCallLaw, SessionLaw};
+ghost use Rattle.disk_laws.specs.Runs.{CutLeavesLaw, KilledRunLaw, LostRunLaw, OnTheWayLaw, OneCallLaw, SessionLaw};
 ghost use Rattle.disk_laws.specs.Served.{ClosedSessionLaw, ServedSessionLaw};
 ghost use Rattle.disk_laws.specs.Sessions.{ReopenedSessionLaw, StoreSessionLaw};
 ghost use Rattle.disk_laws.specs.Killed.{FoundAsItWasLaw, FoundTornLaw, KilledChangeLaw, KilledFlushLaw, KilledTurnLaw, StoreTellsLaw};
 ghost use Rattle.disk_laws.specs.Spared.{AllMarkedLaw, CutSparesLaw, LaterMarkLaw, OpeningSparesLaw, UnmarkedBehindLaw};
 ghost use Rattle.disk_laws.specs.Spared.{KilledOpenedLaw, KilledSparesLaw, LostCutLaw, LostOpenedLaw, OwnMarkLaw};
 
+mod device_calls;
 mod driver_calls;
 
+pub use device_calls::{migrate_one_of, read_sector_of};
 use disk_server::{KeepsLost, Sectors, Syncs};
 pub use driver_calls::{erase_stored, program_stored, read_stored, start_stored};
 use file_die::{FileDie, Store, TellsFull};
@@ -48,7 +50,7 @@ pub fn loss_laws()
 {}
 
 /// What is found of a disk where calls of its device, one after another, are cut short at any moment: all that a session asks is such calls. Killed, or stopped: it mounts, and each call that had ended is in it, and the one at hand whole or not at all. After a
-/// loss of power, since all pages lasted: it is one array, each sector has the bytes that it had then or after one of the calls since, and it mounts with each cache that has room for what is stale. It is said of a device
+/// loss of power, since all pages lasted: it is one array, each sector has the bytes that it had then or after one of the calls since (`way`), and it mounts with each cache that has room for what is stale. It is said of a device
 /// that holds its array through each call, by what the record of its die gained. And in all of these calls its die is asked by calls of it alone, whatever it does: each says which, one after another. (This project.)
 pub fn run_laws<N: Nand>()
     ensures one { OneCallLaw N.view }
@@ -56,6 +58,7 @@ pub fn run_laws<N: Nand>()
     ensures killed { KilledRunLaw N.view }
     ensures cut { CutLeavesLaw N.view }
     ensures lost { LostRunLaw N.view }
+    ensures way { OnTheWayLaw N.view }
     ensures asks { RunAsksLaw N.view }
 {}
 
@@ -108,7 +111,7 @@ pub fn driver_laws<S: Store>()
 {}
 
 /// What is found of a disk where a fault of its die ended a call of its device, behind other calls: a write, a trim, a flush, a turn, a migration or a read. What that did, and what it had at hand, the record of the die tells, and that nothing was
-/// programmed or erased behind it; whatever the die is left with by this mounts, and each call that had ended is in it, and the one at hand whole or not at all. (This project.)
+/// programmed or erased behind it; whatever the die is left with by this mounts, and each call that had ended is in it, and the one at hand whole or not at all. A read and a migration are such calls by `read_sector_of` and `migrate_one_of`. (This project.)
 pub fn cut_laws<N: Nand>()
     ensures disk { DiskFaultLaw N.view }
     ensures fault { FaultIsCutLaw N.view }

@@ -1,5 +1,5 @@
 use Rattle.disk_laws.proofs.AskedRunLemmas.{run_asks}
-use Rattle.disk_laws.proofs.RunLemmas.{cut_leaves_law, killed_run, lost_run_law, one_call}
+use Rattle.disk_laws.proofs.RunLemmas.{cut_leaves_law, killed_run, lost_run_law, on_the_way, one_call}
 use Rattle.disk_laws.proofs.SessionLemmas.{session}
 use Rattle.disk_laws.proofs.run_laws.Goals as goal
 
@@ -17,6 +17,9 @@ returns-clause-lost g c = lost_run_law g.N.PageSource.view
 
 pub returns-clause-cut : goal.returns-clause-cut
 returns-clause-cut g c = cut_leaves_law g.N.PageSource.view
+
+pub returns-clause-way : goal.returns-clause-way
+returns-clause-way g c = on_the_way g.N.PageSource.view
 
 pub returns-clause-asks : goal.returns-clause-asks
 returns-clause-asks g c = run_asks g.N.PageSource.view
