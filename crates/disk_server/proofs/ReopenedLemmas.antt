@@ -262,6 +262,7 @@ module _ {S : Type 0} (held : S → Held) (honest full : S → Bool) (failed : S
     answered = s.0;
     unclaimed = holds_as held honest failed new s.1.device s.1.there.device_is ∙ ap (λ (b : Bool). not b && going held honest failed s.1.device) s.1.there.reopened_is;
     bytes = λ h. ap (λ (c : Contents). c.bytes) (shown_as held honest failed new s.1.device s.1.there.device_is) ∙ s.1.opened.bytes h;
+    clear = λ h d there. subst (λ (x : Device (DriverState (FileState S))). x.engine.nand.told.at_hand ≡ []) (some_same s.1.device d (sym s.1.there.device_is ∙ there)) (s.1.opened.clear h);
   }
   settled_anew told terms before next left (Err fault.Failed) result new (inr s) was is = absurd (not_anew before new s.1.none was is)
 

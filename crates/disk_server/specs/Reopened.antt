@@ -89,11 +89,12 @@ pub record HasDevice {S : Type 0} (terms : Terms) (reopened : Bool) (next : ℕ)
   pub reopened_is : d.reopened ≡ reopened
   pub next_is : d.next ≡ next
 
--- A DEVICE THAT A STORE WAS OPENED WITH, on these terms: of a store that is honest it holds the array that the store's pages hold, byte by byte, and the pages are as they were
+-- A DEVICE THAT A STORE WAS OPENED WITH, on these terms: of a store that is honest it holds the array that the store's pages hold, byte by byte, the pages are as they were, and in its record nothing is at hand
 pub record IsOpenedFrom {S : Type 0} (held : S → Held) (honest : S → Bool) (failed : S → ℕ) (terms : Terms) (store : S) (d : Device (DriverState (FileState S))) : Type 0 where
   pub as_honest : holds (is_honest_in honest) d ≡ honest store
   pub bytes : honest store ≡ true → (contents_of (view_in held honest failed) d).bytes ≡ bytes_of (held store)
   pub pages : honest store ≡ true → flash_in held d.engine.nand ≡ flash_as_opened (held store)
+  pub clear : honest store ≡ true → d.engine.nand.told.at_hand ≡ []
   pub entries : d.engine.mapping.capacity ≡ terms.capacity
   pub share : d.engine.mapping.share ≡ terms.share
   pub syncs : SyncsWhen terms.sync_when d.engine.nand
@@ -211,13 +212,14 @@ abbrev pub TermsLaw : {S : Type 0} → (S → Held) → (honest full : S → Boo
 TermsLaw {S} held honest full failed = (told : DiskFault) (old new : Reopened S) (result : Result (Unit {0}) DiskFault)
     → AsksDevice held honest full failed (λ d answer left. Unit {0}) told old result new → terms_of new ≡ terms_of old
 
--- A CALL OPENED IT ANEW ONLY WHERE THE STORE WAS FULL, and was told so. What it holds then is the array of the pages that were left in the store; that this is what it was given is claimed no more
+-- A CALL OPENED IT ANEW ONLY WHERE THE STORE WAS FULL, and was told so. What it holds then is the array of the pages that were left in the store, and nothing is at hand in its record; that this is what it was given is claimed no more
 pub record IsAnew {S : Type 0} (held : S → Held) (honest full : S → Bool) (failed : S → ℕ) (told : DiskFault) (result : Result (Unit {0}) DiskFault) (new : Reopened S) : Type 0 where
   pub left : S
   pub was_full : full left ≡ true
   pub answered : result ≡ Err told
   pub unclaimed : holds_in honest new ≡ false
   pub bytes : honest left ≡ true → (contents_in held honest failed new).bytes ≡ bytes_of (held left)
+  pub clear : honest left ≡ true → (d : Device (DriverState (FileState S))) → new.device ≡ Some d → d.engine.nand.told.at_hand ≡ []
 
 abbrev pub AnewLaw : {S : Type 0} → (S → Held) → (honest full : S → Bool) → (failed : S → ℕ) → Type 0
 AnewLaw {S} held honest full failed = (told : DiskFault) (old new : Reopened S) (result : Result (Unit {0}) DiskFault)

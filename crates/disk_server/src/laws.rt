@@ -74,7 +74,7 @@ pub fn cache_laws<S: Store>()
     ensures unwritten { UnwrittenCacheLaw S.held S.honest S.failed }
 {}
 
-/// What becomes of a device that is opened anew where its store was full: only there, and it is told; it holds then what the pages left in the store say, and whether that is what it was given is claimed no more. One that
+/// What becomes of a device that is opened anew where its store was full: only there, and it is told; it holds then what the pages left in the store say, nothing is at hand in its record, and whether that is what it was given is claimed no more. One that
 /// is gone answers `Failed` for good. (This project's.)
 pub fn reopened_laws<S: Store + TellsFull>()
     ensures gone { GoneLaw S.held S.honest S.full S.failed }
