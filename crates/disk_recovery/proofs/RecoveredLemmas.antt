@@ -54,7 +54,8 @@ pub opened_entries : {S D E : Type 0} (entries : D → ℕ) (held : S → Held) 
 opened_entries entries held honest failed store given capacity share mark (Ok d) same recovered opened = record { left = given; as_honest = same; recovered = recovered; opened = opened }
 opened_entries entries held honest failed store given capacity share mark (Err e) same recovered opened = tt
 
-pub opened_fault : {S A : Type 0} (held : S → Held) (honest : S → Bool) (failed : S → ℕ) (store given : S) (capacity share mark : ℕ) (result : Result A OpenStoreFault) → honest given ≡ honest store
-    → (honest store ≡ true → IsLeftRecovered mark (held store) (held given)) → IfErr result (IsUnopenedLater held honest failed given capacity share) → IfErr result (IsUnrecovered held honest failed store capacity share mark)
-opened_fault held honest failed store given capacity share mark (Ok d) same recovered later = tt
-opened_fault held honest failed store given capacity share mark (Err why) same recovered later = inr (inr (given, same, recovered, later))
+pub opened_fault : {S A : Type 0} (held : S → Held) (honest : S → Bool) (failed : S → ℕ) (store left : S) (capacity share mark : ℕ) (result : Result A (S × OpenStoreFault)) → honest left ≡ honest store
+    → (honest store ≡ true → IsLeftRecovered mark (held store) (held left)) → IfErr result (λ e. IsUnopenedLater held honest failed left capacity share e.0 e.1)
+    → IfErr result (λ e. IsUnrecovered held honest failed store capacity share mark e.0 e.1)
+opened_fault held honest failed store left capacity share mark (Ok d) same recovered later = tt
+opened_fault held honest failed store left capacity share mark (Err e) same recovered later = inr (inr (left, same, recovered, later))

@@ -6,7 +6,7 @@ use Rattle.crash_recovery.specs.Asked.{HasLooked}
 use Rattle.crash_recovery.specs.Taken.{Recovers, RecoversSome}
 use Rattle.disk_server.specs.declared.opened.OpenStoreFault.{OpenStoreFault}
 use Rattle.disk_server.specs.declared.opened.OpenStoreFault.TheVariants.{Device, OutOfMemory}
-use Rattle.disk_server.specs.Opened.{HasCome, IsStoreUnopened, bytes_of}
+use Rattle.disk_server.specs.Opened.{ComesBack, HasCome, IsStoreUnopened, bytes_of}
 use Rattle.disk_server.specs.Stopped.{IsOpenedWith, IsUnopenedLater}
 
 -- a store that was mounted was recovered once, by whether anything was torn
@@ -40,14 +40,14 @@ pub record IsNotTaken {S : Type 0} (held : S → Held) (honest : S → Bool) (fa
   pub why : ((fault ≡ OutOfMemory) × HasLooked held honest failed store true given) ⊎ ((fault ≡ Device) × HasRisen (failed store) (failed given))
 
 -- nor once more: it was not mounted for the largest cache, or came back of that and was not recovered
-abbrev pub IsNotAgain : {S : Type 0} → (S → Held) → (honest : S → Bool) → (failed : S → ℕ) → (mark : ℕ) → S → OpenStoreFault → Type 0
-IsNotAgain {S} held honest failed mark store fault =
-    ((given : S) × IsStoreUnopened held honest failed store 65536 given fault)
-    ⊎ ((mounted given : S) × HasCome held honest store mounted × IsNotTaken held honest failed mark mounted given fault)
+abbrev pub IsNotAgain : {S : Type 0} → (S → Held) → (honest : S → Bool) → (failed : S → ℕ) → (mark : ℕ) → S → S → OpenStoreFault → Type 0
+IsNotAgain {S} held honest failed mark store given fault =
+    (IsStoreUnopened held honest failed store 65536 given fault × ComesBack held honest store fault given)
+    ⊎ ((mounted : S) × HasCome held honest store mounted × IsNotTaken held honest failed mark mounted given fault)
 
--- why there is no disk of a store that was mounted: it was not recovered; or what was torn was taken away, and it was not recovered once more; or what was left was not opened
-abbrev pub IsUnrecovered : {S : Type 0} → (S → Held) → (honest : S → Bool) → (failed : S → ℕ) → S → (capacity share mark : ℕ) → OpenStoreFault → Type 0
-IsUnrecovered {S} held honest failed store capacity share mark fault =
-    ((given : S) × IsNotTaken held honest failed mark store given fault)
-    ⊎ (((given : S) × (honest given ≡ honest store) × (honest store ≡ true → IsRecovered mark (held store) true (held given)) × IsNotAgain held honest failed mark given fault)
-    ⊎ ((given : S) × (honest given ≡ honest store) × (honest store ≡ true → IsLeftRecovered mark (held store) (held given)) × IsUnopenedLater held honest failed given capacity share fault))
+-- why there is no disk of a store that was mounted, and what came back: it was not recovered; or what was torn was taken away, and it was not recovered once more; or what was left was not opened
+abbrev pub IsUnrecovered : {S : Type 0} → (S → Held) → (honest : S → Bool) → (failed : S → ℕ) → S → (capacity share mark : ℕ) → S → OpenStoreFault → Type 0
+IsUnrecovered {S} held honest failed store capacity share mark given fault =
+    IsNotTaken held honest failed mark store given fault
+    ⊎ (((taken : S) × (honest taken ≡ honest store) × (honest store ≡ true → IsRecovered mark (held store) true (held taken)) × IsNotAgain held honest failed mark taken given fault)
+    ⊎ ((left : S) × (honest left ≡ honest store) × (honest store ≡ true → IsLeftRecovered mark (held store) (held left)) × IsUnopenedLater held honest failed left capacity share given fault))

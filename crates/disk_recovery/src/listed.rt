@@ -68,7 +68,7 @@ pub fn list_first<S: Store + Drop, K: KeepsLost>(
 /// # Errors
 ///
 /// `OutOfMemory` where a growth was refused while the store was recovered, and `Device` where the store failed then; as `mount_store` for the largest cache where it was to be mounted once more; else as
-/// `open_stopped` over what was left. The store is let go. (This project's.)
+/// `open_stopped` over what was left. The store comes back, as the last of these left it. (This project's.)
 pub fn recover_listed<S: Store + Drop>(
     alloc: Global,
     listed: ListedStore<S>,
@@ -77,7 +77,7 @@ pub fn recover_listed<S: Store + Drop>(
     share: u32,
     mark: u64,
     sync_when: SyncWhen,
-) -> Result<StoreDisk<S>, OpenStoreFault>
+) -> Result<StoreDisk<S>, (S, OpenStoreFault)>
     requires mounted { S.honest listed.store ≡ true → Agrees (S.held listed.store).geometry 65536 (S.held listed.store).pages certificate.now }
     requires least { 1 ≤ capacity }
     requires most { capacity ≤ 65536 }
@@ -87,7 +87,7 @@ pub fn recover_listed<S: Store + Drop>(
     ensures clear { IfOk result (λ d. S.honest listed.store ≡ true → d.engine.nand.told.at_hand ≡ []) }
     ensures bytes { IfOk result (λ d. S.honest listed.store ≡ true → HoldsRecovered mark (S.held listed.store) (contents_of (view_in S.held S.honest S.failed) d).bytes) }
     ensures entries { IfOk result (λ d. IsOpenedLeft S.held S.honest S.failed mark listed.store capacity share d.engine.mapping.capacity) }
-    ensures fault { IfErr result (IsUnrecovered S.held S.honest S.failed listed.store capacity share mark) }
+    ensures fault { IfErr result (λ e. IsUnrecovered S.held S.honest S.failed listed.store capacity share mark e.0 e.1) }
 {
     let ListedStore { store } = listed;
     recover_mounted(alloc, store, certificate, capacity, share, mark, sync_when)

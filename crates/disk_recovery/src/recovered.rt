@@ -34,18 +34,22 @@ fn recover_once<S: Store>(
 }
 
 // The same of a store that is mounted for that, which comes back.
-fn recover_again<S: Store + Drop>(alloc: Global, store: S, mark: u64) -> Result<S, OpenStoreFault>
+fn recover_again<S: Store + Drop>(
+    alloc: Global,
+    store: S,
+    mark: u64,
+) -> Result<S, (S, OpenStoreFault)>
     ensures recovered { IfOk result (λ left. S.honest store ≡ true → (changed : Bool) × IsRecovered mark (S.held store) changed (S.held left)) }
     ensures honest { IfOk result (λ left. S.honest left ≡ S.honest store) }
-    ensures fault { IfErr result (IsNotAgain S.held S.honest S.failed mark store) }
+    ensures fault { IfErr result (λ e. IsNotAgain S.held S.honest S.failed mark store e.0 e.1) }
 {
     let (mut store, certificate) = match mount_store(alloc, store, MOST_ENTRIES) {
         Ok(mounted) => mounted,
-        Err((_, fault)) => return Err(fault),
+        Err(back) => return Err(back),
     };
     match recover_once(alloc, &mut store, &certificate, mark) {
         Ok(_) => Ok(store),
-        Err(fault) => Err(fault),
+        Err(fault) => Err((store, fault)),
     }
 }
 
@@ -58,7 +62,7 @@ pub(crate) fn recover_mounted<S: Store + Drop>(
     share: u32,
     mark: u64,
     sync_when: SyncWhen,
-) -> Result<StoreDisk<S>, OpenStoreFault>
+) -> Result<StoreDisk<S>, (S, OpenStoreFault)>
     requires mounted { S.honest store ≡ true → Agrees (S.held store).geometry 65536 (S.held store).pages certificate.now }
     requires least { 1 ≤ capacity }
     requires most { capacity ≤ 65536 }
@@ -68,15 +72,18 @@ pub(crate) fn recover_mounted<S: Store + Drop>(
     ensures clear { IfOk result (λ d. S.honest store ≡ true → d.engine.nand.told.at_hand ≡ []) }
     ensures bytes { IfOk result (λ d. S.honest store ≡ true → HoldsRecovered mark (S.held store) (contents_of (view_in S.held S.honest S.failed) d).bytes) }
     ensures entries { IfOk result (λ d. IsOpenedLeft S.held S.honest S.failed mark store capacity share d.engine.mapping.capacity) }
-    ensures fault { IfErr result (IsUnrecovered S.held S.honest S.failed store capacity share mark) }
+    ensures fault { IfErr result (λ e. IsUnrecovered S.held S.honest S.failed store capacity share mark e.0 e.1) }
 {
     let mut store = store;
-    let changed = recover_once(alloc, &mut store, certificate, mark)?;
+    let changed = match recover_once(alloc, &mut store, certificate, mark) {
+        Ok(changed) => changed,
+        Err(fault) => return Err((store, fault)),
+    };
     if !changed {
         return open_stopped(alloc, store, capacity, share, sync_when, true);
     }
     match recover_again(alloc, store, mark) {
         Ok(left) => open_stopped(alloc, left, capacity, share, sync_when, true),
-        Err(fault) => Err(fault),
+        Err(back) => Err(back),
     }
 }

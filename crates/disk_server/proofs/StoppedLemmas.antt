@@ -51,55 +51,55 @@ was_stale held honest failed store given capacity share stale fault room is back
 
 module _ {S A : Type 0} (held : S → Held) (honest : S → Bool) (failed : S → ℕ) (entries : A → ℕ) (capacity stale share : ℕ) (left : Device (DriverState (FileState S)))
     (asks : AsksToFlush held honest failed stale share (Ok tt) left) (given : S) (is : given ≡ left.engine.nand.bus.store) where
-  pub then_opened : (result : Result A OpenStoreFault) → IfOk result (λ d. IsOpenedEither held honest given capacity stale (entries d)) → IfOk result (λ d. IsOpenedFlushed held honest failed capacity stale share (entries d))
+  pub then_opened : (result : Result A (S × OpenStoreFault)) → IfOk result (λ d. IsOpenedEither held honest given capacity stale (entries d)) → IfOk result (λ d. IsOpenedFlushed held honest failed capacity stale share (entries d))
   then_opened (Ok d) either = (left, asks, subst (λ s. IsOpenedEither held honest s capacity stale (entries d)) is either)
   then_opened (Err e) either = tt
 
-  pub then_unopened : (store : S) (result : Result A OpenStoreFault) → IfErr result (IsOpenedNeither held honest failed given capacity stale share) → IfErr result (IsUnopenedStale held honest failed store capacity stale share)
+  pub then_unopened : (store : S) (result : Result A (S × OpenStoreFault)) → IfErr result (λ e. IsOpenedNeither held honest failed given capacity stale share e.0 e.1) → IfErr result (λ e. IsUnopenedStale held honest failed store capacity stale share e.0 e.1)
   then_unopened store (Ok d) neither = tt
-  then_unopened store (Err e) neither = inr (inr (left, asks, subst (λ s. IsOpenedNeither held honest failed s capacity stale share e) is neither))
+  then_unopened store (Err e) neither = inr (inr (left, asks, subst (λ s. IsOpenedNeither held honest failed s capacity stale share e.0 e.1) is neither))
 
 -- once more: not with as many entries as were stale before
-pub neither : {S A : Type 0} (held : S → Held) (honest : S → Bool) (failed : S → ℕ) (store given : S) (capacity again stale share : ℕ) (result : Result A OpenStoreFault)
-    → IsStale held honest store capacity again given → IfErr result (IsLastFault held honest failed given stale share) → IfErr result (IsOpenedNeither held honest failed store capacity stale share)
+pub neither : {S A : Type 0} (held : S → Held) (honest : S → Bool) (failed : S → ℕ) (store given : S) (capacity again stale share : ℕ) (result : Result A (S × OpenStoreFault))
+    → IsStale held honest store capacity again given → IfErr result (λ e. IsLastFault held honest failed given stale share e.0 e.1) → IfErr result (λ e. IsOpenedNeither held honest failed store capacity stale share e.0 e.1)
 neither held honest failed store given capacity again stale share (Ok d) was last = tt
 neither held honest failed store given capacity again stale share (Err e) was last = inr (again, given, was, last)
 
-pub either : {S A : Type 0} (held : S → Held) (honest : S → Bool) (entries : A → ℕ) (store given : S) (capacity again stale : ℕ) (result : Result A OpenStoreFault)
+pub either : {S A : Type 0} (held : S → Held) (honest : S → Bool) (entries : A → ℕ) (store given : S) (capacity again stale : ℕ) (result : Result A (S × OpenStoreFault))
     → IsStale held honest store capacity again given → IfOk result (λ d. entries d ≡ stale) → IfOk result (λ d. IsOpenedEither held honest store capacity stale (entries d))
 either held honest entries store given capacity again stale (Ok d) was is = inr ((again, given, was), is)
 either held honest entries store given capacity again stale (Err e) was is = tt
 
 -- ---- what a later attempt comes to
 
-pub opened_later : {S A : Type 0} (held : S → Held) (honest : S → Bool) (failed : S → ℕ) (entries : A → ℕ) (writes : Bool) (store given : S) (capacity stale share : ℕ) (result : Result A OpenStoreFault)
+pub opened_later : {S A : Type 0} (held : S → Held) (honest : S → Bool) (failed : S → ℕ) (entries : A → ℕ) (writes : Bool) (store given : S) (capacity stale share : ℕ) (result : Result A (S × OpenStoreFault))
     → IsStale held honest store capacity stale given → IfOk result (λ d. IsOpenedBy held honest failed writes capacity stale share (entries d))
     → IfOk result (λ d. IsOpenedWith held honest failed writes store capacity share (entries d))
 opened_later held honest failed entries writes store given capacity stale share (Ok d) was is = inr (stale, given, was, is)
 opened_later held honest failed entries writes store given capacity stale share (Err e) was is = tt
 
-pub by_writes : {S A : Type 0} (held : S → Held) (honest : S → Bool) (failed : S → ℕ) (entries : A → ℕ) (writes : Bool) (capacity stale share : ℕ) (result : Result A OpenStoreFault) → writes ≡ true
+pub by_writes : {S A : Type 0} (held : S → Held) (honest : S → Bool) (failed : S → ℕ) (entries : A → ℕ) (writes : Bool) (capacity stale share : ℕ) (result : Result A (S × OpenStoreFault)) → writes ≡ true
     → IfOk result (λ d. IsOpenedFlushed held honest failed capacity stale share (entries d)) → IfOk result (λ d. IsOpenedBy held honest failed writes capacity stale share (entries d))
 by_writes held honest failed entries writes capacity stale share (Ok d) write is = subst (λ b. IsOpenedBy held honest failed b capacity stale share (entries d)) (sym write) is
 by_writes held honest failed entries writes capacity stale share (Err e) write is = tt
 
-pub by_reads : {S A : Type 0} (held : S → Held) (honest : S → Bool) (failed : S → ℕ) (entries : A → ℕ) (writes : Bool) (capacity stale share : ℕ) (result : Result A OpenStoreFault) → writes ≡ false
+pub by_reads : {S A : Type 0} (held : S → Held) (honest : S → Bool) (failed : S → ℕ) (entries : A → ℕ) (writes : Bool) (capacity stale share : ℕ) (result : Result A (S × OpenStoreFault)) → writes ≡ false
     → IfOk result (λ d. entries d ≡ stale) → IfOk result (λ d. IsOpenedBy held honest failed writes capacity stale share (entries d))
 by_reads held honest failed entries writes capacity stale share (Ok d) read is = subst (λ b. IsOpenedBy held honest failed b capacity stale share (entries d)) (sym read) is
 by_reads held honest failed entries writes capacity stale share (Err e) read is = tt
 
-pub later : {S A : Type 0} (held : S → Held) (honest : S → Bool) (failed : S → ℕ) (store given : S) (capacity stale share : ℕ) (result : Result A OpenStoreFault)
-    → IsStale held honest store capacity stale given → IfErr result (IsUnopenedStale held honest failed given capacity stale share) → IfErr result (IsUnopenedLater held honest failed store capacity share)
+pub later : {S A : Type 0} (held : S → Held) (honest : S → Bool) (failed : S → ℕ) (store given : S) (capacity stale share : ℕ) (result : Result A (S × OpenStoreFault))
+    → IsStale held honest store capacity stale given → IfErr result (λ e. IsUnopenedStale held honest failed given capacity stale share e.0 e.1) → IfErr result (λ e. IsUnopenedLater held honest failed store capacity share e.0 e.1)
 later held honest failed store given capacity stale share (Ok d) was is = tt
 later held honest failed store given capacity stale share (Err e) was is = inr (stale, given, was, is)
 
-pub last_fault : {S A : Type 0} (held : S → Held) (honest : S → Bool) (failed : S → ℕ) (store : S) (capacity stale share : ℕ) (result : Result A OpenStoreFault)
-    → IfErr result (IsLastFault held honest failed store stale share) → IfErr result (IsUnopenedStale held honest failed store capacity stale share)
+pub last_fault : {S A : Type 0} (held : S → Held) (honest : S → Bool) (failed : S → ℕ) (store : S) (capacity stale share : ℕ) (result : Result A (S × OpenStoreFault))
+    → IfErr result (λ e. IsLastFault held honest failed store stale share e.0 e.1) → IfErr result (λ e. IsUnopenedStale held honest failed store capacity stale share e.0 e.1)
 last_fault held honest failed store capacity stale share (Ok d) is = tt
 last_fault held honest failed store capacity stale share (Err e) is = inl is
 
 -- the pages, by whether they may be written
-pub unwritten : {A : Type 0} (P Q : A → Type 0) (writes : Bool) (result : Result A OpenStoreFault) → writes ≡ true → IfOk result (λ d. writes ≡ false → P d → Q d)
+pub unwritten : {A E : Type 0} (P Q : A → Type 0) (writes : Bool) (result : Result A E) → writes ≡ true → IfOk result (λ d. writes ≡ false → P d → Q d)
 unwritten P Q writes (Ok d) write = λ read. (let both : true ≡ false = sym write ∙ read in (let never : ⊥ = cc in absurd never))
 unwritten P Q writes (Err e) write = tt
 

@@ -10,7 +10,7 @@ use Rattle.ftl_device.specs.declared.device.Device.{Device}
 use Rattle.disk_server.specs.declared.opened.OpenStoreFault.{OpenStoreFault}
 use Rattle.disk_server.specs.declared.opened.OpenStoreFault.TheVariants.{Flush, Mount}
 use Rattle.disk_server.specs.Disk.{AsksFlush}
-use Rattle.disk_server.specs.Opened.{HasCome, IsUnstarted, view_in}
+use Rattle.disk_server.specs.Opened.{ComesBack, HasCome, IsUnstarted, view_in}
 
 -- a store was refused for its stale sectors, and a cache of so many entries would have room for them
 pub record HasRoomFor (fault : OpenStoreFault) (stale : ℕ) : Type 0 where
@@ -61,32 +61,37 @@ IsOpenedWith {S} held honest failed writes store capacity share entries =
 
 -- ---- it is not
 
--- what the last attempt tells
-abbrev pub IsLastFault : {S : Type 0} → (S → Held) → (honest : S → Bool) → (failed : S → ℕ) → S → (capacity share : ℕ) → OpenStoreFault → Type 0
-IsLastFault {S} held honest failed store capacity share fault = (given : S) × IsUnstarted held honest failed store capacity share given fault
+-- what the last attempt tells of the store, which came back of it
+abbrev pub IsLastFault : {S : Type 0} → (S → Held) → (honest : S → Bool) → (failed : S → ℕ) → S → (capacity share : ℕ) → S → OpenStoreFault → Type 0
+IsLastFault held honest failed store capacity share given fault = IsUnstarted held honest failed store capacity share given fault × ComesBack held honest store fault given
 
 -- which no larger cache mends
-abbrev pub IsFault : {S : Type 0} → (S → Held) → (honest : S → Bool) → (failed : S → ℕ) → S → (capacity share : ℕ) → OpenStoreFault → Type 0
-IsFault held honest failed store capacity share fault = IsLastFault held honest failed store capacity share fault × ((stale : ℕ) → ¬ HasRoomFor fault stale)
+abbrev pub IsFault : {S : Type 0} → (S → Held) → (honest : S → Bool) → (failed : S → ℕ) → S → (capacity share : ℕ) → S → OpenStoreFault → Type 0
+IsFault held honest failed store capacity share given fault = IsLastFault held honest failed store capacity share given fault × ((stale : ℕ) → ¬ HasRoomFor fault stale)
 
 -- once it was flushed: not with so many entries, nor with as many as were stale before
-abbrev pub IsOpenedNeither : {S : Type 0} → (S → Held) → (honest : S → Bool) → (failed : S → ℕ) → S → (capacity stale share : ℕ) → OpenStoreFault → Type 0
-IsOpenedNeither {S} held honest failed store capacity stale share fault =
-    IsFault held honest failed store capacity share fault
-    ⊎ ((again : ℕ) × (given : S) × IsStale held honest store capacity again given × IsLastFault held honest failed given stale share fault)
+abbrev pub IsOpenedNeither : {S : Type 0} → (S → Held) → (honest : S → Bool) → (failed : S → ℕ) → S → (capacity stale share : ℕ) → S → OpenStoreFault → Type 0
+IsOpenedNeither {S} held honest failed store capacity stale share given fault =
+    IsFault held honest failed store capacity share given fault
+    ⊎ ((again : ℕ) × (come : S) × IsStale held honest store capacity again come × IsLastFault held honest failed come stale share given fault)
+
+-- its device failed its flush: the store is the one that it left
+abbrev pub FailsFlush : {S : Type 0} → (S → Held) → (honest : S → Bool) → (failed : S → ℕ) → (stale share : ℕ) → S → OpenStoreFault → Type 0
+FailsFlush {S} held honest failed stale share given fault =
+    (e : DiskFault) × (left : Device (DriverState (FileState S))) × AsksToFlush held honest failed stale share (Err e) left × (given ≡ left.engine.nand.bus.store) × (fault ≡ Flush)
 
 -- A STORE WITH SO MANY STALE SECTORS is not opened with as many entries; or its device failed its flush; or it is not opened again
-abbrev pub IsUnopenedStale : {S : Type 0} → (S → Held) → (honest : S → Bool) → (failed : S → ℕ) → S → (capacity stale share : ℕ) → OpenStoreFault → Type 0
-IsUnopenedStale {S} held honest failed store capacity stale share fault =
-    IsLastFault held honest failed store stale share fault
-    ⊎ (((e : DiskFault) × (left : Device (DriverState (FileState S))) × AsksToFlush held honest failed stale share (Err e) left × (fault ≡ Flush))
-    ⊎ ((left : Device (DriverState (FileState S))) × AsksToFlush held honest failed stale share (Ok tt) left × IsOpenedNeither held honest failed left.engine.nand.bus.store capacity stale share fault))
+abbrev pub IsUnopenedStale : {S : Type 0} → (S → Held) → (honest : S → Bool) → (failed : S → ℕ) → S → (capacity stale share : ℕ) → S → OpenStoreFault → Type 0
+IsUnopenedStale {S} held honest failed store capacity stale share given fault =
+    IsLastFault held honest failed store stale share given fault
+    ⊎ (FailsFlush held honest failed stale share given fault
+    ⊎ ((left : Device (DriverState (FileState S))) × AsksToFlush held honest failed stale share (Ok tt) left × IsOpenedNeither held honest failed left.engine.nand.bus.store capacity stale share given fault))
 
--- WHY IT IS NOT OPENED: what is told is so of the store, and no larger cache mends it; or it has too many stale sectors, and why it is not opened with a larger one
-abbrev pub IsUnopenedLater : {S : Type 0} → (S → Held) → (honest : S → Bool) → (failed : S → ℕ) → S → (capacity share : ℕ) → OpenStoreFault → Type 0
-IsUnopenedLater {S} held honest failed store capacity share fault =
-    IsFault held honest failed store capacity share fault
-    ⊎ ((stale : ℕ) × (given : S) × IsStale held honest store capacity stale given × IsUnopenedStale held honest failed given capacity stale share fault)
+-- WHY IT IS NOT OPENED, and the store that came back: what is told is so of the store, and no larger cache mends it; or it has too many stale sectors, and why it is not opened with a larger one
+abbrev pub IsUnopenedLater : {S : Type 0} → (S → Held) → (honest : S → Bool) → (failed : S → ℕ) → S → (capacity share : ℕ) → S → OpenStoreFault → Type 0
+IsUnopenedLater {S} held honest failed store capacity share given fault =
+    IsFault held honest failed store capacity share given fault
+    ⊎ ((stale : ℕ) × (come : S) × IsStale held honest store capacity stale come × IsUnopenedStale held honest failed come capacity stale share given fault)
 
 -- ---- laws
 

@@ -42,7 +42,7 @@ fn open_once<S: Store + Drop>(
     capacity: u32,
     share: u32,
     sync_when: SyncWhen,
-) -> Result<StoreDisk<S>, OpenStoreFault>
+) -> Result<StoreDisk<S>, (S, OpenStoreFault)>
     requires least { 1 ≤ capacity }
     requires most { capacity ≤ 65536 }
     ensures syncs { IfOk result (λ d. SyncsWhen sync_when d.engine.nand) }
@@ -52,11 +52,11 @@ fn open_once<S: Store + Drop>(
     ensures pages { IfOk result (λ d. S.honest store ≡ true → flash_in S.held d.engine.nand ≡ flash_as_opened (S.held store)) }
     ensures clear { IfOk result (λ d. S.honest store ≡ true → d.engine.nand.told.at_hand ≡ []) }
     ensures entries { IfOk result (λ d. d.engine.mapping.capacity ≡ capacity) }
-    ensures fault { IfErr result (IsLastFault S.held S.honest S.failed store capacity share) }
+    ensures fault { IfErr result (λ e. IsLastFault S.held S.honest S.failed store capacity share e.0 e.1) }
 {
     match open_store(alloc, store, capacity, share, sync_when) {
         Ok(disk) => Ok(disk),
-        Err((_, fault)) => Err(fault),
+        Err(back) => Err(back),
     }
 }
 
@@ -68,7 +68,7 @@ fn open_either<S: Store + Drop>(
     stale: u32,
     share: u32,
     sync_when: SyncWhen,
-) -> Result<StoreDisk<S>, OpenStoreFault>
+) -> Result<StoreDisk<S>, (S, OpenStoreFault)>
     requires least { (1 ≤ capacity) × (1 ≤ stale) }
     requires most { (capacity ≤ 65536) × (stale ≤ 65536) }
     ensures syncs { IfOk result (λ d. SyncsWhen sync_when d.engine.nand) }
@@ -77,14 +77,14 @@ fn open_either<S: Store + Drop>(
     ensures bytes { IfOk result (λ d. S.honest store ≡ true → (contents_of (view_in S.held S.honest S.failed) d).bytes ≡ bytes_of (S.held store)) }
     ensures clear { IfOk result (λ d. S.honest store ≡ true → d.engine.nand.told.at_hand ≡ []) }
     ensures entries { IfOk result (λ d. IsOpenedEither S.held S.honest store capacity stale d.engine.mapping.capacity) }
-    ensures fault { IfErr result (IsOpenedNeither S.held S.honest S.failed store capacity stale share) }
+    ensures fault { IfErr result (λ e. IsOpenedNeither S.held S.honest S.failed store capacity stale share e.0 e.1) }
 {
     let (store, fault) = match open_store(alloc, store, capacity, share, sync_when) {
         Ok(disk) => return Ok(disk),
         Err(back) => back,
     };
     match stale_in(&fault) {
-        None => Err(fault),
+        None => Err((store, fault)),
         Some(_) => open_once(alloc, store, stale, share, sync_when),
     }
 }
@@ -97,7 +97,7 @@ fn open_stale<S: Store + Drop>(
     stale: u32,
     share: u32,
     sync_when: SyncWhen,
-) -> Result<StoreDisk<S>, OpenStoreFault>
+) -> Result<StoreDisk<S>, (S, OpenStoreFault)>
     requires least { (1 ≤ capacity) × (1 ≤ stale) }
     requires most { (capacity ≤ 65536) × (stale ≤ 65536) }
     ensures syncs { IfOk result (λ d. SyncsWhen sync_when d.engine.nand) }
@@ -106,15 +106,15 @@ fn open_stale<S: Store + Drop>(
     ensures bytes { IfOk result (λ d. S.honest store ≡ true → (contents_of (view_in S.held S.honest S.failed) d).bytes ≡ bytes_of (S.held store)) }
     ensures clear { IfOk result (λ d. S.honest store ≡ true → d.engine.nand.told.at_hand ≡ []) }
     ensures entries { IfOk result (λ d. IsOpenedFlushed S.held S.honest S.failed capacity stale share d.engine.mapping.capacity) }
-    ensures fault { IfErr result (IsUnopenedStale S.held S.honest S.failed store capacity stale share) }
+    ensures fault { IfErr result (λ e. IsUnopenedStale S.held S.honest S.failed store capacity stale share e.0 e.1) }
 {
     let mut disk = match open_store(alloc, store, stale, share, sync_when) {
         Ok(disk) => disk,
-        Err((_, fault)) => return Err(fault),
+        Err(back) => return Err(back),
     };
     match flush(&mut disk) {
         Ok(()) => open_either(alloc, close_store(disk), capacity, stale, share, sync_when),
-        Err(_) => Err(OpenStoreFault::Flush),
+        Err(_) => Err((close_store(disk), OpenStoreFault::Flush)),
     }
 }
 
@@ -126,8 +126,8 @@ fn open_stale<S: Store + Drop>(
 ///
 /// # Errors
 ///
-/// As `open_store`, of the last time that the store was opened: not `Mount` of stale sectors at the first time, where some cache has room for them. `Flush` where the device failed its flush. The store is let go. (This
-/// project's.)
+/// As `open_store`, of the last time that the store was opened: not `Mount` of stale sectors at the first time, where some cache has room for them. `Flush` where the device failed its flush. The store comes back, as
+/// that last time or that flush left it. (This project's.)
 pub fn open_stopped<S: Store + Drop>(
     alloc: Global,
     store: S,
@@ -135,7 +135,7 @@ pub fn open_stopped<S: Store + Drop>(
     share: u32,
     sync_when: SyncWhen,
     writes: bool,
-) -> Result<StoreDisk<S>, OpenStoreFault>
+) -> Result<StoreDisk<S>, (S, OpenStoreFault)>
     requires least { 1 ≤ capacity }
     requires most { capacity ≤ 65536 }
     ensures syncs { IfOk result (λ d. SyncsWhen sync_when d.engine.nand) }
@@ -145,14 +145,14 @@ pub fn open_stopped<S: Store + Drop>(
     ensures pages { IfOk result (λ d. writes ≡ false → S.honest store ≡ true → flash_in S.held d.engine.nand ≡ flash_as_opened (S.held store)) }
     ensures clear { IfOk result (λ d. S.honest store ≡ true → d.engine.nand.told.at_hand ≡ []) }
     ensures entries { IfOk result (λ d. IsOpenedWith S.held S.honest S.failed writes store capacity share d.engine.mapping.capacity) }
-    ensures fault { IfErr result (IsUnopenedLater S.held S.honest S.failed store capacity share) }
+    ensures fault { IfErr result (λ e. IsUnopenedLater S.held S.honest S.failed store capacity share e.0 e.1) }
 {
     let (store, fault) = match open_store(alloc, store, capacity, share, sync_when) {
         Ok(disk) => return Ok(disk),
         Err(back) => back,
     };
     match stale_in(&fault) {
-        None => Err(fault),
+        None => Err((store, fault)),
         Some(stale) => {
             if writes {
                 open_stale(alloc, store, capacity, stale, share, sync_when)

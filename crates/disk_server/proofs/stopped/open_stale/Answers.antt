@@ -5,12 +5,12 @@ use Rattle.disk_server.proofs.StoppedLemmas.{held_again, reopened, then_opened, 
 use Rattle.disk_server.proofs.stopped.open_stale.Goals as goal
 
 pub returns-in-Err-clause-fault : goal.returns-in-Err-clause-fault
-returns-in-Err-clause-fault g c = inl (c.in-Err.field-0-0, c.in-Err.ensures.fault)
+returns-in-Err-clause-fault g c = inl (c.in-Err.ensures.fault, c.in-Err.ensures.given)
 
 pub returns-in-Err-flush-clause-fault : goal.returns-in-Err-flush-clause-fault
 returns-in-Err-flush-clause-fault g c =
     let asks : AsksToFlush g.S.Store.held g.S.Store.honest g.S.Store.failed c.args.stale c.args.share (Err c.in-Err-flush.field-0) c.flush.new.disk = record { opened = c.in-Ok.disk; entries_are = c.in-Ok.ensures.entries; share_is = c.in-Ok.ensures.share; flush = c.in-Err-flush.ensures.does } in
-    inr (inl (c.in-Err-flush.field-0, c.flush.new.disk, asks, refl))
+    inr (inl (c.in-Err-flush.field-0, c.flush.new.disk, asks, c.close_store-in-Err-flush.ensures.store, refl))
 
 pub returns-in-Ok-flush : goal.returns-in-Ok-flush
 returns-in-Ok-flush g c =

@@ -9,7 +9,7 @@ pub returns-in-Ok-clause-entries : goal.returns-in-Ok-clause-entries
 returns-in-Ok-clause-entries g c = inl c.in-Ok.ensures.entries
 
 pub returns-in-None-clause-fault : goal.returns-in-None-clause-fault
-returns-in-None-clause-fault g c = inl ((c.in-Err.back.0, c.in-Err.ensures.fault), c.in-None.ensures)
+returns-in-None-clause-fault g c = inl ((c.in-Err.ensures.fault, c.in-Err.ensures.given), c.in-None.ensures)
 
 pub returns-then-writes-clause-honest : goal.returns-then-writes-clause-honest
 returns-then-writes-clause-honest g c =
