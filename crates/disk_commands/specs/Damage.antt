@@ -79,7 +79,7 @@ no_disk path why = if wants_memory why then fault.OutOfMemory else fault.Open pa
 
 -- the store at the path was not mounted, or its lost sectors were not found
 abbrev pub IsNoneFound : {S : Type 0} → (S → Held) → (honest : S → Bool) → (failed : S → ℕ) → DiskFileAnswers → (path : List ℕ) → DiskCommandFault → Type 0
-IsNoneFound {S} held honest failed a path (fault.Open at why) = (at.now ≡ path) × (wants_memory why ≡ false) × ((told : DiskText) × (store : S) × IsStoreAt held honest a path told store × IsUnfound held honest failed store why)
+IsNoneFound {S} held honest failed a path (fault.Open at why) = (at.now ≡ path) × (wants_memory why ≡ false) × ((told : DiskText) × (store given : S) × IsStoreAt held honest a path told store × IsUnfound held honest failed store given why)
 IsNoneFound held honest failed a path _ = ⊥
 
 -- a growth was refused

@@ -71,8 +71,8 @@ pub record IsDiskOf {S Y : Type 0} (held : S → Held) (honest : S → Bool) (fa
 
 -- why there is none: by whether it was only to be read
 abbrev pub IsNoDiskBy : {S : Type 0} → (read_only : Bool) → (S → Held) → (honest : S → Bool) → (failed : S → ℕ) → DiskText → FoundMark → S → OpenStoreFault → Type 0
-IsNoDiskBy true held honest failed told found store why = IsUnopenedLater held honest failed store told.shape.cache told.shape.share why
-IsNoDiskBy false held honest failed told found store why = IsUnrecovered held honest failed store told.shape.cache told.shape.share found.mark.synced why
+IsNoDiskBy {S} true held honest failed told found store why = (given : S) × IsUnopenedLater held honest failed store told.shape.cache told.shape.share given why
+IsNoDiskBy {S} false held honest failed told found store why = (given : S) × IsUnrecovered held honest failed store told.shape.cache told.shape.share found.mark.synced given why
 
 -- THE PLACE OF THE LIST OF ITS LOST SECTORS, by whether it is only read: nothing is asked of it; or the list lasts, where any is lost
 abbrev pub KeepsBy : {K : Type 0} → (read_only : Bool) → (kept : K → List Bool) → (lost : List Bool) → (place left : K) → Type 0

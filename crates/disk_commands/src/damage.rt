@@ -134,7 +134,7 @@ pub(crate) fn look_at<'a, F: DiskFiles>(
             certificate,
             lost,
         }),
-        Err(why) => Err(no_disk(path, why)),
+        Err((_, why)) => Err(no_disk(path, why)),
     }
 }
 

@@ -86,7 +86,10 @@ fn disk_of<'a, S: Store + Drop, K: KeepsLost>(
         let (cache, share) = (told.shape.cache, told.shape.share);
         return match open_stopped(alloc, store, cache, share, when, false) {
             Ok(disk) => Ok(disk),
-            Err(why) => Err(no_disk(words.disk, why)),
+            Err((given, why)) => {
+                drop(given);
+                Err(no_disk(words.disk, why))
+            }
         };
     }
     let listed = match list_first(store, keeper, lost) {
@@ -103,7 +106,10 @@ fn disk_of<'a, S: Store + Drop, K: KeepsLost>(
         when,
     ) {
         Ok(disk) => Ok(disk),
-        Err(why) => Err(no_disk(words.disk, why)),
+        Err((given, why)) => {
+            drop(given);
+            Err(no_disk(words.disk, why))
+        }
     }
 }
 

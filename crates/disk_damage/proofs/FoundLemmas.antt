@@ -4,6 +4,7 @@ use Rattle.page_layout.specs.declared.geometry.Geometry.{Geometry}
 use Rattle.page_layout.specs.Counter.{HasRisen}
 use Rattle.page_layout.specs.Page.{Image}
 use Rattle.certificate.specs.Claim.{Claim}
+use Rattle.file_die.specs.Open.{OnlyLooks}
 use Rattle.file_die.specs.Store.{Held}
 use Rattle.image_check.specs.Agrees.{Agrees}
 use Rattle.mount.specs.Mounted.{IsMounted}
@@ -27,11 +28,13 @@ adds_found held honest store mounted certificate mark old new back is adds h siz
     subst (λ (x : Image). Adds (is_lost (held store).geometry x mark) 0 (held store).geometry.sectors old new) pages
     (subst (λ (g : Geometry). Adds (is_lost g (held mounted).pages mark) 0 g.sectors old new) geo (adds (back.as_honest ∙ h) 65536 agrees (size ∙ sym (ap (λ (g : Geometry). g.sectors) geo))))
 
--- why they were not found: a growth was refused, or a load failed, which was counted
+-- why they were not found: a growth was refused, and nothing was asked of the store; or a load failed, which was counted
 pub unfound_so : {S : Type 0} (held : S → Held) (honest : S → Bool) (failed : S → ℕ) (store mounted given : S) (certificate : Claim) (fault : LostFault) → HasCome held honest store mounted
-    → (honest store ≡ true → IsMounted (held store).geometry 65536 (held store).pages certificate) → (fault ≡ lost.Store → HasRisen (failed mounted) (failed given)) → IsUnfound held honest failed store (unfound fault)
-unfound_so held honest failed store mounted given certificate lost.OutOfMemory back was rose = inr (inr (refl, (certificate, was)))
-unfound_so held honest failed store mounted given certificate lost.Store back was rose = inr (inl (refl, record { mounted = mounted; back = back; given = given; rose = rose refl }))
+    → (honest store ≡ true → IsMounted (held store).geometry 65536 (held store).pages certificate) → OnlyLooks held honest mounted given → (fault ≡ lost.OutOfMemory → given ≡ mounted)
+    → (fault ≡ lost.Store → HasRisen (failed mounted) (failed given)) → IsUnfound held honest failed store given (unfound fault)
+unfound_so held honest failed store mounted given certificate lost.OutOfMemory back was looks same rose =
+    inr (inr (refl, subst (λ s. HasCome held honest store s) (sym (same refl)) back, (certificate, was)))
+unfound_so held honest failed store mounted given certificate lost.Store back was looks same rose = inr (inl (refl, record { mounted = mounted; back = back; looks = looks; rose = rose refl }))
 
 -- and the list stayed, unless a load failed
 pub list_stays : (fault : LostFault) (old new : List Bool) → (fault ≡ lost.OutOfMemory → new ≡ old) → unfound fault ≢ Device → new ≡ old

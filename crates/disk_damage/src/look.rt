@@ -100,6 +100,7 @@ fn add_unsound<S: Store>(
     ensures rows { OnOk result (S.honest store.old ≡ true → rows.new.items ≡ unsound_numbers geometry.now (S.held store.old).pages certificate.now.blocks) }
     ensures looks { OnlyLooks S.held S.honest store.old store.new }
     ensures settled { OnOk result (S.failed store.new ≡ S.failed store.old) }
+    ensures memory { IsErrOf result LostFault.OutOfMemory → S.failed store.new ≡ S.failed store.old }
     ensures rose { IsErrOf result LostFault.Store → HasRisen (S.failed store.old) (S.failed store.new) }
 {
     for row in 0..geometry.rows() {
@@ -110,12 +111,12 @@ fn add_unsound<S: Store>(
     Ok(())
 }
 
-/// The rows of a store that was mounted, whose certificate this is, of which the page is neither erased nor sound and the block was not marked by the factory, by rising number. So
-/// each page that was torn, or has rotted, is among them. Each page is loaded once.
+/// The rows of a store that was mounted, whose certificate this is, of which the page is neither erased nor sound and the block was not marked by the factory, by rising number. Each page
+/// is loaded once, but those of blocks that the factory marked, of which none is.
 ///
 /// # Errors
 ///
-/// `OutOfMemory` where a growth was refused, `Store` where a load failed. The store's pages are as they were. (This project's.)
+/// `OutOfMemory` where a growth was refused, and no load had failed; `Store` where a load failed, which was counted. The store's pages are as they were. (This project's.)
 pub fn unsound_rows<S: Store>(
     alloc: Global,
     store: &mut S,
@@ -124,6 +125,7 @@ pub fn unsound_rows<S: Store>(
     ensures rows { IfOk result (λ rows. S.honest store.old ≡ true → rows.items ≡ unsound_numbers (S.held store.old).geometry (S.held store.old).pages certificate.now.blocks) }
     ensures looks { OnlyLooks S.held S.honest store.old store.new }
     ensures settled { OnOk result (S.failed store.new ≡ S.failed store.old) }
+    ensures memory { IsErrOf result LostFault.OutOfMemory → S.failed store.new ≡ S.failed store.old }
     ensures rose { IsErrOf result LostFault.Store → HasRisen (S.failed store.old) (S.failed store.new) }
 {
     let geometry = store.geometry();

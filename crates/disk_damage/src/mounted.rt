@@ -29,27 +29,28 @@ fn unfound(fault: LostFault) -> OpenStoreFault
 ///
 /// # Errors
 ///
-/// As `mount_store` for the largest cache; then `OutOfMemory` where a growth was refused, and `Device` where a load failed. None is taken off the list, which is as it was but after `Device`. The store is let go. (This project's.)
+/// As `mount_store` for the largest cache; then `OutOfMemory` where a growth was refused, and `Device` where a load failed. None is taken off the list, which is as it was but after `Device`. The store comes back, as
+/// the mount or those loads left it. (This project's.)
 pub fn mount_and_find<S: Store + Drop>(
     alloc: Global,
     store: S,
     mark: u64,
     lost: &mut [bool],
-) -> Result<(S, Certificate), OpenStoreFault>
+) -> Result<(S, Certificate), (S, OpenStoreFault)>
     ensures mounted { IfOk result (λ made. S.honest store ≡ true → IsMounted (S.held store).geometry 65536 (S.held store).pages made.1) }
     ensures back { IfOk result (λ made. HasCome S.held S.honest store made.0) }
     ensures adds { IfOk result (λ made. S.honest store ≡ true → length lost.old ≡ (S.held store).geometry.sectors →
         Adds (is_lost (S.held store).geometry (S.held store).pages mark) 0 (S.held store).geometry.sectors lost.old lost.new) }
     ensures kept { DropsNone lost.old lost.new }
-    ensures fault { IfErr result (IsUnfound S.held S.honest S.failed store) }
-    ensures untouched { IfErr result (λ fault. fault ≢ OpenStoreFault.Device → lost.new ≡ lost.old) }
+    ensures fault { IfErr result (λ e. IsUnfound S.held S.honest S.failed store e.0 e.1) }
+    ensures untouched { IfErr result (λ e. e.1 ≢ OpenStoreFault.Device → lost.new ≡ lost.old) }
 {
     let (mut store, certificate) = match mount_store(alloc, store, MOST_ENTRIES) {
         Ok(mounted) => mounted,
-        Err((_, fault)) => return Err(fault),
+        Err(back) => return Err(back),
     };
     match find_lost(alloc, &mut store, &certificate, mark, lost) {
         Ok(()) => Ok((store, certificate)),
-        Err(fault) => Err(unfound(fault)),
+        Err(fault) => Err((store, unfound(fault))),
     }
 }

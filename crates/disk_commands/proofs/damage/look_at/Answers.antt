@@ -74,7 +74,7 @@ returns g c =
       ok = tt;
       fault = subst (IsUnlookedAt g.F.Store.Store.held g.F.Store.Store.honest g.F.Store.Store.failed (g.F.DiskFiles.answers c.args.files.now) c.args.path.now) (sym c.no_disk.ensures)
           (told_no_disk (IsUnlookedAt g.F.Store.Store.held g.F.Store.Store.honest g.F.Store.Store.failed (g.F.DiskFiles.answers c.args.files.now) c.args.path.now) c.args.path c.in-Err.why (inr (inl tt))
-          (λ other. inr (inr (inr (refl, other, (c.in_ok-store.told, c.in_ok-store.store, first.ok, c.in-Err.ensures.fault))))));
+          (λ other. inr (inr (inr (refl, other, (c.in_ok-store.told, c.in_ok-store.store, c.in-Err.field-0-0, first.ok, c.in-Err.ensures.fault))))));
       opened = ap g.F.DiskFiles.opened same ∙ first.opened;
       within = tt;
       no_more = tt;

@@ -38,7 +38,7 @@ returns-in-Err-recover_listed-clause-fault g c =
     let is_none = IsNoneOf held honest failed g.K.KeepsLost.kept g.K.KeepsLost.failed c.args.words.now.disk.now c.args.words.now.read_only c.args.told.now c.args.found c.args.store c.args.lost.now c.args.keeper.now c.list_first.new.keeper in
     let listed = subst (λ r. KeepsBy r g.K.KeepsLost.kept c.args.lost.now c.args.keeper.now c.list_first.new.keeper) (sym c.if-words.false) c.in-Ok-list_first.ensures.listed in
     let none = subst (λ r. IsNoDiskBy r held honest failed c.args.told.now c.args.found c.args.store why) (sym c.if-words.false)
-    (subst (λ s. IsUnrecovered held honest failed s c.args.told.now.shape.cache c.args.told.now.shape.share c.args.found.mark.synced why) c.in-Ok-list_first.ensures.same c.in-Err-recover_listed.ensures.fault) in
+    (c.in-Err-recover_listed.given, subst (λ s. IsUnrecovered held honest failed s c.args.told.now.shape.cache c.args.told.now.shape.share c.args.found.mark.synced c.in-Err-recover_listed.given why) c.in-Ok-list_first.ensures.same c.in-Err-recover_listed.ensures.fault) in
     subst is_none (sym c.no_disk-in-Err-recover_listed.ensures) (told_no_disk is_none c.args.words.now.disk why listed (λ other. (refl, other, listed, none)))
 
 pub returns-in-Err-clause-fault : goal.returns-in-Err-clause-fault
@@ -49,5 +49,5 @@ returns-in-Err-clause-fault g c =
     let why = c.in-Err.why in
     let is_none = IsNoneOf held honest failed g.K.KeepsLost.kept g.K.KeepsLost.failed c.args.words.now.disk.now c.args.words.now.read_only c.args.told.now c.args.found c.args.store c.args.lost.now c.args.keeper.now c.args.keeper.now in
     let listed = subst (λ r. KeepsBy r g.K.KeepsLost.kept c.args.lost.now c.args.keeper.now c.args.keeper.now) (sym c.if-words.true) refl in
-    let none = subst (λ r. IsNoDiskBy r held honest failed c.args.told.now c.args.found c.args.store why) (sym c.if-words.true) c.in-Err.ensures.fault in
+    let none = subst (λ r. IsNoDiskBy r held honest failed c.args.told.now c.args.found c.args.store why) (sym c.if-words.true) (c.in-Err.given, c.in-Err.ensures.fault) in
     subst is_none (sym c.no_disk.ensures) (told_no_disk is_none c.args.words.now.disk why listed (λ other. (refl, other, listed, none)))

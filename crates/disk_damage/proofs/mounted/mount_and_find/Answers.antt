@@ -9,7 +9,7 @@ returns-in-Ok-find_lost-clause-adds g c =
 pub returns-in-Err-find_lost-clause-fault : goal.returns-in-Err-find_lost-clause-fault
 returns-in-Err-find_lost-clause-fault g c =
     rw c.unfound.ensures (unfound_so g.S.Store.held g.S.Store.honest g.S.Store.failed c.args.store c.in-Ok.mounted.0 c.find_lost.new.store _ c.in-Err-find_lost.fault c.in-Ok.ensures.back
-    c.in-Ok.ensures.mounted (λ is. c.in-Err-find_lost.ensures.rose (ap Err is)))
+    c.in-Ok.ensures.mounted c.in-Err-find_lost.ensures.looks (λ is. (c.in-Err-find_lost.ensures.unasked (ap Err is)).0) (λ is. c.in-Err-find_lost.ensures.rose (ap Err is)))
 
 pub returns-in-Err-find_lost-clause-untouched : goal.returns-in-Err-find_lost-clause-untouched
 returns-in-Err-find_lost-clause-untouched g c =
