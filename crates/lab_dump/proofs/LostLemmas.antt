@@ -25,7 +25,7 @@ use Rattle.page_layout.proofs.StepLemmas.{below_more}
 use Rattle.page_layout.proofs.FlashLemmas.{geometry-Steps, program_means, erase_keeps}
 use Rattle.certificate.specs.Claim.{Claim}
 use Rattle.image_check.specs.Agrees.{Agrees}
-use Rattle.lab_dump.specs.Lost.{IsWhereSaid, IsSectorSince, LeadsInOrder, is_there, is_lost_by_latest, said_row, has_lost_page, HasLostPageLaw, NoneLostLaw, OneProgramLaw}
+use Rattle.lab_dump.specs.Lost.{IsWhereSaid, IsSectorSince, LeadsInOrder, is_there, is_lost_by_latest, said_row, has_lost_page, HasLostPageLaw, LongerLogLaw, NoneLostLaw, OneProgramLaw}
 
 -- ---- the criterion
 
@@ -263,6 +263,12 @@ since_late ms n next h =
 
 pub one_program : OneProgramLaw
 one_program g next old new row p r passed left free says version of late steps = (r, record { free = free; says = says; version = version; of_key = of; late = late }, new, steps, refl)
+
+pub longer_log : LongerLogLaw
+longer_log = record {
+  program = λ g next old mid new row p r passed left log due step rest. (r, due, mid, step, rest);
+  erase = λ g next old mid new block passed left log none step rest. (none, mid, step, rest);
+}
 
 pub none_lost : NoneLostLaw
 none_lost g capacity c old new log n same agrees on within =

@@ -85,6 +85,13 @@ abbrev pub OneProgramLaw : Type 0
 OneProgramLaw = (g : Geometry) (next : ℕ) (old new : Flash) (row : ℕ) (p : Page) (r : Record) (passed : Bool) (left : Page) → IsUnsoundAt old.image row → record_of p ≡ Some r → version_of p ≡ Some (version_for g)
     → IsKeyOf g (key_of r) → next ≤ r.sequence → Steps old (Program row p passed left) new → LeadsInOrder g next old (Program row p passed left ∷ []) new
 
+-- What is in order stays so behind one operation more: a program of a page that is due, or an erase of a block in which no key has its newest page.
+pub record LongerLogLaw : Type 0 where
+  pub program : (g : Geometry) (next : ℕ) (old mid new : Flash) (row : ℕ) (p : Page) (r : Record) (passed : Bool) (left : Page) (log : List Operation) → IsDueNext g next old.image row p r
+      → Steps old (Program row p passed left) mid → LeadsInOrder g (r.sequence + 1) mid log new → LeadsInOrder g next old (Program row p passed left ∷ log) new
+  pub erase : (g : Geometry) (next : ℕ) (old mid new : Flash) (block : ℕ) (passed : Bool) (left : List Page) (log : List Operation) → HoldsNone g.pages block old.image
+      → Steps old (Erase block passed left) mid → LeadsInOrder g next mid log new → LeadsInOrder g next old (Erase block passed left ∷ log) new
+
 -- Of a die whose certificate agreed with it no sector is told as lost, whatever went on since.
 abbrev pub NoneLostLaw : Type 0
 NoneLostLaw = (g : Geometry) (capacity : ℕ) (c : Claim) (old new : Flash) (log : List Operation) (n : ℕ) → old.geometry ≡ g → Agrees g capacity old.image c

@@ -2,7 +2,7 @@
 ghost use Rattle.lab_dump.specs.Bound.{BoundLaw, BrokenPageLaw, HoleLostLaw, NotGoneReadsSameLaw, OwnRowLaw};
 ghost use Rattle.lab_dump.specs.Bad.{PlainLaw, RewrittenLaw, RewrittenToldLaw};
 ghost use Rattle.lab_dump.specs.Doubts.{HoleLaw, ToldOnceLaw};
-ghost use Rattle.lab_dump.specs.Lost.{HasLostPageLaw, NoneLostLaw, OneProgramLaw};
+ghost use Rattle.lab_dump.specs.Lost.{HasLostPageLaw, LongerLogLaw, NoneLostLaw, OneProgramLaw};
 ghost use Rattle.lab_dump.specs.Named.{OthersLaw};
 ghost use Rattle.lab_dump.specs.Map.{AreasLaw};
 ghost use Rattle.lab_dump.specs.FitLaws.{FewerLaw, FitLaw, NoFitTwiceLaw, OwnGeometryLaw, ShortLaw, PageLaw, LookedLaw, LookedRiseLaw, LookedAllLaw, GreatestLaw, TellsEachPageLaw, LowerLaw, TableLaw};
@@ -19,10 +19,11 @@ pub fn lost_law()
 {}
 
 /// Of a die whose certificate agreed with it no sector is told as lost after any log of programs that take the next sequences in order and of
-/// erases of blocks with no newest page, passed or failed. One program of a page that is due is such a log.
+/// erases of blocks with no newest page, passed or failed. One program of a page that is due is such a log, and so is such a program or erase before one.
 pub fn none_lost_law()
     ensures none { NoneLostLaw }
     ensures program { OneProgramLaw }
+    ensures longer { LongerLogLaw }
 {}
 
 /// What a hole is: a row is told as one just where its page is erased and one behind it in its block is not. Of a die whose blocks were programmed in
