@@ -17,3 +17,4 @@ pub mod RepairLemmas
 pub mod NameLemmas
 pub mod NameLaws
 pub mod OriginLemmas
+pub mod ReportLaws

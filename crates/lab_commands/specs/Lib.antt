@@ -34,3 +34,5 @@ pub mod Origin
 pub mod Program
 -- a text that is printed piece by piece
 pub mod Pieces
+-- what the texts come to
+pub mod Laws

@@ -14,6 +14,7 @@ mod files;
 mod geometry;
 mod grammar;
 mod history;
+mod laws;
 mod lines;
 mod lists;
 mod maps;
@@ -41,6 +42,7 @@ mod words;
 
 pub use document::ReportForm;
 pub use files::{KeepFault, LabFileFault, LabFiles, MapText, Progress, Standing};
+pub use laws::{report_laws, survey_text_laws};
 pub use names::{digit, name_laws, put_name};
 pub use output::{Output, OutputFault, OutputStream};
 pub use pieces::{Piece, put, put_pieces};
