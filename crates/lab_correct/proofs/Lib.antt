@@ -5,3 +5,4 @@ pub mod MapLemmas
 pub mod DecodedLemmas
 pub mod CodedLemmas
 pub mod FoundLemmas
+pub mod OnceLemmas

@@ -1,13 +1,15 @@
 -- The map of a corrected dump: which rows of it have lost chunks, as the mapfile of GNU ddrescue says it.
-use Rattle.std.specs.Prelude.{◌≡◌, ℕ, zero, suc, ◌+◌, ◌-◌, ◌*◌, ◌<◌, nat_le, ◌==◌, if◌then◌else◌, false, List, [], ◌∷◌, ◌++◌, codes, length, map, get_or}
+use Rattle.std.specs.Prelude.{◌≡◌, ◌⊎◌, ℕ, zero, suc, ◌+◌, ◌-◌, ◌*◌, ◌<◌, ◌≤◌, nat_le, ◌==◌, if◌then◌else◌, false, List, [], ◌∷◌, ◌++◌, codes, length, map, get_or}
 use Rattle.std.specs.Fmt.{digits}
 use Rattle.page_layout.specs.declared.geometry.Geometry.{Geometry}
 use Rattle.page_layout.specs.Geometry.{page_bytes, row_count}
+use Rattle.page_layout.specs.Page.{Image}
 use Rattle.lab_dump.specs.declared.map_head.Remark.TheVariants.{Dump}
 use Rattle.lab_dump.specs.declared.mark.MapMark.{MapMark}
 use Rattle.lab_dump.specs.declared.mark.MapMark.TheVariants.{Finished, Bad}
 use Rattle.lab_dump.specs.Map.{area_words, map_head}
 use Rattle.lab_correct.specs.declared.correcting.Loss.{Loss}
+use Rattle.lab_correct.specs.Correcting.{losses_from}
 
 -- the line of the rows from the first one to the one before the end, if there are any, of pages of this size
 abbrev pub rows_text : ℕ → ℕ → ℕ → MapMark → List ℕ
@@ -47,3 +49,30 @@ pub record LossMapLaw : Type 0 where
   pub behind : (size next row : ℕ) → next < row → loss_text size next row ≡ status_text (next * size) ((row - next) * size) (codes "+") ++ status_text (row * size) size (codes "-")
   pub beside : (size row : ℕ) → loss_text size row row ≡ status_text (row * size) size (codes "-")
   pub none : (g : Geometry) → 0 < row_count g → loss_map_text g [] ≡ map_head Dump ++ status_text 0 (row_count g * page_bytes g) (codes "+")
+
+-- ---- each row once
+
+-- the losses are of rows from this one on and below so many, by rising row
+abbrev pub AreRising : ℕ → List Loss → ℕ → Type 0
+AreRising from [] rows = from ≤ rows
+AreRising from (loss ∷ losses) rows = (from ≤ loss.row) × AreRising (loss.row + 1) losses rows
+
+-- the row is one of those before loss i, behind the loss before that: of the last line, behind all losses
+pub record IsBetween (losses : List Loss) (rows i row : ℕ) : Type 0 where
+  pub part : i ≤ length losses
+  pub first : next_row losses i ≤ row
+  pub before : i < length losses → row < row_at losses i
+  pub end : row < rows
+
+-- it is that of loss i
+pub record IsLostAs (losses : List Loss) (i row : ℕ) : Type 0 where
+  pub part : i < length losses
+  pub is : row ≡ row_at losses i
+
+-- EACH ROW OF THE DUMP HAS ONE LINE OF THE MAP, AND ONE ALONE: that of the rows before a loss, or that of its loss. What `correct_dump` names is by rising row.
+pub record OneLineLaw : Type 0 where
+  pub named : (g : Geometry) (image : Image) → AreRising 0 (losses_from g 0 image) (length image)
+  pub some : (losses : List Loss) (rows row : ℕ) → AreRising 0 losses rows → row < rows → ((i : ℕ) × IsBetween losses rows i row) ⊎ ((i : ℕ) × IsLostAs losses i row)
+  pub between : (losses : List Loss) (rows row i j : ℕ) → AreRising 0 losses rows → IsBetween losses rows i row → IsBetween losses rows j row → i ≡ j
+  pub lost : (losses : List Loss) (rows row i j : ℕ) → AreRising 0 losses rows → IsLostAs losses i row → IsLostAs losses j row → i ≡ j
+  pub apart : (losses : List Loss) (rows row i j : ℕ) → AreRising 0 losses rows → IsBetween losses rows i row → ¬ IsLostAs losses j row

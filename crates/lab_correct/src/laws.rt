@@ -1,7 +1,7 @@
 //! What a corrected dump comes to.
 ghost use Rattle.lab_correct.specs.Corrected.{CorrectedLaw};
 ghost use Rattle.lab_correct.specs.CodedLaws.{DecodedRowLaw, DecodedSizeLaw, LostPageLaw, NearPageLaw};
-ghost use Rattle.lab_correct.specs.Map.{LossMapLaw};
+ghost use Rattle.lab_correct.specs.Map.{LossMapLaw, OneLineLaw};
 
 /// A dump of pages with their codes, of which at most one bit is wrong in each chunk, gives the pages as they were, and no row is named.
 pub fn corrected_law()
@@ -17,7 +17,9 @@ pub fn decoded_laws()
     ensures row { DecodedRowLaw }
 {}
 
-/// The map of what was lost: a lost row has a line with `-`, the rows between two have one with `+`; of a dump that lost none one line, `+`, is of all its bytes.
+/// The map of what was lost: a lost row has a line with `-`, the rows between two have one with `+`; of a dump that lost none one line, `+`, is of all its bytes. Each row is of one line,
+/// and of one alone, where the losses are by rising row, as they are named.
 pub fn loss_map_law()
-    ensures { LossMapLaw }
+    ensures lines { LossMapLaw }
+    ensures once { OneLineLaw }
 {}
