@@ -13,7 +13,7 @@ mod part;
 mod system;
 
 use disk_commands::{DiskCommandFault, run, tell};
-use part_files::FirstError;
+use part_files::{FirstError, hold_streams};
 use program_words::{GrammarFault, word_slices, words_found};
 use std::env;
 use std::fs::File;
@@ -87,6 +87,7 @@ fn status_of<
 }
 
 fn main(rt: HostRuntime) -> ExitCode {
+    let _held = hold_streams(&rt);
     let first = FirstError::new();
     let status = status_of(&rt, &first, rt.stdin(), rt.stdout(), &mut rt.stderr());
     if status == FAILED {

@@ -8,7 +8,7 @@ mod system;
 
 use lab_commands::{LabFault, Output, OutputStream, tell};
 use lab_custody::run;
-use part_files::FirstError;
+use part_files::{FirstError, hold_streams};
 use program_words::{GrammarFault, word_slices, words_found};
 use std::env;
 use std::fs::File;
@@ -72,6 +72,7 @@ fn status_of<
 }
 
 fn main(rt: HostRuntime) -> ExitCode {
+    let _held = hold_streams(&rt);
     let first = FirstError::new();
     let status = status_of(
         &rt,
