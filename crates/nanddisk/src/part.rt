@@ -9,8 +9,8 @@ use file_die::Store;
 use page_layout::geometry::Geometry;
 use part_files::{Names, Pair, System, clear_begun, discard, is_begun, new_part, publish_pair};
 use std::alloc::Global;
-use std::fs::{self, File};
-use std::io::{self, BufReader, Read, Seek, SeekFrom, Write};
+use std::fs::{self, File, TryLockError};
+use std::io::{self, BufReader, Error, ErrorKind, Read, Seek, SeekFrom, Write};
 use std::rt::Files;
 
 // The bytes of a file, which is left at its first one.
@@ -20,7 +20,19 @@ fn length_of(file: &mut File) -> io::Result<u64> {
     Ok(found)
 }
 
-/// A dump of just so many bytes, to be read from its first one.
+// Why a dump is not copied: it is a folder, or is being written, by a server. Where the file system has no locks that is not known.
+fn want_still(file: &File) -> io::Result<()> {
+    if file.metadata()?.is_dir() {
+        return Err(Error::from(ErrorKind::IsADirectory));
+    }
+    match file.try_lock_shared() {
+        Err(TryLockError::WouldBlock) => Err(Error::from(ErrorKind::WouldBlock)),
+        _ => Ok(()),
+    }
+}
+
+/// A dump of just so many bytes, to be read from its first one. It is held with whoever else reads it, where the file system has locks: so it is not taken for a part that an
+/// earlier run has left, and removed.
 pub fn open_dump<R: Files<File = File>>(
     system: &System<'_, R>,
     dump: &str,
@@ -30,6 +42,9 @@ pub fn open_dump<R: Files<File = File>>(
         Ok(from) => from,
         Err(error) => return Err(unread(system, error)),
     };
+    if let Err(error) = want_still(&from) {
+        return Err(unread(system, error));
+    }
     match length_of(&mut from) {
         Ok(found) if found == wanted => Ok(from),
         Ok(found) => Err(DiskFileFault::Length(found)),

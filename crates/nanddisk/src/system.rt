@@ -99,6 +99,29 @@ fn read_if_there<R: Files<File = File>>(
     }
 }
 
+// The path beside which the mark of a disk and the list of its lost sectors stand: its own, or, where the file that tells its shape is a link, that of the disk whose file it leads to. So a
+// disk that has links has one mark.
+fn home_of<R: Files<File = File> + AllocGlobal>(
+    system: &System<'_, R>,
+    alloc: Global,
+    path: &str,
+) -> Result<String, DiskFileFault> {
+    let shape = name_beside(alloc, path, SHAPE)?;
+    match fs::symlink_metadata(system.rt, shape.as_str()) {
+        Ok(found) if found.is_symlink() => {}
+        _ => return name_beside(alloc, path, ""),
+    }
+    let real = match fs::canonicalize(system.rt, shape.as_str()) {
+        Ok(real) => real,
+        Err(error) => return Err(unread(system, error)),
+    };
+    name_beside(
+        alloc,
+        real.as_str().strip_suffix(SHAPE).unwrap_or(path),
+        "",
+    )
+}
+
 // The names that go with the list of lost sectors of a disk.
 fn list_names(alloc: Global, path: &str) -> Result<ListNames, DiskFileFault> {
     let list = names_beside(alloc, path, LIST)?;
@@ -275,7 +298,11 @@ impl<'a, R: Files<File = File> + AllocGlobal + Clock> DiskFiles for DiskSystem<'
             return Ok(true);
         }
         let mark = name_beside(alloc, path, MARK)?;
-        is_there(&self.system, mark.as_str())
+        if is_there(&self.system, mark.as_str())? {
+            return Ok(true);
+        }
+        let list = name_beside(alloc, path, LIST)?;
+        is_there(&self.system, list.as_str())
     }
 
     fn lock(&mut self, path: &str, access: Access) -> Result<LockedFile, DiskFileFault> {
@@ -292,7 +319,8 @@ impl<'a, R: Files<File = File> + AllocGlobal + Clock> DiskFiles for DiskSystem<'
     }
 
     fn mark_text(&mut self, alloc: Global, path: &str) -> Result<Option<Vec<u8>>, DiskFileFault> {
-        let name = name_beside(alloc, path, MARK)?;
+        let home = home_of(&self.system, alloc, path)?;
+        let name = name_beside(alloc, home.as_str(), MARK)?;
         read_if_there(&self.system, alloc, name.as_str())
     }
 
@@ -326,7 +354,8 @@ impl<'a, R: Files<File = File> + AllocGlobal + Clock> DiskFiles for DiskSystem<'
         ensures marked { IfOk result (λ keeps. keeps.mark ≡ found.mark) }
         ensures failed { IfErr result (unknown_disk_files.fails path.now) }
     {
-        match mark_file(&self.system, alloc, path, found.in_second) {
+        let home = home_of(&self.system, alloc, path)?;
+        match mark_file(&self.system, alloc, home.as_str(), found.in_second) {
             Ok(kept) => Ok(syncs.with_mark(kept, found.mark)),
             Err(fault) => Err(fault),
         }
@@ -384,7 +413,8 @@ impl<'a, R: Files<File = File> + AllocGlobal + Clock> DiskFiles for DiskSystem<'
         path: &str,
         most: u64,
     ) -> Result<Vec<u8>, DiskFileFault> {
-        read_beside(&self.system, alloc, path, LIST, most)
+        let home = home_of(&self.system, alloc, path)?;
+        read_beside(&self.system, alloc, home.as_str(), LIST, most)
     }
 
     fn lists(
@@ -395,7 +425,8 @@ impl<'a, R: Files<File = File> + AllocGlobal + Clock> DiskFiles for DiskSystem<'
         beside: &[u8],
     ) -> Result<FileLists<'a, R>, DiskFileFault> {
         let die = second_handle(&self.system, syncs.die().file())?;
-        let names = list_names(alloc, path)?;
+        let home = home_of(&self.system, alloc, path)?;
+        let names = list_names(alloc, home.as_str())?;
         let Ok(text) = beside.to_vec(alloc) else {
             return Err(DiskFileFault::OutOfMemory);
         };
