@@ -115,11 +115,7 @@ fn home_of<R: Files<File = File> + AllocGlobal>(
         Ok(real) => real,
         Err(error) => return Err(unread(system, error)),
     };
-    name_beside(
-        alloc,
-        real.as_str().strip_suffix(SHAPE).unwrap_or(path),
-        "",
-    )
+    name_beside(alloc, real.as_str().strip_suffix(SHAPE).unwrap_or(path), "")
 }
 
 // The names that go with the list of lost sectors of a disk.
