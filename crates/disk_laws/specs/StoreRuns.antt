@@ -20,7 +20,7 @@ ErasesPass [] = Unit {0}
 ErasesPass (Program row page passed left ∷ log) = ErasesPass log
 ErasesPass (Erase block passed left ∷ log) = (passed ≡ true) × ErasesPass log
 
--- A DEVICE OF AN HONEST STORE, in whose record nothing is at hand, as behind each call that its die answered, and as it is opened: `open_store`, `open_stopped` and `recover_listed` yield it (`clear`)
+-- A DEVICE OF AN HONEST STORE, in whose record nothing is at hand, as behind each call that its die answered, and as it is opened: `open_clear` yields it
 pub record StandsClear {S : Type 0} (held : S → Held) (honest : S → Bool) (failed : S → ℕ) (d : Device (DriverState (FileState S))) : Type 0 where
   pub disk : IsDisk (view_in held honest failed) d
   pub ready : StandsReady held d.engine.nand

@@ -17,12 +17,14 @@ ghost use Rattle.disk_laws.specs.Spared.{KilledOpenedLaw, KilledSparesLaw, LostC
 
 mod device_calls;
 mod driver_calls;
+mod opened_calls;
 
 pub use device_calls::{migrate_one_of, read_sector_of};
 use disk_server::{KeepsLost, Sectors, Syncs};
 pub use driver_calls::{erase_stored, program_stored, read_stored, start_stored};
 use file_die::{FileDie, Store, TellsFull};
 use onfi_cycles::{Driver, Nand};
+pub use opened_calls::open_clear;
 use page_layout::source::PageSource;
 
 /// What is found of a disk whose server is killed inside a call, or whose die is stopped in it, where the device still holds its array after the whole call: the die's pages at each moment mount, with the bytes
@@ -121,7 +123,7 @@ pub fn cut_laws<N: Nand>()
 
 /// The same of a disk in a store: what the record tells is just what the driver did and what the file refused it, and behind that the driver only read. So the store's pages, as the device answers with the fault, are such an image: it mounts, and has
 /// the array from before the call, or the one after it. What lasts of them, where the power goes then, is what a loss of power may leave by the same operations, as long as each of those programs a page without a record, and no erase fails. Nothing
-/// is taken for granted of what the device asked its driver in that call: its contract says it. (This project.)
+/// is taken for granted of what the device asked its driver in that call: its contract says it. A device as it was opened is one of these (`open_clear`). (This project.)
 pub fn store_cut_laws<S: Store>()
     ensures told { ToldCutLaw S.held S.honest S.failed }
     ensures store { StoreCutLaw S.held S.honest S.failed }
