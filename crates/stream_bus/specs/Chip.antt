@@ -6,7 +6,7 @@ use Rattle.onfi_cycles.specs.Cycles.{Cycle}
 use Rattle.onfi_cycles.specs.Sent as chain
 use Rattle.onfi_cycles.specs.Spelling.{done}
 use Rattle.stream_bus.specs.Behind.{Behind}
-use Rattle.stream_bus.specs.Carried.{CalledBehind, Hands, SentAsFrame}
+use Rattle.stream_bus.specs.Carried.{CalledBehind, HandsOn, SentAsFrame}
 use Rattle.stream_bus.specs.declared.near.Near.{Near}
 
 -- what was asked of one thing was asked of what is behind it
@@ -19,8 +19,8 @@ chain_of behind here there step old new (cycle ∷ cycles) out sent =
 
 -- one cycle at hand
 pub handed : {B : Type 0} (called : B → Cycle → Result (Unit {0}) BusFault → List ℕ → B → Type 0) (old new : Near B) (cycle : Cycle) (answer : Result (Unit {0}) BusFault) (out : List ℕ)
-    → SentAsFrame (λ (o : Near B) head bytes status out (n : Near B). Hands called o.bus head bytes status out n.bus) old cycle answer out new → called old.bus cycle answer out new.bus
-handed called old new cycle answer out its = subst (λ a. called old.bus cycle a out new.bus) (sym its.answered) (its.exchanged cycle refl refl its.sized)
+    → SentAsFrame (λ (o : Near B) head bytes status out (n : Near B). HandsOn called o.bus head bytes status out n.bus) old cycle answer out new → called old.bus cycle answer out new.bus
+handed called old new cycle answer out its = subst (λ a. called old.bus cycle a out new.bus) (sym its.answered) (its.exchanged.0 cycle refl refl its.sized)
 
 -- the frames of a bus are those of its link
 pub framed : {L : Type 0} (called : L → List ℕ → List ℕ → ℕ → List ℕ → L → Type 0) (old new : Behind L) (cycles : List Cycle) (out : List ℕ)
@@ -30,6 +30,6 @@ framed {L} called old new cycles out sent =
 
 -- those of a link to a bus at hand are the bus's cycles
 pub all_handed : {B : Type 0} (called : B → Cycle → Result (Unit {0}) BusFault → List ℕ → B → Type 0) (old new : Near B) (cycles : List Cycle) (out : List ℕ)
-    → chain.Sent (SentAsFrame (λ (o : Near B) head bytes status out (n : Near B). Hands called o.bus head bytes status out n.bus)) old cycles out new → chain.Sent called old.bus cycles out new.bus
+    → chain.Sent (SentAsFrame (λ (o : Near B) head bytes status out (n : Near B). HandsOn called o.bus head bytes status out n.bus)) old cycles out new → chain.Sent called old.bus cycles out new.bus
 all_handed {B} called old new cycles out sent =
-    chain_of (λ (n : Near B). n.bus) (SentAsFrame (λ (o : Near B) head bytes status out (n : Near B). Hands called o.bus head bytes status out n.bus)) called (handed called) old new cycles out sent
+    chain_of (λ (n : Near B). n.bus) (SentAsFrame (λ (o : Near B) head bytes status out (n : Near B). HandsOn called o.bus head bytes status out n.bus)) called (handed called) old new cycles out sent
