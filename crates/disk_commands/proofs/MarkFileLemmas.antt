@@ -1,13 +1,15 @@
 -- Marks that are written into their file.
-use Rattle.std.proofs.Common.{◌≡◌, ◌∙◌, ℕ, ◌+◌, ◌≤◌, Bool, true, false, not, List, length, Result, Ok, Err, ap, arith, inr, refl, subst, sym}
-use Rattle.std.specs.Prelude.{IfErr, is_err}
+use Rattle.std.proofs.Common.{◌≡◌, ◌∙◌, ℕ, ◌+◌, ◌≤◌, Bool, true, false, not, List, [], ◌∷◌, length, Result, Ok, Err, ap, arith, inl, inr, refl, subst, sym}
+use Rattle.std.specs.Prelude.{◌≢◌, ◌<◌, IfErr, is_err, take, drop, get_or, replicate, slice_get, slice_set, unwrap_or, Option, Some, None}
+use Rattle.std.proofs.lemmas.List.{get_or-replicate, get_or-set_other, get_or-set_same, length-replicate, length-set}
+use Rattle.std.proofs.lemmas.Option.{slice_get-get_or}
 use Rattle.file_die.specs.Bytes.{Bytes, over}
 use Rattle.file_die.specs.Rows.{WritesAll}
-use Rattle.file_die.proofs.BytesLemmas.{length_mixed, length_over}
+use Rattle.file_die.proofs.BytesLemmas.{get_drop, get_take, length_mixed, length_over}
 use Rattle.disk_server.specs.declared.mark.SyncMark.{SyncMark}
 use Rattle.disk_commands.specs.declared.mark_file.MarkFile.{MarkFile}
-use Rattle.disk_commands.specs.Mark.{file_length, slot_at, slot_text}
-use Rattle.disk_commands.specs.MarkFile.{BeginsMark, IsMarkBytes, KeepsIn, KeepsMark, WritesSlot, slot_after}
+use Rattle.disk_commands.specs.Mark.{IsNumberText, IsSlotRead, file_length, found_in, slot_at, slot_text}
+use Rattle.disk_commands.specs.MarkFile.{BeginsMark, BlankMarkLaw, IsMarkBytes, KeepsIn, KeepsMark, WritesSlot, slot_after}
 
 slot_long : (m : SyncMark) → length (slot_text m) ≡ 32
 slot_long m = refl
@@ -68,3 +70,61 @@ module _ {F : Type 0} (held : F → Bytes) (honest : F → Bool) where
 pub fault_of : {A E : Type 0} (answer : Result A E) (P : E → Type 0) → is_err answer ≡ true → IfErr answer P → (why : E) × P why
 fault_of (Ok x) P failed known = (let no : ⊥ = cc in absurd no)
 fault_of (Err why) P failed known = (why, known)
+
+-- ---- a file as it is made
+
+-- a number stands twice
+twice : (bytes : List ℕ) (n : ℕ) → IsNumberText bytes n → take 8 bytes ≡ drop 8 bytes
+twice bytes n is = ap (take 8) is.is ∙ sym (ap (drop 8) is.is)
+
+-- so none is where its first byte and its ninth differ
+no_number : (bytes : List ℕ) (n a b : ℕ) → slice_get bytes 0 ≡ Some a → slice_get bytes 8 ≡ Some b → a ≢ b → ¬ IsNumberText bytes n
+no_number bytes n a b first ninth differ is =
+    let same : Some a ≡ Some b = sym first ∙ (sym (get_take 8 bytes 0 (omega arith)) ∙ (ap (λ (xs : List ℕ). slice_get xs 0) (twice bytes n is) ∙ (get_drop 8 bytes 0 ∙ ninth))) in
+    differ (ap (λ o. unwrap_or o 0) same)
+
+module _ (zeros : List ℕ) (long : length zeros ≡ 4128) (none : (i : ℕ) → i < 4128 → get_or zeros i 0 ≡ 0) where
+  abbrev once : List ℕ
+  once = slice_set zeros 0 1
+
+  abbrev twice_set : List ℕ
+  twice_set = slice_set once 4096 1
+
+  once_long : length once ≡ 4128
+  once_long = length-set zeros 0 1 ∙ long
+
+  byte : (i x : ℕ) → i < 4128 → get_or twice_set i 0 ≡ x → slice_get twice_set i ≡ Some x
+  byte i x within is = slice_get-get_or twice_set i 0 (omega (arith, within, length-set once 4096 1, once_long)) ∙ ap Some is
+
+  zero_at : (i : ℕ) → i < 4128 → i ≢ 0 → i ≢ 4096 → slice_get twice_set i ≡ Some 0
+  zero_at i within not_first not_second = byte i 0 within (get_or-set_other once 4096 i 1 0 not_second ∙ (get_or-set_other zeros 0 i 1 0 not_first ∙ none i within))
+
+  first_at : slice_get twice_set 0 ≡ Some 1
+  first_at = byte 0 1 (omega arith) (get_or-set_other once 4096 0 1 0 (λ e. omega (arith, e)) ∙ get_or-set_same zeros 0 1 0 (omega (arith, long)))
+
+  second_at_is : slice_get twice_set 4096 ≡ Some 1
+  second_at_is = byte 4096 1 (omega arith) (get_or-set_same once 4096 1 0 (omega (arith, once_long)))
+
+  none_first : (first : Option SyncMark) → IsSlotRead (take 32 (slice_set (slice_set zeros 0 1) 4096 1)) first → first ≡ None
+  none_first None is = refl
+  none_first (Some m) is = absurd (no_number (take 16 (take 32 twice_set)) m.synced 1 0
+      (get_take 16 (take 32 twice_set) 0 (omega arith) ∙ (get_take 32 twice_set 0 (omega arith) ∙ first_at))
+      (get_take 16 (take 32 twice_set) 8 (omega arith) ∙ (get_take 32 twice_set 8 (omega arith) ∙ zero_at 8 (omega arith) (λ e. omega (arith, e)) (λ e. omega (arith, e)))) (λ e. omega (arith, e)) is.synced)
+
+  none_second : (second : Option SyncMark) → IsSlotRead (drop 4096 (slice_set (slice_set zeros 0 1) 4096 1)) second → second ≡ None
+  none_second None is = refl
+  none_second (Some m) is = absurd (no_number (take 16 (drop 4096 twice_set)) m.synced 1 0
+      (get_take 16 (drop 4096 twice_set) 0 (omega arith) ∙ (get_drop 4096 twice_set 0 ∙ second_at_is))
+      (get_take 16 (drop 4096 twice_set) 8 (omega arith) ∙ (get_drop 4096 twice_set 8 ∙ zero_at 4104 (omega arith) (λ e. omega (arith, e)) (λ e. omega (arith, e)))) (λ e. omega (arith, e)) is.synced)
+
+abbrev of_zeros : List ℕ
+of_zeros = replicate 4128 0
+
+all_zero : (i : ℕ) → i < 4128 → get_or of_zeros i 0 ≡ 0
+all_zero i within = get_or-replicate 4128 i 0 0 within
+
+pub blank_mark : BlankMarkLaw
+blank_mark found (inl slots) =
+    slots.1.is ∙ (ap (λ o. found_in o slots.1.second) (none_first of_zeros (length-replicate {A = ℕ} 4128 0) all_zero slots.1.first slots.1.first_is)
+    ∙ ap (λ o. found_in None o) (none_second of_zeros (length-replicate {A = ℕ} 4128 0) all_zero slots.1.second slots.1.second_is))
+blank_mark found (inr other) = other.1

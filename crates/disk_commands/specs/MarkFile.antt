@@ -8,7 +8,8 @@ use Rattle.disk_commands.specs.declared.files.DiskFileFault.{DiskFileFault}
 use Rattle.disk_commands.specs.declared.files.DiskFileFault.TheVariants.{OutOfMemory, Write}
 use Rattle.disk_commands.specs.declared.mark_file.MarkFile.{MarkFile}
 use Rattle.disk_commands.specs.declared.syncs.FileSyncs.{FileSyncs}
-use Rattle.disk_commands.specs.Mark.{file_length, second_at, slot_at, slot_text}
+use Rattle.disk_commands.specs.declared.mark.FoundMark.{FoundMark}
+use Rattle.disk_commands.specs.Mark.{IsMarkRead, file_length, none_found, second_at, slot_at, slot_text}
 
 -- ---- the file of a mark
 
@@ -48,6 +49,10 @@ pub record KeepsIn {F : Type 0} (held : F → Bytes) (honest : F → Bool) (old 
 -- no mark stands in it: of each slot's first number the two spellings differ
 abbrev pub blank_file : List ℕ
 blank_file = slice_set (slice_set (replicate file_length 0) 0 1) second_at 1
+
+-- SO NONE IS FOUND IN IT
+abbrev pub BlankMarkLaw : Type 0
+BlankMarkLaw = (found : FoundMark) → IsMarkRead (Some blank_file) found → found ≡ none_found
 
 -- IT WAS NOT MADE: memory was refused, and the file is as it was; or the last call of the file failed
 abbrev pub BlankFails : {F : Type 0} → (wrote : F → ℕ → List ℕ → Result ℕ ByteFault → F → Type 0) → (refused : F → ByteFault → F → Type 0) → (old : F) → DiskFileFault → F → Type 0

@@ -1,6 +1,7 @@
 //! The mark beside a disk: up to which sequence all pages were synced.
 ghost use Rattle.std.specs.Prelude.{◌≡◌, option_map};
 ghost use Rattle.disk_commands.specs.Mark.{IsMarkRead, IsNumberRead, IsSlotRead, MarkBackLaw, SlotLaw, SlotPlaceLaw, TornFileLaw, TornSlotLaw, found_in, none_found, number_text, slot_at, slot_text};
+ghost use Rattle.disk_commands.specs.MarkFile.{BlankMarkLaw};
 
 use disk_server::SyncMark;
 
@@ -131,11 +132,12 @@ pub fn mark_of(bytes: Option<&[u8]>) -> FoundMark
 }
 
 /// A slot is read as it was written, and a mark that was written into its file is found, or one of the other slot that is no earlier. Where one is written over another one and is torn behind any of its bytes, each number that is read of it is one of the two, or none is. So as
-/// long as one slot is left alone no mark is lost, and none is ahead of those that were written. (This project.)
+/// long as one slot is left alone no mark is lost, and none is ahead of those that were written. In a file as it is made none is found. (This project.)
 pub fn mark_laws()
     ensures slot { SlotLaw }
     ensures torn { TornSlotLaw }
     ensures file { TornFileLaw }
     ensures place { SlotPlaceLaw }
     ensures back { MarkBackLaw }
+    ensures blank { BlankMarkLaw }
 {}

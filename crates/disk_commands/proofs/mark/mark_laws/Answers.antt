@@ -1,3 +1,4 @@
+use Rattle.disk_commands.proofs.MarkFileLemmas.{blank_mark}
 use Rattle.disk_commands.proofs.MarkLemmas.{found_back, slot_back, slot_placed, torn_files, torn_slots}
 use Rattle.disk_commands.proofs.mark.mark_laws.Goals as goal
 
@@ -15,3 +16,6 @@ returns-clause-place c = slot_placed
 
 pub returns-clause-back : goal.returns-clause-back
 returns-clause-back c = found_back
+
+pub returns-clause-blank : goal.returns-clause-blank
+returns-clause-blank c = blank_mark
