@@ -1,5 +1,5 @@
 -- What the command `arrange` comes to.
-use Rattle.std.specs.Prelude.{◌≡◌, ◌⊎◌, ℕ, Bool, List, length, Option, Some, None, IfSome}
+use Rattle.std.specs.Prelude.{◌≡◌, ◌⊎◌, ℕ, suc, Bool, List, length, Option, Some, None, IfSome, option_map}
 use Rattle.std.specs.Borrow.{Bor}
 use Rattle.std.specs.Io.KnownBytes.{Appends}
 use Rattle.page_layout.specs.declared.geometry.Geometry.{Geometry}
@@ -101,19 +101,20 @@ IsArrangedUntaken s path g a _ = ⊥
 abbrev pub IsUnordered : StoreAnswers → Geometry → Arrangement → (dump out : List ℕ) → LabFault → Type 0
 IsUnordered s g a dump out told = IsUnread s dump told ⊎ IsArrangedUntaken s dump g a told ⊎ IsUnwritten s out told ⊎ IsUnfilled s dump out told
 
--- memory was refused, or no dump in order was made, or it did not get its name
+-- memory was refused; or the dump was opened once, and no dump in order was made, or it did not get its name
 abbrev pub IsArrangedUnput : StoreAnswers → ArrangeWords → Geometry → Arrangement → (opens opened : Option ℕ) → LabFault → Type 0
-IsArrangedUnput s words g a opens opened told = IsUnroomed opens opened told ⊎ IsUnordered s g a words.dump.now words.out.now told ⊎ IsUnplaced s words.out.now words.force told
+IsArrangedUnput s words g a opens opened told =
+    IsUnroomed opens opened told ⊎ ((opened ≡ option_map suc opens) × (IsUnordered s g a words.dump.now words.out.now told ⊎ IsUnplaced s words.out.now words.force told))
 
--- The first of this order: the words; whether OUT may be written; memory; the dump and OUT.
+-- The first of this order: the words; whether OUT may be written; memory; the dump and OUT. Of the first three no file was opened.
 abbrev pub IsUnarrangedBy : StoreAnswers → ArrangeWords → (opens opened : Option ℕ) → LabFault → Type 0
 IsUnarrangedBy s words opens opened told =
-    AreUnsaid words told
-    ⊎ ((g : Geometry) × (a : Arrangement) × AreSaid words g a × (MayNotWrite s words.dump.now words.out.now words.force told
+    (AreUnsaid words told × (opened ≡ opens))
+    ⊎ ((g : Geometry) × (a : Arrangement) × AreSaid words g a × ((MayNotWrite s words.dump.now words.out.now words.force told × (opened ≡ opens))
     ⊎ (MayWrite s words.dump.now words.out.now words.force × IsArrangedUnput s words g a opens opened told)))
 
 -- No dump was put in place and nothing printed, for one of these reasons; or it was put in place, and a beginning of the report printed.
 abbrev pub IsArrangeFault : StoreAnswers → ArrangeWords → Option Store → Option Store → (opens opened : Option ℕ) → (broke : Bool) → Option (List ℕ) → Option (List ℕ) → LabFault → Type 0
 IsArrangeFault s words before after opens opened broke out printed told =
     (LeavesAll before after out printed × IsUnarrangedBy s words opens opened told)
-    ⊎ ((g : Geometry) × PutArranged s words before after g × IsHalfPrinted broke out printed (arrange_text (form_of_showing words.showing) (row_count g)) told)
+    ⊎ ((g : Geometry) × PutArranged s words before after g × (opened ≡ option_map suc opens) × IsHalfPrinted broke out printed (arrange_text (form_of_showing words.showing) (row_count g)) told)

@@ -1,5 +1,5 @@
 -- What the files that are read may answer, and those that were put in their places.
-use Rattle.std.specs.Prelude.{◌≡◌, ◌≢◌, ℕ, zero, suc, ◌-◌, Bool, true, false, List, [], ◌∷◌, ◌++◌, Option, Some, IfSome, IsSome, All, take, Result, Ok, Err}
+use Rattle.std.specs.Prelude.{◌≡◌, ◌≢◌, ◌≤◌, ℕ, zero, suc, ◌-◌, Bool, true, false, List, [], ◌∷◌, ◌++◌, Option, Some, IfSome, IsSome, All, take, Result, Ok, Err}
 use Rattle.std.specs.List.{concat}
 use Rattle.std.specs.Option.{option_map}
 use Rattle.lab_commands.specs.declared.files.LabFileFault.{LabFileFault}
@@ -92,6 +92,10 @@ without_part store = option_map (λ s. record { put = s.put; beside = s.beside -
 abbrev pub after_opens : ℕ → Option ℕ → Option ℕ
 after_opens zero opens = opens
 after_opens (suc n) opens = option_map suc (after_opens n opens)
+
+-- so many files were opened at most
+abbrev pub OpensSome : (most : ℕ) → (opens opened : Option ℕ) → Type 0
+OpensSome most opens opened = (count : ℕ) × (count ≤ most) × (opened ≡ after_opens count opens)
 
 -- the files after one more was to be made, by the answer
 abbrev pub made_after : {T E : Type 0} → Option Store → Result T E → Option Store

@@ -14,7 +14,7 @@ use Rattle.lab_commands.specs.declared.files.Standing.TheVariants as standing
 use Rattle.program_words.specs.Met.{texts}
 use Rattle.lab_commands.specs.declared.text.LabFault.{LabFault}
 use Rattle.lab_commands.specs.declared.text.LabFault.TheVariants as fault
-use Rattle.lab_commands.specs.Files.{IsFileOpened, StandsAtPath, Store, StoreAnswers, with_kept}
+use Rattle.lab_commands.specs.Files.{IsFileOpened, OpensSome, StandsAtPath, Store, StoreAnswers, after_opens, with_kept}
 use Rattle.lab_commands.specs.Undone.{IsGeometryAt, IsHalfPrinted, IsNoGeometry, IsUnplaced, IsUnread, IsUnroomed, IsUnwritten, LeavesAll, form_of_showing}
 
 -- ---- the dumps
@@ -141,19 +141,21 @@ TellsFault _ paths out _ = ⊥
 abbrev pub IsUnjoined : StoreAnswers → List (List ℕ) → Geometry → List ℕ → LabFault → Type 0
 IsUnjoined a paths g out told = IsSomeUnread a paths told ⊎ IsUnwritten a out told ⊎ IsUnmergedTo a paths g out told
 
--- memory was refused, or no dump was made, or it did not get its name
+-- memory was refused; or no dump was opened twice, and none was made, or it did not get its name
 abbrev pub IsMergeUnput : StoreAnswers → MergeWords → Geometry → (opens opened : Option ℕ) → LabFault → Type 0
-IsMergeUnput a words g opens opened told = IsUnroomed opens opened told ⊎ IsUnjoined a (dumps_of words) g words.out.now told ⊎ IsUnplaced a words.out.now words.force told
+IsMergeUnput a words g opens opened told =
+    IsUnroomed opens opened told
+    ⊎ (OpensSome (length words.dumps.items) opens opened × (IsUnjoined a (dumps_of words) g words.out.now told ⊎ IsUnplaced a words.out.now words.force told))
 
--- The first of this order: the geometry; whether OUT may be written; memory; the dumps and OUT.
+-- The first of this order: the geometry; whether OUT may be written; memory; the dumps and OUT. Of the first three no file was opened.
 abbrev pub IsUnmergedBy : StoreAnswers → MergeWords → (opens opened : Option ℕ) → LabFault → Type 0
 IsUnmergedBy a words opens opened told =
-    IsNoGeometry words.geometry.now told
-    ⊎ ((g : Geometry) × IsGeometryAt words.geometry.now g × (MayNotMerge a words told ⊎ (MayMerge a words × IsMergeUnput a words g opens opened told)))
+    (IsNoGeometry words.geometry.now told × (opened ≡ opens))
+    ⊎ ((g : Geometry) × IsGeometryAt words.geometry.now g × ((MayNotMerge a words told × (opened ≡ opens)) ⊎ (MayMerge a words × IsMergeUnput a words g opens opened told)))
 
 -- No dump was put in place and nothing printed, for one of these reasons; or it was put in place, and a beginning of the list printed.
 abbrev pub IsMergeFault : StoreAnswers → MergeWords → Option Store → Option Store → (opens opened : Option ℕ) → (broke : Bool) → Option (List ℕ) → Option (List ℕ) → LabFault → Type 0
 IsMergeFault a words before after opens opened broke out printed told =
     (LeavesAll before after out printed × IsUnmergedBy a words opens opened told)
     ⊎ ((conflicts : List ℕ) × (unsound : List ℕ) × (tried : List TriedRow) × (tally : RowTally) × PutMerge a words before after conflicts unsound tried tally
-    × IsHalfPrinted broke out printed (merge_text (form_of_showing words.showing) conflicts unsound tried tally) told)
+    × (opened ≡ after_opens (length words.dumps.items) opens) × IsHalfPrinted broke out printed (merge_text (form_of_showing words.showing) conflicts unsound tried tally) told)

@@ -71,7 +71,7 @@ fn put_in_order<'a, F: LabFiles>(
     ensures no_more { AnswersNoMore (F.answers files.old) (F.answers files.new) }
     ensures beside { OnOk result (without_part (F.kept files.new) ≡ F.kept files.old) }
     ensures kept { OnErr result (F.kept files.new ≡ F.kept files.old) }
-    ensures opened { OnOk result (F.opened files.new ≡ option_map suc (F.opened files.old)) }
+    ensures opened { F.opened files.new ≡ option_map suc (F.opened files.old) }
 {
     let mut dump = open_dump(files, words.dump, progress_of(words.showing))?;
     let size = geometry.data_bytes() + geometry.spare_bytes();

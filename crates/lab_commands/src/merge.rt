@@ -3,7 +3,7 @@ ghost use Rattle.std.specs.Prelude.{◌≡◌, ◌<◌, ◌≤◌, [], length, m
 ghost use Rattle.lab_mend.specs.Merged.{IsOfReading};
 ghost use Rattle.lab_mend.specs.Rooms.{IsMergeRoom};
 ghost use Rattle.program_words.specs.Met.{texts};
-ghost use Rattle.lab_commands.specs.Files.{AnswersNoMore, after_opens, without_part};
+ghost use Rattle.lab_commands.specs.Files.{AnswersNoMore, OpensSome, after_opens, without_part};
 ghost use Rattle.lab_commands.specs.Merge.{AreOpened, HasPutJoined, HasSame, IsJoined, IsMergeFault, IsSomeUnread, IsUnjoined, IsUnmergedBy, IsMergeUnput, MayMerge, MayNotMerge, PutMerge, TellsFault, TellsOwnPath, WroteMerge};
 ghost use Rattle.lab_commands.specs.Merge.{dumps_of};
 
@@ -70,6 +70,7 @@ fn open_all<'a, F: LabFiles>(
     ensures no_more { AnswersNoMore (F.answers files.old) (F.answers files.new) }
     ensures kept { F.kept files.new ≡ F.kept files.old }
     ensures once { OnOk result (F.opened files.new ≡ after_opens (length dumps.now) (F.opened files.old)) }
+    ensures some { OnErr result (OpensSome (length dumps.now) (F.opened files.old) (F.opened files.new)) }
 {
     for place in 0..dumps.len() {
         let shown = if place == 0 {
@@ -137,6 +138,7 @@ fn join_by<'a, F: LabFiles>(
     ensures beside { OnOk result (without_part (F.kept files.new) ≡ F.kept files.old) }
     ensures kept { OnErr result (F.kept files.new ≡ F.kept files.old) }
     ensures opened { OnOk result (F.opened files.new ≡ after_opens (length words.now.dumps.items) (F.opened files.old)) }
+    ensures some { OnErr result (OpensSome (length words.now.dumps.items) (F.opened files.old) (F.opened files.new)) }
 {
     open_all(&words.dumps, progress_of(words.showing), files, readers)?;
     let size = geometry.data_bytes() + geometry.spare_bytes();
@@ -167,6 +169,7 @@ fn join<'a, F: LabFiles>(
     ensures beside { OnOk result (without_part (F.kept files.new) ≡ F.kept files.old) }
     ensures kept { OnErr result (F.kept files.new ≡ F.kept files.old) }
     ensures opened { OnOk result (F.opened files.new ≡ after_opens (length words.now.dumps.items) (F.opened files.old)) }
+    ensures some { OnErr result (OpensSome (length words.now.dumps.items) (F.opened files.old) (F.opened files.new)) }
 {
     let mut readers = room.readers;
     join_by(room.merge, words, geometry, files, &mut readers)

@@ -34,5 +34,5 @@ returns g c =
       ok = done_by (WroteArranged a c.args.words k l o p) broke o p _ c.print_arranged.result c.ended.result printed c.ended.ensures (λ told. record { g = c.in_ok-geometry.geometry; put = c.in_ok-geometry.ensures.placed; told = told });
       fault =
           undone_by (IsArrangeFault a c.args.words k l (g.F.LabFiles.opened c.args.files.now) (g.F.LabFiles.opened c.place.new.files) broke o p) broke o p _ c.print_arranged.result c.ended.result printed c.ended.ensures
-          (λ told half. inr (c.in_ok-geometry.geometry, c.in_ok-geometry.ensures.placed, half));
+          (λ told half. inr (c.in_ok-geometry.geometry, c.in_ok-geometry.ensures.placed, c.in_ok-geometry.ensures.opened, half));
     }

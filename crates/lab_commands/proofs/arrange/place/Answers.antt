@@ -5,13 +5,13 @@ use Rattle.lab_commands.proofs.arrange.place.Goals as goal
 
 pub returns-in_err-said : goal.returns-in_err-said
 returns-in_err-said g c =
-    rw (handed c.from_residual.result _ c.from_residual.ensures.1) (record { placed = tt; fault = inl c.in_err-said.ensures.fault; kept = refl; opened = tt })
+    rw (handed c.from_residual.result _ c.from_residual.ensures.1) (record { placed = tt; fault = inl (c.in_err-said.ensures.fault, refl); kept = refl; opened = tt })
 
 pub returns-in_err-allow : goal.returns-in_err-allow
 returns-in_err-allow g c =
     let shape = c.in_ok-said in
     let handing = c.from_residual-in_err-allow in
-    rw (handed handing.result _ handing.ensures.1) (record { placed = tt; fault = inr (shape.said.0, shape.said.1, shape.ensures.ok, inl c.in_err-allow.ensures.fault); kept = ap g.F.LabFiles.kept c.allow.ensures.same; opened = tt })
+    rw (handed handing.result _ handing.ensures.1) (record { placed = tt; fault = inr (shape.said.0, shape.said.1, shape.ensures.ok, inl (c.in_err-allow.ensures.fault, ap g.F.LabFiles.opened c.allow.ensures.same)); kept = ap g.F.LabFiles.kept c.allow.ensures.same; opened = tt })
 
 pub returns-in_err-place_in_order : goal.returns-in_err-place_in_order
 returns-in_err-place_in_order g c =

@@ -12,7 +12,7 @@ returns-in_err-room g c =
 pub returns-in_err-target : goal.returns-in_err-target
 returns-in_err-target g c =
     let handing = c.from_residual-in_err-target in
-    rw (handed handing.result _ handing.ensures.1) (record { put = tt; fault = inr (inl c.in_err-target.ensures.fault); kept = c.in_err-target.ensures.kept; opened = tt })
+    rw (handed handing.result _ handing.ensures.1) (record { put = tt; fault = inr (c.put_in_order.ensures.opened, inl c.in_err-target.ensures.fault); kept = c.in_err-target.ensures.kept; opened = tt })
 
 pub returns : goal.returns
 returns g c =
@@ -21,7 +21,7 @@ returns g c =
     let pieces = g.F.Target.Pieces.pieces c.in_ok-target.target in
     record {
       put = on_ok_more _ _ c.keep.result c.keep.ensures.ok (λ is. record { pieces = pieces; made = made.made; put = is ∙ ap (λ x. with_kept x words.out.now pieces words.force) made.beside });
-      fault = err_more _ _ c.keep.result c.keep.ensures.fault (λ told why. inr (inr (unplaced_before (g.F.LabFiles.answers c.args.files.now) (g.F.LabFiles.answers c.put_in_order.new.files) words.out.now words.force told made.no_more why)));
+      fault = err_more _ _ c.keep.result c.keep.ensures.fault (λ told why. inr (c.keep.ensures.opened ∙ made.opened, inr (unplaced_before (g.F.LabFiles.answers c.args.files.now) (g.F.LabFiles.answers c.put_in_order.new.files) words.out.now words.force told made.no_more why)));
       opened = on_ok_more _ _ c.keep.result c.keep.ensures.ok (λ is. c.keep.ensures.opened ∙ made.opened);
       kept = on_err_more _ _ c.keep.result c.keep.ensures.kept (λ is. is ∙ made.beside);
     }

@@ -12,7 +12,7 @@ returns-in_err-dump g c =
       no_more = c.open_dump.ensures.no_more;
       beside = tt;
       kept = c.open_dump.ensures.kept;
-      opened = tt;
+      opened = c.open_dump.ensures.opened;
     })
 
 pub returns-in_err-target : goal.returns-in_err-target
@@ -25,7 +25,7 @@ returns-in_err-target g c =
       no_more = no_more_then _ _ _ c.open_dump.ensures.no_more c.create_beside.ensures.no_more;
       beside = tt;
       kept = c.in_err-target.ensures.kept ∙ c.open_dump.ensures.kept;
-      opened = tt;
+      opened = c.create_beside.ensures.opened ∙ c.open_dump.ensures.opened;
     })
 
 pub returns-in-Ok-clause-no_more : goal.returns-in-Ok-clause-no_more
@@ -56,3 +56,6 @@ returns-clause-fault g c =
 
 pub returns-in-Ok-clause-opened : goal.returns-in-Ok-clause-opened
 returns-in-Ok-clause-opened g c = c.in_ok-target.ensures.opened ∙ c.in_ok-dump.ensures.opened
+
+pub returns-clause-opened : goal.returns-clause-opened
+returns-clause-opened g c = c.discard.ensures.opened ∙ (c.in_ok-target.ensures.opened ∙ c.in_ok-dump.ensures.opened)

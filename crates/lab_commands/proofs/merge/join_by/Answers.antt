@@ -1,10 +1,10 @@
-use Rattle.std.proofs.Common.{◌≡◌, ◌<◌, ℕ, List, inl, inr, length, map, ap, sym, subst, ◌∙◌, rules}
+use Rattle.std.proofs.Common.{◌≡◌, ◌<◌, ℕ, List, inl, inr, le_refl, length, map, ap, sym, subst, ◌∙◌, rules}
 use Rattle.std.specs.Borrow.{Bor}
 use Rattle.std.proofs.lemmas.List.{length-map, with_items_is}
 use Rattle.lab_mend.specs.declared.merge.MergeFault.TheVariants as merge
 use Rattle.lab_mend.specs.Merged.{IsOfReading, IsPinned}
 use Rattle.program_words.specs.Met.{texts}
-use Rattle.lab_commands.specs.Files.{after_opens}
+use Rattle.lab_commands.specs.Files.{OpensSome, after_opens}
 use Rattle.lab_commands.specs.Merge.{IsOfFailed, IsSomeUnread, TellsFault, dumps_of}
 use Rattle.lab_commands.proofs.MergeLemmas.{failed_one, told_of_failed, unmerged_as}
 use Rattle.lab_commands.proofs.UndoneLemmas.{handed, no_more_then, unwritten_before}
@@ -56,6 +56,7 @@ returns-in_err-open_all g c =
       beside = tt;
       kept = c.open_all.ensures.kept;
       opened = tt;
+      some = subst (λ (ds : List (Bor (List ℕ))). OpensSome (length ds) (g.F.LabFiles.opened c.args.files.now) (g.F.LabFiles.opened c.open_all.new.files)) c.deref.ensures.value c.in_err-open_all.ensures.some;
     })
 
 pub returns-in_err-target : goal.returns-in_err-target
@@ -71,6 +72,7 @@ returns-in_err-target g c =
       beside = tt;
       kept = c.in_err-target.ensures.kept ∙ c.open_all.ensures.kept;
       opened = tt;
+      some = (length c.args.words.now.dumps.items, le_refl _, c.create_beside.ensures.opened ∙ (c.in_ok-open_all.ensures.once ∙ ap (λ (ds : List (Bor (List ℕ))). after_opens (length ds) (g.F.LabFiles.opened c.args.files.now)) c.deref.ensures.value));
     })
 
 pub returns-in-Ok-clause-no_more : goal.returns-in-Ok-clause-no_more
@@ -87,3 +89,8 @@ returns-in-Err-clause-kept g c = c.discard.ensures.kept ∙ (c.in_ok-target.ensu
 
 pub returns-in-Ok-clause-opened : goal.returns-in-Ok-clause-opened
 returns-in-Ok-clause-opened g c = c.in_ok-target.ensures.opened ∙ (c.in_ok-open_all.ensures.once ∙ ap (λ (ds : List (Bor (List ℕ))). after_opens (length ds) (g.F.LabFiles.opened c.args.files.now)) c.deref.ensures.value)
+
+pub returns-in-Err-clause-some : goal.returns-in-Err-clause-some
+returns-in-Err-clause-some g c =
+    let each = c.in_ok-open_all.ensures.once ∙ ap (λ (ds : List (Bor (List ℕ))). after_opens (length ds) (g.F.LabFiles.opened c.args.files.now)) c.deref.ensures.value in
+    (length c.args.words.now.dumps.items, le_refl _, c.discard.ensures.opened ∙ (c.in_ok-target.ensures.opened ∙ each))

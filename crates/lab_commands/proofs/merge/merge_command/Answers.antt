@@ -34,5 +34,5 @@ returns g c =
           (λ told. record { conflicts = made.conflicts.items; unsound = made.unsound.items; tried = made.tried.items; tally = made.tally; put = c.in_ok-told.ensures.placed; told = told });
       fault =
           undone_by (IsMergeFault a c.args.words k l (g.F.LabFiles.opened c.args.files.now) (g.F.LabFiles.opened c.place.new.files) broke o p) broke o p _ c.print_merged.result c.ended.result printed c.ended.ensures
-          (λ told half. inr (made.conflicts.items, made.unsound.items, made.tried.items, made.tally, c.in_ok-told.ensures.placed, half));
+          (λ told half. inr (made.conflicts.items, made.unsound.items, made.tried.items, made.tally, c.in_ok-told.ensures.placed, c.in_ok-told.ensures.opened, half));
     }

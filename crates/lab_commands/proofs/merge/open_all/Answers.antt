@@ -1,4 +1,4 @@
-use Rattle.std.proofs.Common.{arith, ◌∙◌, refl, rules, ◌≡◌, length, ap}
+use Rattle.std.proofs.Common.{arith, ◌∙◌, refl, rules, ◌≡◌, length, ap, ◌+◌}
 use Rattle.lab_commands.specs.Files.{after_opens}
 use Rattle.lab_commands.proofs.MergeLemmas.{opened_next, opens_next, unopened_at}
 use Rattle.lab_commands.proofs.UndoneLemmas.{no_more_first, no_more_then, handed}
@@ -13,6 +13,7 @@ returns-in_err-reader g c =
       no_more = no_more_then _ _ _ c.loop-place.invariant.so_far.no_more c.open_file.ensures.no_more;
       kept = c.open_file.ensures.kept ∙ c.loop-place.invariant.so_far.kept;
       once = tt;
+      some = (c.loop-place.place + 1, omega arith, opens_next c.loop-place.place _ _ _ c.loop-place.invariant.opens c.open_file.ensures.opened);
     })
 
 pub loop-place-preserved : goal.loop-place-preserved

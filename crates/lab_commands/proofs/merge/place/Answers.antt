@@ -8,13 +8,13 @@ use Rattle.lab_commands.proofs.merge.place.Goals as goal
 
 pub returns-in_err-geometry : goal.returns-in_err-geometry
 returns-in_err-geometry g c =
-    rw (handed c.from_residual.result _ c.from_residual.ensures.1) (record { placed = tt; fault = inl c.in_err-geometry.ensures.fault; kept = refl; opened = tt })
+    rw (handed c.from_residual.result _ c.from_residual.ensures.1) (record { placed = tt; fault = inl (c.in_err-geometry.ensures.fault, refl); kept = refl; opened = tt })
 
 pub returns-in_err-allow_merge : goal.returns-in_err-allow_merge
 returns-in_err-allow_merge g c =
     let shape = c.in_ok-geometry in
     let handing = c.from_residual-in_err-allow_merge in
-    rw (handed handing.result _ handing.ensures.1) (record { placed = tt; fault = inr (shape.geometry, shape.ensures.ok, inl c.in_err-allow_merge.ensures.fault); kept = ap g.F.LabFiles.kept c.allow_merge.ensures.same; opened = tt })
+    rw (handed handing.result _ handing.ensures.1) (record { placed = tt; fault = inr (shape.geometry, shape.ensures.ok, inl (c.in_err-allow_merge.ensures.fault, ap g.F.LabFiles.opened c.allow_merge.ensures.same)); kept = ap g.F.LabFiles.kept c.allow_merge.ensures.same; opened = tt })
 
 pub returns : goal.returns
 returns g c =
