@@ -3,18 +3,9 @@ use Rattle.std.proofs.Common.{◌≡◌, ◌∙◌, inl, inr, refl, sym, subst, 
 use Rattle.request_stream.specs.Streams.{EndsBy}
 use Rattle.request_stream.specs.declared.reply.ServeFault.{ServeFault}
 use Rattle.request_stream.specs.declared.reply.ServeFault.TheVariants as fault
-use Rattle.nbd_stream.specs.declared.answer.Answer.{Answer}
-use Rattle.nbd_stream.specs.declared.answer.Answer.TheVariants.{Short, Listed, Told, Chosen, Silent}
-use Rattle.nbd_stream.specs.Handed.{IsHandedOn, HandsAnswer, HasHandedOn, LeavesHanded, UnlessUnsent}
+use Rattle.nbd_stream.specs.Handed.{IsHandedOn, HasHandedOn, LeavesHanded, UnlessUnsent}
 
 module _ {W : Type 0} (hands : W → W → Type 0) where
-  pub handed_answer : (old new : W) (answer : Answer) → HandsAnswer hands answer old new → IsHandedOn hands old new
-  handed_answer old new (Short kind) h = inr h
-  handed_answer old new Listed h = inr h
-  handed_answer old new Told h = inr h
-  handed_answer old new Chosen h = inr h
-  handed_answer old new Silent h = inl h
-
   pub still_handed : (old new : W) → EndsBy hands old → IsHandedOn hands old new → EndsBy hands new
   still_handed old new (from, is) (inl same) = (from, subst (λ (w : W). hands from w) (sym same) is)
   still_handed old new before (inr is) = is

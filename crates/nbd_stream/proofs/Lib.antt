@@ -3,6 +3,7 @@ pub mod Reading
 pub mod StreamOnce
 pub mod StreamSome
 pub mod OptionReading
+pub mod OptionOnce
 pub mod Negotiating
 pub mod HandedLemmas
 pub mod StreamEnds

@@ -191,3 +191,15 @@ reply_to e no_zeroes limit o = option_answer_bytes e no_zeroes o.code (answer_to
 
 abbrev pub step_of : ℕ → AskedOption → AnswerStep
 step_of limit o = step_after o.code (answer_to_option limit o)
+
+-- ---- a law
+
+-- the bytes of an option say which it is, whatever follows them
+pub record IsOneOption (o : AskedOption) (more : List ℕ) : Type 0 where
+  pub same : (p : AskedOption) (other : List ℕ) → IsOption p → option_bytes o ++ more ≡ option_bytes p ++ other → (o ≡ p) × (more ≡ other)
+  pub whole : ¬ IsOptionBeginning (option_bytes o ++ more)
+  pub header : is_option_header (take 16 (option_bytes o ++ more)) ≡ true
+
+-- AN OPTION THAT IS WHOLE is no other one, no part of one, and has a header
+abbrev pub OptionOneWayLaw : Type 0
+OptionOneWayLaw = (o : AskedOption) (more : List ℕ) → IsOption o → IsOneOption o more

@@ -1,15 +1,17 @@
 //! What a reader would ask of the definitions first. Each function does nothing: its contract is the law.
 ghost use Rattle.nbd_stream.specs.Frames.{TransmissionOneWayLaw, TransmissionSomeWayLaw};
+ghost use Rattle.nbd_stream.specs.Options.{OptionOneWayLaw};
 ghost use Rattle.nbd_stream.specs.Runs.{ByteLaw, DoneLaw, KeptOrSetLaw, LastsLaw, NothingLostLaw, ReadAfterChangeLaw, SetLaw};
 ghost use Rattle.nbd_stream.specs.Tasks.{AdmittedLaw};
 ghost use Rattle.nbd_stream.specs.Until.{NeverHonestAgainLaw, StaysHonestLaw, UntilLaw};
 
 use crate::disk::Disk;
 
-/// Every list of bytes is, in just one way, whole requests and a rest. (This project's.)
+/// Every list of bytes is, in just one way, whole requests and a rest. The bytes of an option say which it is, and are no part of another. (This project's.)
 pub fn stream_laws()
     ensures one_way { TransmissionOneWayLaw }
     ensures some_way { TransmissionSomeWayLaw }
+    ensures option { OptionOneWayLaw }
 {}
 
 /// What is asked of a disk is for it, whatever the request: bytes that it has, no more than it takes, and no change where it is
