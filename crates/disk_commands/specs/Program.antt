@@ -51,7 +51,7 @@ abbrev pub Checks : {S : Type 0} → (S → Held) → (honest : S → Bool) → 
 Checks held honest failed a words old new (Ok done) = HasChecked held honest a words 0 old.out new.out
 Checks held honest failed a words old new (Err told) = IsUnclean held honest failed a words old.out new.out told
 
--- WHAT THE WORDS ASK FOR WAS DONE, or not for the reason that is answered. Of what it does not name nothing changes
+-- WHAT THE WORDS ASK FOR WAS DONE, or not for the reason that is answered. Of what it does not name nothing changes; but of a part beside a path, which `create` alone makes, that is said of `create` alone
 abbrev pub DoesAsked : {S Y K : Type 0} → (S → Held) → (honest full : S → Bool) → (mended : S → Mended) → (failed : S → ℕ) → (synced missed : Y → ℕ) → (marked : Y → SyncMark) → (kept : K → List Bool) → (says : K → List ℕ) → (unlisted : K → ℕ) → DiskFileAnswers → DiskWords → (old new : Around)
     → Result (Unit {0}) DiskCommandFault → Type 0
 DoesAsked held honest full mended failed synced missed marked kept says unlisted a (asked.Create words) old new result = Creates held honest failed a words old new result × (new.out ≡ old.out) × (new.input ≡ old.input) × (new.opened ≡ old.opened) × (new.err ≡ old.err)
