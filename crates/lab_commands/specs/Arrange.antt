@@ -101,7 +101,7 @@ IsArrangedUntaken s path g a _ = ⊥
 abbrev pub IsUnordered : StoreAnswers → Geometry → Arrangement → (dump out : List ℕ) → LabFault → Type 0
 IsUnordered s g a dump out told = IsUnread s dump told ⊎ IsArrangedUntaken s dump g a told ⊎ IsUnwritten s out told ⊎ IsUnfilled s dump out told
 
--- memory was refused; or the dump was opened once, and no dump in order was made, or it did not get its name
+-- memory was refused; or one file was opened, and no dump in order was made, or it did not get its name
 abbrev pub IsArrangedUnput : StoreAnswers → ArrangeWords → Geometry → Arrangement → (opens opened : Option ℕ) → LabFault → Type 0
 IsArrangedUnput s words g a opens opened told =
     IsUnroomed opens opened told ⊎ ((opened ≡ option_map suc opens) × (IsUnordered s g a words.dump.now words.out.now told ⊎ IsUnplaced s words.out.now words.force told))

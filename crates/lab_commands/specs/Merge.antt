@@ -141,7 +141,7 @@ TellsFault _ paths out _ = ⊥
 abbrev pub IsUnjoined : StoreAnswers → List (List ℕ) → Geometry → List ℕ → LabFault → Type 0
 IsUnjoined a paths g out told = IsSomeUnread a paths told ⊎ IsUnwritten a out told ⊎ IsUnmergedTo a paths g out told
 
--- memory was refused; or no dump was opened twice, and none was made, or it did not get its name
+-- memory was refused; or at most as many files were opened as there are dumps, and no dump was made, or it did not get its name
 abbrev pub IsMergeUnput : StoreAnswers → MergeWords → Geometry → (opens opened : Option ℕ) → LabFault → Type 0
 IsMergeUnput a words g opens opened told =
     IsUnroomed opens opened told
