@@ -20,7 +20,7 @@ pub(crate) fn read_row<D: Dump>(dump: &mut D, row: u32, page: &mut [u8]) -> Resu
     dump.read_at(u64::from(row) * page.len() as u64, page)
 }
 
-/// What a page is, by its bytes.
+/// What a page is, by its bytes: those of its data area and then those of its spare area, as many as the geometry says.
 pub fn look_in(geometry: &Geometry, page: &[u8]) -> PageLook
     requires { length page.now ≡ page_bytes geometry.now }
     ensures { result ≡ look_of (page_from_bytes geometry.now.data_bytes page.now) }

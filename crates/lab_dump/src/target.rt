@@ -44,7 +44,7 @@ pub trait Target: Pieces {
         ensures failed { OnErr result (Self.failed self.new ≡ true) };
 }
 
-/// A file that takes data areas of pages too that are not sound. No function has one but those that show such pages.
+/// A file that takes data areas of pages too that are not sound. Of this crate's public functions `write_damaged` alone takes one.
 pub trait DamagedTarget: Target {
     ghost use Rattle.std.specs.Prelude.{◌≡◌, OnOk, OnErr, true, option_map, set};
     ghost use Rattle.lab_dump.specs.Damaged.{SaysSector};
