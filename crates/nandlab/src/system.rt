@@ -14,7 +14,7 @@ use std::alloc::Global;
 use std::fmt::Display;
 use std::fs::{self, File, Metadata};
 use std::io::{self, BufReader, BufWriter, Error, ErrorKind, Read, Seek, SeekFrom, Write};
-use std::os::unix::fs::FileExt;
+use std::os::unix::fs::{FileExt, MetadataExt};
 use std::path::PathBuf;
 use std::rt::Files;
 
@@ -296,6 +296,21 @@ fn real_path<R: Files + AllocGlobal>(rt: &R, path: &str) -> io::Result<PathBuf<R
     }
 }
 
+// Whether two paths lead to one file, where what the system tells of them says so: other files are not one, and of one file that has one name each path leads to it, also through a folder
+// that is mounted twice, and where names of small and of capital letters are one. Of a file that has several names the paths say it.
+fn is_one<R: Files>(rt: &R, first: &str, second: &str) -> Option<bool> {
+    let (Ok(first), Ok(second)) = (fs::metadata(rt, first), fs::metadata(rt, second)) else {
+        return None;
+    };
+    if first.dev() != second.dev() || first.ino() != second.ino() {
+        Some(false)
+    } else if first.nlink() == 1 {
+        Some(true)
+    } else {
+        None
+    }
+}
+
 impl<E: Write> Dump for DumpFile<'_, E> {
     ghost use Rattle.std.specs.Prelude.{None, true};
 
@@ -392,6 +407,9 @@ impl<'a, R: Files<File = File> + AllocGlobal, E: Write + Drop> LabFiles for LabS
     }
 
     fn is_same(&mut self, first: &str, second: &str) -> Result<bool, LabFileFault> {
+        if let Some(same) = is_one(self.system.rt, first, second) {
+            return Ok(same);
+        }
         let first = settled(&self.system, real_path(self.system.rt, first))?;
         match real_path(self.system.rt, second) {
             // in a folder that is not there

@@ -13,10 +13,19 @@ const PROGRAM: &str = "nandctl";
 enum Place {
     // Nothing.
     Free,
-    // A regular file: its own path, and what the system tells of it.
-    Regular(PathBuf, Metadata),
+    // A regular file: its own path, where links lead to it, and what the system tells of it.
+    Regular(Option<PathBuf>, Metadata),
     // A device, a pipe, or a link that leads to nothing.
     Other,
+}
+
+// The path that links lead to; none where a path is no link.
+fn led_to<R: Files + AllocGlobal>(rt: &R, path: &str) -> io::Result<Option<PathBuf>> {
+    if fs::symlink_metadata(rt, path)?.is_symlink() {
+        Ok(Some(fs::canonicalize(rt, path)?))
+    } else {
+        Ok(None)
+    }
 }
 
 // Whether nothing stands at a path, and no link either.
@@ -30,7 +39,7 @@ fn is_free<R: Files>(rt: &R, path: &str) -> io::Result<bool> {
 
 fn place_of<R: Files + AllocGlobal>(rt: &R, path: &str) -> io::Result<Place> {
     match fs::metadata(rt, path) {
-        Ok(found) if found.is_file() => Ok(Place::Regular(fs::canonicalize(rt, path)?, found)),
+        Ok(found) if found.is_file() => Ok(Place::Regular(led_to(rt, path)?, found)),
         Ok(_) => Ok(Place::Other),
         Err(error) if error.kind() == ErrorKind::NotFound => {
             if is_free(rt, path)? {
@@ -116,8 +125,12 @@ pub(crate) fn replace<R: Files<File = File> + AllocGlobal>(
     match place_of(rt, path)? {
         Place::Free => put_whole(rt, path, bytes, None),
         Place::Regular(real, found) => {
-            OpenOptions::new().write(true).open(rt, real.as_str())?;
-            put_whole(rt, real.as_str(), bytes, Some(&found))
+            let path = match &real {
+                Some(real) => real.as_str(),
+                None => path,
+            };
+            OpenOptions::new().write(true).open(rt, path)?;
+            put_whole(rt, path, bytes, Some(&found))
         }
         Place::Other => fs::write(rt, path, bytes),
     }
