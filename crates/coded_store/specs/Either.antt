@@ -20,9 +20,9 @@ honest_of held honest tells (Plain s) = is_kept held honest tells (page_of s.row
 honest_of held honest tells (Coded s) = is_reading_kept held honest tells s
 
 -- the rows of its file
-abbrev pub rows_of : {F : Type 0} {G : Ghosts F} → MaybeCoded F G → Rows F
-rows_of (Plain s) = s.rows
-rows_of (Coded s) = s.rows
+abbrev pub store_rows : {F : Type 0} {G : Ghosts F} → MaybeCoded F G → Rows F
+store_rows (Plain s) = s.rows
+store_rows (Coded s) = s.rows
 
 -- what was wrong with its pages as each was last read, where they have codes
 abbrev pub mended_in : {F : Type 0} {G : Ghosts F} → MaybeCoded F G → Mended

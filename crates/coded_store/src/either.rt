@@ -68,13 +68,13 @@ impl<F: ByteFile + Drop> Store for MaybeCoded<F> {
     ghost use Rattle.onfi_cycles.specs.Cycles.{page_of};
     ghost use Rattle.file_die.specs.Store.{Clears, Loads, Puts, Syncs};
     ghost use Rattle.file_die.specs.Rows.{FailsSync, TellsFull};
-    ghost use Rattle.coded_store.specs.Either.{held_of, honest_of, rows_of};
+    ghost use Rattle.coded_store.specs.Either.{held_of, honest_of, store_rows};
 
     ghost held = { held_of F.held };
 
     ghost honest = { honest_of F.held F.honest F.tells };
 
-    ghost failed = { λ s. (rows_of s).failures };
+    ghost failed = { λ s. (store_rows s).failures };
 
     fn load(&mut self, row: u32, page: &mut [u8]) -> Result<(), StoreFault>
         requires in_range { row < row_count (held_of F.held self.old).geometry }
@@ -84,10 +84,10 @@ impl<F: ByteFile + Drop> Store for MaybeCoded<F> {
         ensures loads { honest_of F.held F.honest F.tells self.old ≡ true → Loads (held_of F.held self.old) row (page_of (held_of F.held self.old).geometry page.new) (is_ok result) (held_of F.held self.new) }
         ensures geometry { (held_of F.held self.new).geometry ≡ (held_of F.held self.old).geometry }
         ensures honest { honest_of F.held F.honest F.tells self.new ≡ honest_of F.held F.honest F.tells self.old }
-        ensures failed { (rows_of self.old).failures ≤ (rows_of self.new).failures }
-        ensures settled { OnOk result ((rows_of self.new).failures ≡ (rows_of self.old).failures) }
-        ensures rose { OnErr result (HasRisen (rows_of self.old).failures (rows_of self.new).failures) }
-        ensures unfilled { (rows_of self.new).full ≡ false }
+        ensures failed { (store_rows self.old).failures ≤ (store_rows self.new).failures }
+        ensures settled { OnOk result ((store_rows self.new).failures ≡ (store_rows self.old).failures) }
+        ensures rose { OnErr result (HasRisen (store_rows self.old).failures (store_rows self.new).failures) }
+        ensures unfilled { (store_rows self.new).full ≡ false }
     {
         match self {
             MaybeCoded::Plain(store) => store.load(row, page),
@@ -103,13 +103,13 @@ impl<F: ByteFile + Drop> Store for MaybeCoded<F> {
         ensures puts { honest_of F.held F.honest F.tells self.old ≡ true → Puts (held_of F.held self.old) row (page_of (held_of F.held self.old).geometry page.now) (is_ok result) (held_of F.held self.new) }
         ensures geometry { (held_of F.held self.new).geometry ≡ (held_of F.held self.old).geometry }
         ensures honest { honest_of F.held F.honest F.tells self.new ≡ honest_of F.held F.honest F.tells self.old }
-        ensures failed { (rows_of self.old).failures ≤ (rows_of self.new).failures }
-        ensures settled { OnOk result ((rows_of self.new).failures ≡ (rows_of self.old).failures) }
-        ensures rose { OnErr result (HasRisen (rows_of self.old).failures (rows_of self.new).failures) }
+        ensures failed { (store_rows self.old).failures ≤ (store_rows self.new).failures }
+        ensures settled { OnOk result ((store_rows self.new).failures ≡ (store_rows self.old).failures) }
+        ensures rose { OnErr result (HasRisen (store_rows self.old).failures (store_rows self.new).failures) }
 
         // Whatever the file does: it is full just where the file's last answer was that.
-        ensures room { OnOk result ((rows_of self.new).full ≡ false) }
-        ensures full { OnErr result (TellsFull F.wrote (rows_of self.old) (rows_of self.new)) }
+        ensures room { OnOk result ((store_rows self.new).full ≡ false) }
+        ensures full { OnErr result (TellsFull F.wrote (store_rows self.old) (store_rows self.new)) }
     {
         match self {
             MaybeCoded::Plain(store) => store.put(row, page),
@@ -124,13 +124,13 @@ impl<F: ByteFile + Drop> Store for MaybeCoded<F> {
         ensures clears { honest_of F.held F.honest F.tells self.old ≡ true → Clears (held_of F.held self.old) block (is_ok result) (held_of F.held self.new) }
         ensures geometry { (held_of F.held self.new).geometry ≡ (held_of F.held self.old).geometry }
         ensures honest { honest_of F.held F.honest F.tells self.new ≡ honest_of F.held F.honest F.tells self.old }
-        ensures failed { (rows_of self.old).failures ≤ (rows_of self.new).failures }
-        ensures settled { OnOk result ((rows_of self.new).failures ≡ (rows_of self.old).failures) }
-        ensures rose { OnErr result (HasRisen (rows_of self.old).failures (rows_of self.new).failures) }
+        ensures failed { (store_rows self.old).failures ≤ (store_rows self.new).failures }
+        ensures settled { OnOk result ((store_rows self.new).failures ≡ (store_rows self.old).failures) }
+        ensures rose { OnErr result (HasRisen (store_rows self.old).failures (store_rows self.new).failures) }
 
         // Whatever the file does: it is full just where the file's last answer was that.
-        ensures room { OnOk result ((rows_of self.new).full ≡ false) }
-        ensures full { OnErr result (TellsFull F.wrote (rows_of self.old) (rows_of self.new)) }
+        ensures room { OnOk result ((store_rows self.new).full ≡ false) }
+        ensures full { OnErr result (TellsFull F.wrote (store_rows self.old) (store_rows self.new)) }
     {
         match self {
             MaybeCoded::Plain(store) => store.clear(block),
@@ -143,14 +143,14 @@ impl<F: ByteFile + Drop> Store for MaybeCoded<F> {
         ensures syncs { honest_of F.held F.honest F.tells self.old ≡ true → Syncs (held_of F.held self.old) (is_ok result) (held_of F.held self.new) }
         ensures geometry { (held_of F.held self.new).geometry ≡ (held_of F.held self.old).geometry }
         ensures honest { honest_of F.held F.honest F.tells self.new ≡ honest_of F.held F.honest F.tells self.old }
-        ensures failed { (rows_of self.old).failures ≤ (rows_of self.new).failures }
-        ensures settled { OnOk result ((rows_of self.new).failures ≡ (rows_of self.old).failures) }
-        ensures rose { OnErr result (HasRisen (rows_of self.old).failures (rows_of self.new).failures) }
-        ensures unfilled { (rows_of self.new).full ≡ false }
+        ensures failed { (store_rows self.old).failures ≤ (store_rows self.new).failures }
+        ensures settled { OnOk result ((store_rows self.new).failures ≡ (store_rows self.old).failures) }
+        ensures rose { OnErr result (HasRisen (store_rows self.old).failures (store_rows self.new).failures) }
+        ensures unfilled { (store_rows self.new).full ≡ false }
 
         // Whatever the file does: after one that failed none is asked for.
-        ensures once { (rows_of self.old).sync_failed ≡ true → (is_ok result ≡ false) × ((rows_of self.new).file ≡ (rows_of self.old).file) }
-        ensures refused { OnErr result (FailsSync F.refused (rows_of self.old) (rows_of self.new)) }
+        ensures once { (store_rows self.old).sync_failed ≡ true → (is_ok result ≡ false) × ((store_rows self.new).file ≡ (store_rows self.old).file) }
+        ensures refused { OnErr result (FailsSync F.refused (store_rows self.old) (store_rows self.new)) }
     {
         match self {
             MaybeCoded::Plain(store) => store.sync(),
@@ -195,9 +195,9 @@ impl<F: ByteFile> TellsFull for CodedStore<F> {
 }
 
 impl<F: ByteFile + Drop> TellsFull for MaybeCoded<F> {
-    ghost use Rattle.coded_store.specs.Either.{rows_of};
+    ghost use Rattle.coded_store.specs.Either.{store_rows};
 
-    ghost full = { λ s. (rows_of s).full };
+    ghost full = { λ s. (store_rows s).full };
 
     fn is_full(&self) -> bool {
         match self {

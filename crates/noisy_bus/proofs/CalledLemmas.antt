@@ -3,7 +3,7 @@ use Rattle.std.proofs.Common.{◌≡◌, ◌==◌, ◌||◌, ℕ, ◌/◌, Bool,
 use Rattle.page_layout.specs.Flash.{Flash}
 use Rattle.onfi_cycles.specs.declared.nand.BusFault.TheVariants.{OutOfTurn, ColumnRange, UnknownCommand, Device}
 use Rattle.noisy_bus.specs.declared.stage.Stage.TheVariants as stage
-use Rattle.noisy_bus.specs.Bus.{BusState, moved, is_beginning, is_known, RefusesCycle, HasReadPage, HasDoneProgram, HasDoneErase, TakesCommand}
+use Rattle.noisy_bus.specs.Bus.{BusState, moved, is_beginning, is_chip_command, RefusesCycle, HasReadPage, HasDoneProgram, HasDoneErase, TakesCommand}
 
 -- no code that begins is one of the others
 not_both : (code other : ℕ) {A : Type 0} → is_beginning code ≡ true → code ≡ other → is_beginning other ≡ false → A
@@ -26,7 +26,7 @@ takes_begins flash honest code old new is e = record {
 
 pub takes_shows : {N : Type 0} (flash : N → Flash) (honest : N → Bool) (code : ℕ) (old new : BusState N) → code ≡ 0x70 → new ≡ moved stage.Putting (old.status ∷ []) old → TakesCommand flash honest code old new
 takes_shows flash honest code old new is e = record {
-  known = ap is_known is;
+  known = ap is_chip_command is;
   begins = λ b. not_both code 0x70 b is refl;
   shows = λ c. e;
   resets = λ c. absurd (omega (arith, is, c));
@@ -37,7 +37,7 @@ takes_shows flash honest code old new is e = record {
 
 pub takes_resets : {N : Type 0} (flash : N → Flash) (honest : N → Bool) (code : ℕ) (old new : BusState N) → code ≡ 0xFF → new ≡ moved stage.Idle [] old → TakesCommand flash honest code old new
 takes_resets flash honest code old new is e = record {
-  known = ap is_known is;
+  known = ap is_chip_command is;
   begins = λ b. not_both code 0xFF b is refl;
   shows = λ c. absurd (omega (arith, is, c));
   resets = λ c. e;
@@ -48,7 +48,7 @@ takes_resets flash honest code old new is e = record {
 
 pub takes_reads : {N : Type 0} (flash : N → Flash) (honest : N → Bool) (code : ℕ) (old new : BusState N) → code ≡ 0x30 → (row : ℕ) × (old.stage ≡ stage.Address 0x00 5 row) × HasReadPage flash honest row old new → TakesCommand flash honest code old new
 takes_reads flash honest code old new is e = record {
-  known = ap is_known is;
+  known = ap is_chip_command is;
   begins = λ b. not_both code 0x30 b is refl;
   shows = λ c. absurd (omega (arith, is, c));
   resets = λ c. absurd (omega (arith, is, c));
@@ -59,7 +59,7 @@ takes_reads flash honest code old new is e = record {
 
 pub takes_programs : {N : Type 0} (flash : N → Flash) (honest : N → Bool) (code : ℕ) (old new : BusState N) → code ≡ 0x10 → (row : ℕ) × (old.stage ≡ stage.Loading row) × HasDoneProgram flash honest row old new → TakesCommand flash honest code old new
 takes_programs flash honest code old new is e = record {
-  known = ap is_known is;
+  known = ap is_chip_command is;
   begins = λ b. not_both code 0x10 b is refl;
   shows = λ c. absurd (omega (arith, is, c));
   resets = λ c. absurd (omega (arith, is, c));
@@ -70,7 +70,7 @@ takes_programs flash honest code old new is e = record {
 
 pub takes_erases : {N : Type 0} (flash : N → Flash) (honest : N → Bool) (code : ℕ) (old new : BusState N) → code ≡ 0xD0 → (row : ℕ) × (old.stage ≡ stage.Address 0x60 3 row) × HasDoneErase flash honest (row / old.geometry.pages) old new → TakesCommand flash honest code old new
 takes_erases flash honest code old new is e = record {
-  known = ap is_known is;
+  known = ap is_chip_command is;
   begins = λ b. not_both code 0xD0 b is refl;
   shows = λ c. absurd (omega (arith, is, c));
   resets = λ c. absurd (omega (arith, is, c));

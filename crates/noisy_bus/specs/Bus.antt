@@ -87,12 +87,12 @@ abbrev pub is_beginning : ℕ → Bool
 is_beginning code = (code == 0x00) || ((code == 0x60) || (code == 0x80))
 
 -- the codes of all commands
-abbrev pub is_known : ℕ → Bool
-is_known code = is_beginning code || ((code == 0x70) || ((code == 0xFF) || ((code == 0x30) || ((code == 0x10) || (code == 0xD0)))))
+abbrev pub is_chip_command : ℕ → Bool
+is_chip_command code = is_beginning code || ((code == 0x70) || ((code == 0xFF) || ((code == 0x30) || ((code == 0x10) || (code == 0xD0)))))
 
 -- A command that was taken, by its code. A command that begins is taken at any time; one that confirms follows its whole address.
 pub record TakesCommand {N : Type 0} (flash : N → Flash) (honest : N → Bool) (code : ℕ) (old new : BusState N) : Type 0 where
-  pub known : is_known code ≡ true
+  pub known : is_chip_command code ≡ true
   pub begins : is_beginning code ≡ true → new ≡ moved (stage.Address code 0 0) [] old
   pub shows : code ≡ 0x70 → new ≡ moved stage.Putting (old.status ∷ []) old
   pub resets : code ≡ 0xFF → new ≡ moved stage.Idle [] old
