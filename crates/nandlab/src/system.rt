@@ -12,7 +12,7 @@ use part_files::{
 };
 use std::alloc::Global;
 use std::fmt::Display;
-use std::fs::{self, File, Metadata};
+use std::fs::{self, File, Metadata, TryLockError};
 use std::io::{self, BufReader, BufWriter, Error, ErrorKind, Read, Seek, SeekFrom, Write};
 use std::os::unix::fs::{FileExt, MetadataExt};
 use std::path::PathBuf;
@@ -83,10 +83,13 @@ impl<'a, R: Files<File = File> + AllocGlobal, E: Write> LabSystem<'a, R, E> {
     }
 
     // A file that is read. As long as the program runs it is held with whoever else reads it, where the file system has locks; of many files the
-    // first ones alone, so that `verify` of a long report does not come to the system's limit of open files.
+    // first ones alone, so that `verify` of a long report does not come to the system's limit of open files. One that another program holds to write, a disk that is served, is not read: its pages
+    // would be of several moments.
     fn open_held(&mut self, path: &str) -> Result<File, LabFileFault> {
         let file = settled(&self.system, fs::open(self.system.rt, path))?;
-        let _ = file.try_lock_shared();
+        if let Err(TryLockError::WouldBlock) = file.try_lock_shared() {
+            return settled(&self.system, Err(Error::from(ErrorKind::WouldBlock)));
+        }
         if self.held.len() >= MOST_HELD {
             return Ok(file);
         }
