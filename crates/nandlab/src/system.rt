@@ -102,6 +102,13 @@ impl<'a, R: Files<File = File> + AllocGlobal, E: Write> LabSystem<'a, R, E> {
         }
     }
 
+    // Holds a file that was made and has its name with whoever reads it, as long as the program runs: so it is not taken for a part that an earlier run has left, and
+    // removed, whatever its name is.
+    fn hold_made(&mut self, file: File) {
+        let _ = file.try_lock_shared();
+        let _ = self.held.push(file);
+    }
+
     // Whether progress is shown.
     fn shows(&self, progress: Progress) -> bool {
         match progress {
@@ -483,7 +490,13 @@ impl<'a, R: Files<File = File> + AllocGlobal, E: Write + Drop> LabFiles for LabS
     }
 
     fn keep(&mut self, path: &str, target: PieceFile<'a, R>, over: bool) -> Result<(), KeepFault> {
-        put_in_place(&self.system, &target.file, target.name.as_str(), path, over)
+        match put_in_place(&self.system, &target.file, target.name.as_str(), path, over) {
+            Ok(()) => {
+                self.hold_made(target.file);
+                Ok(())
+            }
+            Err(fault) => Err(fault),
+        }
     }
 
     fn store<M: MapText>(&mut self, path: &str, map: &M, over: bool) -> Result<(), KeepFault> {
@@ -491,12 +504,16 @@ impl<'a, R: Files<File = File> + AllocGlobal, E: Write + Drop> LabFiles for LabS
             Ok(made) => made,
             Err(fault) => return Err(KeepFault::Fails(fault)),
         };
-        match print_map(&self.system, &file, map) {
-            Ok(()) => put_in_place(&self.system, &file, name.as_str(), path, over),
-            Err(fault) => {
-                discard(&mut self.system.names(), name.as_str());
-                Err(KeepFault::Fails(fault))
+        if let Err(fault) = print_map(&self.system, &file, map) {
+            discard(&mut self.system.names(), name.as_str());
+            return Err(KeepFault::Fails(fault));
+        }
+        match put_in_place(&self.system, &file, name.as_str(), path, over) {
+            Ok(()) => {
+                self.hold_made(file);
+                Ok(())
             }
+            Err(fault) => Err(fault),
         }
     }
 
