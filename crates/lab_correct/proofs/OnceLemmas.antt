@@ -7,7 +7,7 @@ use Rattle.page_layout.specs.Page.{Image}
 use Rattle.page_code.specs.Corrected.{lost_chunks}
 use Rattle.lab_correct.specs.declared.correcting.Loss.{Loss}
 use Rattle.lab_correct.specs.Correcting.{losses_from}
-use Rattle.lab_correct.specs.Map.{AreRising, IsBetween, IsLostAs, OneLineLaw, next_row, row_at}
+use Rattle.lab_correct.specs.Map.{AreRising, IsBetweenLosses, IsLostAs, OneLineLaw, next_row, row_at}
 
 -- the row behind the first losses, of which there are so many, where this one comes first
 next_from : ℕ → List Loss → ℕ → ℕ
@@ -70,7 +70,7 @@ named g row (p ∷ ps) =
 
 -- ---- the law
 
-found_below : (losses : List Loss) (rows row : ℕ) → row < rows → (k : ℕ) → k ≤ length losses → row < next_from 0 losses k → ((i : ℕ) × IsBetween losses rows i row) ⊎ ((i : ℕ) × IsLostAs losses i row)
+found_below : (losses : List Loss) (rows row : ℕ) → row < rows → (k : ℕ) → k ≤ length losses → row < next_from 0 losses k → ((i : ℕ) × IsBetweenLosses losses rows i row) ⊎ ((i : ℕ) × IsLostAs losses i row)
 unfolding next_from
 found_below losses rows row end zero most l = absurd (omega arith)
 found_below losses rows row end (suc k) most l = elim (cases_lt row (next_from 0 losses k)) [
@@ -81,20 +81,20 @@ found_below losses rows row end (suc k) most l = elim (cases_lt row (next_from 0
   ]
 ]
 
-some_line : (losses : List Loss) (rows row : ℕ) → AreRising 0 losses rows → row < rows → ((i : ℕ) × IsBetween losses rows i row) ⊎ ((i : ℕ) × IsLostAs losses i row)
+some_line : (losses : List Loss) (rows row : ℕ) → AreRising 0 losses rows → row < rows → ((i : ℕ) × IsBetweenLosses losses rows i row) ⊎ ((i : ℕ) × IsLostAs losses i row)
 some_line losses rows row h end = elim (cases_lt row (next_from 0 losses (length losses))) [
   | inl less ↦ found_below losses rows row end (length losses) (omega arith) less
   | inr le ↦ inl (length losses, record { part = omega arith; first = subst (λ n. n ≤ row) (sym (next_is losses (length losses))) le; before = λ l. absurd (omega arith); end = end })
 ]
 
-not_before : (losses : List Loss) (rows row i j : ℕ) → AreRising 0 losses rows → IsBetween losses rows i row → IsBetween losses rows j row → i < j → ⊥
+not_before : (losses : List Loss) (rows row i j : ℕ) → AreRising 0 losses rows → IsBetweenLosses losses rows i row → IsBetweenLosses losses rows j row → i < j → ⊥
 not_before losses rows row i j h a b l =
     let below = lower losses rows h i j l b.part in
     let first = subst (λ n. n ≤ row) (next_is losses j) b.first in
     let within = a.before (let most = b.part in omega arith) in
     omega arith
 
-between_once : (losses : List Loss) (rows row i j : ℕ) → AreRising 0 losses rows → IsBetween losses rows i row → IsBetween losses rows j row → i ≡ j
+between_once : (losses : List Loss) (rows row i j : ℕ) → AreRising 0 losses rows → IsBetweenLosses losses rows i row → IsBetweenLosses losses rows j row → i ≡ j
 between_once losses rows row i j h a b = elim (cases_lt i j) [
   | inl l ↦ absurd (not_before losses rows row i j h a b l)
   | inr le ↦ elim (cases_lt j i) [
@@ -120,7 +120,7 @@ lost_once losses rows row i j h a b = elim (cases_lt i j) [
   ]
 ]
 
-apart : (losses : List Loss) (rows row i j : ℕ) → AreRising 0 losses rows → IsBetween losses rows i row → ¬ IsLostAs losses j row
+apart : (losses : List Loss) (rows row i j : ℕ) → AreRising 0 losses rows → IsBetweenLosses losses rows i row → ¬ IsLostAs losses j row
 apart losses rows row i j h a b = elim (cases_lt j i) [
   | inl l ↦
       let below = lower losses rows h j i l a.part in

@@ -58,7 +58,7 @@ AreRising from [] rows = from ≤ rows
 AreRising from (loss ∷ losses) rows = (from ≤ loss.row) × AreRising (loss.row + 1) losses rows
 
 -- the row is one of those before loss i, behind the loss before that: of the last line, behind all losses
-pub record IsBetween (losses : List Loss) (rows i row : ℕ) : Type 0 where
+pub record IsBetweenLosses (losses : List Loss) (rows i row : ℕ) : Type 0 where
   pub part : i ≤ length losses
   pub first : next_row losses i ≤ row
   pub before : i < length losses → row < row_at losses i
@@ -72,7 +72,7 @@ pub record IsLostAs (losses : List Loss) (i row : ℕ) : Type 0 where
 -- EACH ROW OF THE DUMP HAS ONE LINE OF THE MAP, AND ONE ALONE: that of the rows before a loss, or that of its loss. What `correct_dump` names is by rising row.
 pub record OneLineLaw : Type 0 where
   pub named : (g : Geometry) (image : Image) → AreRising 0 (losses_from g 0 image) (length image)
-  pub some : (losses : List Loss) (rows row : ℕ) → AreRising 0 losses rows → row < rows → ((i : ℕ) × IsBetween losses rows i row) ⊎ ((i : ℕ) × IsLostAs losses i row)
-  pub between : (losses : List Loss) (rows row i j : ℕ) → AreRising 0 losses rows → IsBetween losses rows i row → IsBetween losses rows j row → i ≡ j
+  pub some : (losses : List Loss) (rows row : ℕ) → AreRising 0 losses rows → row < rows → ((i : ℕ) × IsBetweenLosses losses rows i row) ⊎ ((i : ℕ) × IsLostAs losses i row)
+  pub between : (losses : List Loss) (rows row i j : ℕ) → AreRising 0 losses rows → IsBetweenLosses losses rows i row → IsBetweenLosses losses rows j row → i ≡ j
   pub lost : (losses : List Loss) (rows row i j : ℕ) → AreRising 0 losses rows → IsLostAs losses i row → IsLostAs losses j row → i ≡ j
-  pub apart : (losses : List Loss) (rows row i j : ℕ) → AreRising 0 losses rows → IsBetween losses rows i row → ¬ IsLostAs losses j row
+  pub apart : (losses : List Loss) (rows row i j : ℕ) → AreRising 0 losses rows → IsBetweenLosses losses rows i row → ¬ IsLostAs losses j row
